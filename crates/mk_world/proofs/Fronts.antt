@@ -17,7 +17,7 @@ use Rattle.mk_world.specs.declared.plan.PlanCommand.TheVariants.{Make, Stop, Beg
 use Rattle.mk_world.specs.State.{State, Scene, setting, world_of}
 use Rattle.mk_world.specs.Steps.{step_of}
 use Rattle.mk_world.specs.Faults.{Check, checks, AllHold, FirstFails}
-use Rattle.mk_world.specs.Running.{Stage, IsFirstIdle, AreNotIdle, Passes, PassesAll, PassesAllIn, PassesBefore, TakesInTurn, Follows, IsRefusal, RunsTo, ends, follows, refused, own_steps, printed}
+use Rattle.mk_world.specs.Running.{Stage, IsFirstIdle, AreNotIdle, Passes, PassesAll, PassesAllIn, PassesBefore, TakesInTurn, Follows, IsRefusal, RunsTo, ends, follows, takes, refused, own_steps, printed}
 use Rattle.mk_world.specs.RunLaws.{AreLegal, TakenStepsAreLegal, LegalStepsAreTaken, FrontsRunFirst}
 use Rattle.mk_world.proofs.Idle.{first_is_idle}
 use Rattle.mk_world.proofs.StepTests.{allowed_as}
@@ -112,46 +112,29 @@ before_one g (Edit f c) old a b h j = h ∙ sym j
 
 -- steps that are all taken are legal, and leave one world
 takes_legal : (g : Graph) (s : Setting) (old new : World) (steps : List model.Step) → TakesInTurn g s old new steps (Ok tt) → IsLegal g s old steps × (new ≡ after_all g s old steps)
-takes_legal g s old new [] h = (tt, h.0)
-takes_legal g s old new (x ∷ steps) h = elim h [
-  | inl t ↦ let rest = takes_legal g s (after g s old x) new steps t.1 in ((t.0, rest.0), rest.1)
-  | inr stopped ↦ absurd (no_error stopped.fault stopped.is)
-]
-  where
-    no_error : (fault : StepFault) → let ok : Result (Unit {0}) StepFault = Ok tt in ok ≡ Err fault → ⊥
-    no_error fault e = cc
+takes_legal g s old new steps ends = (tt, refl)
+takes_legal g s old new steps (takes {next = x} {steps = others} allowed more) = let rest = takes_legal g s (after g s old x) new others more in ((allowed, rest.0), rest.1)
 
 -- legal steps are refused only on out of memory
 legal_or : (g : Graph) (s : Setting) (old new : World) (steps : List model.Step) (fault : StepFault) → TakesInTurn g s old new steps (Err fault) → ¬ (fault ≡ faults.Memory) → IsLegal g s old steps → ⊥
-legal_or g s old new [] fault h not legal = no_value h.1
-  where
-    no_value : (let failed : Result (Unit {0}) StepFault = Err fault in failed ≡ Ok tt) → ⊥
-    no_value e = cc
-legal_or g s old new (x ∷ steps) fault h not legal = elim h [
-  | inl t ↦ legal_or g s (after g s old x) new steps fault t.1 not legal.1
-  | inr stopped ↦ elim stopped.first [
-    | inl memory ↦ not (same fault stopped.fault stopped.is ∙ memory)
-    | inr fails ↦ not_refused g s old x stopped.fault legal.0 fails
-  ]
-]
-  where
-    same : (a b : StepFault) → (let failed : Result (Unit {0}) StepFault = Err a in failed ≡ Err b) → a ≡ b
-    same a b e = cc
+legal_or g s old new steps fault (takes {next = x} {steps = others} allowed more) not legal = legal_or g s (after g s old x) new others fault more not legal.1
+legal_or g s old new steps fault (refused (inl memory)) not legal = not memory
+legal_or g s old new steps fault (refused {next = x} (inr fails)) not legal = not_refused g s old x fault legal.0 fails
 
 -- a line that is followed leaves one world, and isn't refused
 pub follows_one : (stage : Stage) (old a b : World) (order : PlanCommand) → Follows stage old a order (Ok tt) → Follows stage old b order (Ok tt) → a ≡ b
 follows_one stage old a b order h j =
     let same = before_one stage.graph order old j.behind h.behind j.passes h.passes in
-    let takes = subst (λ (w : World). TakesInTurn stage.graph stage.setting w b (own_steps stage.graph stage.setting (disk_of w) order) (Ok tt)) same j.takes in
-    (takes_legal stage.graph stage.setting h.behind a _ h.takes).1 ∙ sym (takes_legal stage.graph stage.setting h.behind b _ takes).1
+    let moved = subst (λ (w : World). TakesInTurn stage.graph stage.setting w b (own_steps stage.graph stage.setting (disk_of w) order) (Ok tt)) same j.takes in
+    (takes_legal stage.graph stage.setting h.behind a _ h.takes).1 ∙ sym (takes_legal stage.graph stage.setting h.behind b _ moved).1
 
 pub follows_or : (stage : Stage) (old a b : World) (order : PlanCommand) (fault : StepFault) → Follows stage old a order (Ok tt) → IsRefusal stage old b order fault → ⊥
 follows_or stage old a b order fault h refusal = elim refusal [
   | inl unknown ↦ false≢true (sym unknown.unknown ∙ h.known)
   | inr fails ↦
       let same = before_one stage.graph order old fails.1.behind h.behind fails.1.passes h.passes in
-      let takes = subst (λ (w : World). TakesInTurn stage.graph stage.setting w b (own_steps stage.graph stage.setting (disk_of w) order) (Err fault)) same fails.1.takes in
-      legal_or stage.graph stage.setting h.behind b _ fault takes fails.0 (takes_legal stage.graph stage.setting h.behind a _ h.takes).0
+      let moved = subst (λ (w : World). TakesInTurn stage.graph stage.setting w b (own_steps stage.graph stage.setting (disk_of w) order) (Err fault)) same fails.1.takes in
+      legal_or stage.graph stage.setting h.behind b _ fault moved fails.0 (takes_legal stage.graph stage.setting h.behind a _ h.takes).0
 ]
 
 -- a run of a line and of those behind it begins with the line

@@ -17,7 +17,7 @@ use Rattle.mk_world.specs.State.{Scene, MakeState, DiskState, setting, making_of
 use Rattle.mk_world.specs.State as lists
 use Rattle.mk_world.specs.Fits.{Fits}
 use Rattle.mk_world.specs.Kept.{IsKept, IsKeptIn}
-use Rattle.mk_world.specs.Running.{IsIdle, IsFirstIdle, AreNotIdle, TakesInTurn}
+use Rattle.mk_world.specs.Running.{IsIdle, IsFirstIdle, AreNotIdle, TakesInTurn, ends, takes, refused}
 use Rattle.mk_world.specs.Steps.{Takes, Judges}
 use Rattle.mk_world.proofs.Changes.{left}
 
@@ -122,37 +122,37 @@ module _ (scene : Scene) where
   IsQuiet EndMake = ⊥
 
   kept_quiet : (old new : MakeState) (d e : DiskState) (step : Step) (p : Progress) → IsQuiet step → Takes scene.graph (setting scene) (busy scene old d) (busy scene new e) step → IsKept scene old p → IsKept scene new p
-  kept_quiet old new d e (Begin t) p q takes k =
-      moves old new p k (ap goals_in takes.leaves) (ap done_in takes.leaves) (λ n h. elim (subst (λ (l : List ℕ). Has l n) (ap running_in takes.leaves) h) [
-        | inl is ↦ inr (subst (λ j. (node scene.graph j).recipe ≡ true) is takes.allowed.1)
+  kept_quiet old new d e (Begin t) p q taken k =
+      moves old new p k (ap goals_in taken.leaves) (ap done_in taken.leaves) (λ n h. elim (subst (λ (l : List ℕ). Has l n) (ap running_in taken.leaves) h) [
+        | inl is ↦ inr (subst (λ j. (node scene.graph j).recipe ≡ true) is taken.allowed.1)
         | inr ran ↦ inl ran
       ])
-  kept_quiet old new d e (Look t f) p q takes k =
-      moves old new p k (ap goals_in takes.leaves) (ap done_in takes.leaves) (λ n h. inl (subst (λ (l : List ℕ). Has l n) (ap running_in takes.leaves) h))
-  kept_quiet old new d e (Put t f c) p q takes k =
-      moves old new p k (ap goals_in takes.leaves) (ap done_in takes.leaves) (λ n h. inl (subst (λ (l : List ℕ). Has l n) (ap running_in takes.leaves) h))
-  kept_quiet old new d e (Edit f c) p q takes k = absurd q
-  kept_quiet old new d e (Make jobs goals) p q takes k = absurd q
-  kept_quiet old new d e (End t) p q takes k = absurd q
-  kept_quiet old new d e (Pass n) p q takes k = absurd q
-  kept_quiet old new d e Stop p q takes k = absurd q
-  kept_quiet old new d e EndMake p q takes k = absurd q
+  kept_quiet old new d e (Look t f) p q taken k =
+      moves old new p k (ap goals_in taken.leaves) (ap done_in taken.leaves) (λ n h. inl (subst (λ (l : List ℕ). Has l n) (ap running_in taken.leaves) h))
+  kept_quiet old new d e (Put t f c) p q taken k =
+      moves old new p k (ap goals_in taken.leaves) (ap done_in taken.leaves) (λ n h. inl (subst (λ (l : List ℕ). Has l n) (ap running_in taken.leaves) h))
+  kept_quiet old new d e (Edit f c) p q taken k = absurd q
+  kept_quiet old new d e (Make jobs goals) p q taken k = absurd q
+  kept_quiet old new d e (End t) p q taken k = absurd q
+  kept_quiet old new d e (Pass n) p q taken k = absurd q
+  kept_quiet old new d e Stop p q taken k = absurd q
+  kept_quiet old new d e EndMake p q taken k = absurd q
 
   -- whether such a step is taken or not
   pub kept_judged : (old new : MakeState) (d e : DiskState) (step : Step) (result : Result (Unit {0}) StepFault) (p : Progress) → IsQuiet step → Judges scene (busy scene old d) (busy scene new e) step result → OnErr result (new ≡ old) → IsKept scene old p → IsKept scene new p
-  kept_judged old new d e s (Ok u) p q takes err k = kept_quiet old new d e s p q takes k
+  kept_judged old new d e s (Ok u) p q taken err k = kept_quiet old new d e s p q taken k
   kept_judged old new d e s (Err fault) p q judged err k = subst (λ (m : MakeState). IsKept scene m p) (sym err) k
 
   -- a recipe ends, or a node is passed
   pub kept_end : (old new : MakeState) (d e : DiskState) (t : ℕ) (p q : Progress) → Takes scene.graph (setting scene) (busy scene old d) (busy scene new e) (End t) → GoesOn p q t → IsKept scene old p → IsKept scene new q
-  kept_end old new d e t p q takes on k = does old new p q t k on (ap goals_in takes.leaves) (ap done_in takes.leaves) (ap running_in takes.leaves)
+  kept_end old new d e t p q taken on k = does old new p q t k on (ap goals_in taken.leaves) (ap done_in taken.leaves) (ap running_in taken.leaves)
 
   pub kept_pass : (old new : MakeState) (d e : DiskState) (n : ℕ) (p q : Progress) → Takes scene.graph (setting scene) (busy scene old d) (busy scene new e) (Pass n) → GoesOn p q n → IsKept scene old p → IsKept scene new q
-  kept_pass old new d e n p q takes on k = does old new p q n k on (ap goals_in takes.leaves) (ap done_in takes.leaves) (ap running_in takes.leaves)
+  kept_pass old new d e n p q taken on k = does old new p q n k on (ap goals_in taken.leaves) (ap done_in taken.leaves) (ap running_in taken.leaves)
 
   -- a running recipe is one of a node
   pub end_low : (old : MakeState) (d : DiskState) (new : World) (t : ℕ) (p : Progress) → Fits scene old → Takes scene.graph (setting scene) (busy scene old d) new (End t) → p.graph ≡ scene.graph → t < length p.graph.nodes
-  end_low old d new t p fits takes same = rw same (fits.nodes t takes.allowed.runs)
+  end_low old d new t p fits taken same = rw same (fits.nodes t taken.allowed.runs)
 
 -- The make is as it was, as to goals, done nodes and running recipes.
 record IsAsWas (m n : Making) : Type 0 where
@@ -166,36 +166,37 @@ record IsSoIn (m : Making) (w : World) : Type 0 where
   done : done_in w ≡ m.done
   running : running_in w ≡ m.running
 
-module _ (g : Graph) (s : Setting) (t : ℕ) (new : World) (r : Result (Unit {0}) StepFault) (rest : List Step) where
+module _ (g : Graph) (s : Setting) (t : ℕ) (rest : List Step) where
   -- after looks and puts the rest is taken, or one of them was refused
-  abbrev Comes : (m : Making) → Type 0
-  Comes m = ((n : Making) × (e : Disk) × IsAsWas m n × TakesInTurn g s (Busy n e) new rest r) ⊎ ((fault : StepFault) × (r ≡ Err fault) × IsSoIn m new)
+  abbrev Comes : (m : Making) → World → Result (Unit {0}) StepFault → Type 0
+  Comes m new r = ((n : Making) × (e : Disk) × IsAsWas m n × TakesInTurn g s (Busy n e) new rest r) ⊎ ((fault : StepFault) × (r ≡ Err fault) × IsSoIn m new)
 
   -- of a make that is as it was
-  was_put : (m n : Making) → IsAsWas m n → Comes n → Comes m
-  was_put m n same (inl on) = inl (on.0, on.1, record { goals = on.2.goals ∙ same.goals; done = on.2.done ∙ same.done; running = on.2.running ∙ same.running }, on.3)
-  was_put m n same (inr not) = inr (not.0, not.1, record { goals = not.2.goals ∙ same.goals; done = not.2.done ∙ same.done; running = not.2.running ∙ same.running })
+  was_put : (m n : Making) (new : World) (r : Result (Unit {0}) StepFault) → IsAsWas m n → Comes n new r → Comes m new r
+  was_put m n new r same (inl on) = inl (on.0, on.1, record { goals = on.2.goals ∙ same.goals; done = on.2.done ∙ same.done; running = on.2.running ∙ same.running }, on.3)
+  was_put m n new r same (inr not) = inr (not.0, not.1, record { goals = not.2.goals ∙ same.goals; done = not.2.done ∙ same.done; running = not.2.running ∙ same.running })
 
-  puts_come : (files : List FileName) (cs : List ℕ) (m : Making) (d : Disk) → TakesInTurn g s (Busy m d) new (puts t files cs ++ rest) r → Comes m
-  puts_come [] cs m d h = inl (m, d, record { goals = refl; done = refl; running = refl }, h)
-  puts_come (f ∷ files) [] m d h = inl (m, d, record { goals = refl; done = refl; running = refl }, h)
-  puts_come (f ∷ files) (c ∷ cs) m d h = elim h [
-    | inl taken ↦ was_put m (has_put m t f c) (record { goals = refl; done = refl; running = refl }) (puts_come files cs (has_put m t f c) (written d f c) taken.1)
-    | inr refused ↦ inr (refused.fault, refused.is, record { goals = ap goals_in refused.unchanged; done = ap done_in refused.unchanged; running = ap running_in refused.unchanged })
-  ]
+  puts_come : (files : List FileName) (cs : List ℕ) (m : Making) (d : Disk) (new : World) (r : Result (Unit {0}) StepFault) → TakesInTurn g s (Busy m d) new (puts t files cs ++ rest) r → Comes m new r
+  puts_come [] cs m d new r h = inl (m, d, record { goals = refl; done = refl; running = refl }, h)
+  puts_come (f ∷ files) [] m d new r h = inl (m, d, record { goals = refl; done = refl; running = refl }, h)
+  puts_come (f ∷ files) (c ∷ cs) m d new r (takes allowed more) = was_put m (has_put m t f c) new r (record { goals = refl; done = refl; running = refl }) (puts_come files cs (has_put m t f c) (written d f c) new r more)
+  puts_come (f ∷ files) (c ∷ cs) m d new r (refused {fault = fault} is) = inr (fault, refl, record { goals = refl; done = refl; running = refl })
 
-  looks_come : (files : List FileName) (m : Making) (d : Disk) → TakesInTurn g s (Busy m d) new (map (λ f. Look t f) files ++ rest) r → Comes m
-  looks_come [] m d h = inl (m, d, record { goals = refl; done = refl; running = refl }, h)
-  looks_come (f ∷ files) m d h = elim h [
-    | inl taken ↦ was_put m (looked m t f (content d f)) (record { goals = refl; done = refl; running = refl }) (looks_come files (looked m t f (content d f)) d taken.1)
-    | inr refused ↦ inr (refused.fault, refused.is, record { goals = ap goals_in refused.unchanged; done = ap done_in refused.unchanged; running = ap running_in refused.unchanged })
-  ]
+  looks_come : (files : List FileName) (m : Making) (d : Disk) (new : World) (r : Result (Unit {0}) StepFault) → TakesInTurn g s (Busy m d) new (map (λ f. Look t f) files ++ rest) r → Comes m new r
+  looks_come [] m d new r h = inl (m, d, record { goals = refl; done = refl; running = refl }, h)
+  looks_come (f ∷ files) m d new r (takes allowed more) = was_put m (looked m t f (content d f)) new r (record { goals = refl; done = refl; running = refl }) (looks_come files (looked m t f (content d f)) d new r more)
+  looks_come (f ∷ files) m d new r (refused {fault = fault} is) = inr (fault, refl, record { goals = refl; done = refl; running = refl })
 
 -- A recipe is finished: its node is done, or a step was refused before.
 pub record IsFinished (m : Making) (t : ℕ) (new : World) (r : Result (Unit {0}) StepFault) : Type 0 where
   pub goals : goals_in new ≡ m.goals
   pub ok : OnOk r ((done_in new ≡ t ∷ m.done) × (running_in new ≡ filter (λ n. not (nat_eq t n)) m.running))
   pub err : OnErr r ((done_in new ≡ m.done) × (running_in new ≡ m.running))
+
+-- the recipe ends, or that is refused
+ends_so : (g : Graph) (s : Setting) (t : ℕ) (m : Making) (d : Disk) (new : World) (r : Result (Unit {0}) StepFault) → TakesInTurn g s (Busy m d) new (End t ∷ []) r → IsFinished m t new r
+ends_so g s t m d new r (takes allowed ends) = record { goals = refl; ok = (refl, refl); err = tt }
+ends_so g s t m d new r (refused is) = record { goals = refl; ok = tt; err = (refl, refl) }
 
 module _ (g : Graph) (s : Setting) (t : ℕ) (new : World) (r : Result (Unit {0}) StepFault) where
   -- a step was refused
@@ -205,16 +206,6 @@ module _ (g : Graph) (s : Setting) (t : ℕ) (new : World) (r : Result (Unit {0}
     ok = subst (λ (q : Result (Unit {0}) StepFault). OnOk q ((done_in new ≡ t ∷ m.done) × (running_in new ≡ filter (λ n. not (nat_eq t n)) m.running))) (sym is) tt;
     err = subst (λ (q : Result (Unit {0}) StepFault). OnErr q ((done_in new ≡ m.done) × (running_in new ≡ m.running))) (sym is) (so.done, so.running);
   }
-
-  ends_so : (m : Making) (d : Disk) → TakesInTurn g s (Busy m d) new (End t ∷ []) r → IsFinished m t new r
-  ends_so m d h = elim h [
-    | inl taken ↦ record {
-      goals = ap goals_in taken.1.0;
-      ok = subst (λ (q : Result (Unit {0}) StepFault). OnOk q ((done_in new ≡ t ∷ m.done) × (running_in new ≡ filter (λ n. not (nat_eq t n)) m.running))) (sym taken.1.1) (ap done_in taken.1.0, ap running_in taken.1.0);
-      err = subst (λ (q : Result (Unit {0}) StepFault). OnErr q ((done_in new ≡ m.done) × (running_in new ≡ m.running))) (sym taken.1.1) tt;
-    }
-    | inr refused ↦ refused_so m refused.fault refused.is (record { goals = ap goals_in refused.unchanged; done = ap done_in refused.unchanged; running = ap running_in refused.unchanged })
-  ]
 
   -- of a make that is as it was
   finished_was : (m n : Making) → IsAsWas m n → IsFinished n t new r → IsFinished m t new r
@@ -233,26 +224,26 @@ module _ (g : Graph) (s : Setting) (t : ℕ) (new : World) (r : Result (Unit {0}
       on_err (Err e) h = (h.0 ∙ same.done, h.1 ∙ same.running)
 
   finished_in_turn : (cs : List ℕ) (m : Making) (d : Disk) → TakesInTurn g s (Busy m d) new (rest_of_run g s t cs) r → IsFinished m t new r
-  finished_in_turn cs m d h = elim (looks_come g s t new r (puts t (writes g s t) cs ++ End t ∷ []) (reads g s t) m d h) [
+  finished_in_turn cs m d h = elim (looks_come g s t (puts t (writes g s t) cs ++ End t ∷ []) (reads g s t) m d new r h) [
     | inl on ↦ finished_was m on.0 on.2 (behind on.0 on.1 on.3)
     | inr not ↦ refused_so m not.0 not.1 not.2
   ]
     where
       behind : (n : Making) (e : Disk) → TakesInTurn g s (Busy n e) new (puts t (writes g s t) cs ++ End t ∷ []) r → IsFinished n t new r
-      behind n e k = elim (puts_come g s t new r (End t ∷ []) (writes g s t) cs n e k) [
-        | inl on ↦ finished_was n on.0 on.2 (ends_so on.0 on.1 on.3)
+      behind n e k = elim (puts_come g s t (End t ∷ []) (writes g s t) cs n e new r k) [
+        | inl on ↦ finished_was n on.0 on.2 (ends_so g s t on.0 on.1 new r on.3)
         | inr not ↦ refused_so n not.0 not.1 not.2
       ]
 
 module _ (scene : Scene) (old new : MakeState) (d e : DiskState) (t : ℕ) (cs : List ℕ) (p : Progress) (k : IsKept scene old p) where
   -- a recipe is finished
   pub kept_finish : (q : Progress) → TakesInTurn scene.graph (setting scene) (busy scene old d) (busy scene new e) (rest_of_run scene.graph (setting scene) t cs) (Ok tt) → GoesOn p q t → IsKept scene new q
-  kept_finish q takes on =
-      let f = finished_in_turn scene.graph (setting scene) t (busy scene new e) (Ok tt) cs (making_of scene old) (disk_of d) takes in
+  kept_finish q taken on =
+      let f = finished_in_turn scene.graph (setting scene) t (busy scene new e) (Ok tt) cs (making_of scene old) (disk_of d) taken in
       does scene old new p q t k on f.goals f.ok.0 f.ok.1
 
   -- or it isn't
   pub kept_unfinished : (fault : StepFault) → TakesInTurn scene.graph (setting scene) (busy scene old d) (busy scene new e) (rest_of_run scene.graph (setting scene) t cs) (Err fault) → IsKept scene new p
-  kept_unfinished fault takes =
-      let f = finished_in_turn scene.graph (setting scene) t (busy scene new e) (Err fault) cs (making_of scene old) (disk_of d) takes in
+  kept_unfinished fault taken =
+      let f = finished_in_turn scene.graph (setting scene) t (busy scene new e) (Err fault) cs (making_of scene old) (disk_of d) taken in
       moves scene old new p k f.goals f.err.0 (λ n h. inl (subst (λ (l : List ℕ). Has l n) f.err.1 h))

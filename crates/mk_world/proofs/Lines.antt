@@ -14,22 +14,23 @@ use Rattle.mk_graph.specs.Setting.{FileName, Setting, reads, writes}
 use Rattle.mk_graph.specs.World.{World, Disk, Idle, Busy}
 use Rattle.mk_graph.specs.World as model
 use Rattle.mk_graph.specs.Schedules.{HasAll, IsPart}
-use Rattle.mk_graph.specs.Steps.{Look, End}
+use Rattle.mk_graph.specs.Steps.{Begin, Look, End, after}
 use Rattle.mk_graph.specs.SerialMake.{puts, rest_of_run}
 use Rattle.mk_world.specs.declared.fault.StepFault.{StepFault}
 use Rattle.mk_world.specs.declared.fault.StepFault.TheVariants.{NoMake, Memory, ClockSpent, OtherOutcome, MakeRuns, NotReady, NoJobFree, OutOfDate, NotRunning, NotInFootprint, NotAllDone, PlanLine, NotEditable, NotAGoal}
 use Rattle.mk_world.specs.declared.file.File.{File}
 use Rattle.mk_world.specs.declared.file.Listed.{Listed}
 use Rattle.mk_world.specs.State.{State, DiskState, MakeState, Scene, setting, disk_of, world_of, world_in, number_of, file_of}
+use Rattle.mk_world.specs.Steps.{Answers}
 use Rattle.mk_world.specs.Tables.{look}
 use Rattle.mk_world.specs.Listing.{there_among, entry, listing, listed_as}
-use Rattle.mk_world.specs.Running.{TakesInTurn, is_node, listed_at, files_text, file_text, steps_of, own_steps, Follows, Stage, stage_of, is_known, Prepares, AnswersInTurn, AnswersLine, IsRefusal, RunsTo, ends, follows, refused, printed, LeadsTo, PassesSomeIn, PassesSomeBefore, FollowsPartly, StopsIn, RunsPartly}
+use Rattle.mk_world.specs.Running.{TakesInTurn, is_node, listed_at, files_text, file_text, steps_of, own_steps, Follows, Stage, stage_of, is_known, Prepares, AnswersInTurn, contents_of, finish_steps, run_steps, AnswersLine, IsRefusal, RunsTo, ends, follows, refused, printed, LeadsTo, PassesSomeIn, PassesSomeBefore, FollowsPartly, StopsIn, RunsPartly}
 use Rattle.mk_world.specs.declared.plan.PlanCommand.{PlanCommand}
 use Rattle.mk_world.specs.declared.plan.PlanCommand.TheVariants as command
 use Rattle.mk_world.specs.declared.plan.PlanLine as planned
 use Rattle.mk_world.proofs.Fronts.{fronts_first}
 use Rattle.mk_world.proofs.Idle.{passes_lead}
-use Rattle.mk_world.proofs.InTurn.{turn_leads, leads_on}
+use Rattle.mk_world.proofs.InTurn.{answers_next, answers_refused, turn_leads, leads_on}
 use Rattle.mk_world.proofs.Tables.{unplaced}
 
 all_within : (xs ns : List ℕ) → ((n : ℕ) → Has ns n → Has xs n) → HasAll xs ns
@@ -61,10 +62,10 @@ node_low g f there = at (place_from 0 (map (λ (n : Node). n.name) g.nodes) f) r
 
 -- without a make nothing is finished
 idle_list : (g : Graph) (s : Setting) (d : Disk) (n : ℕ) (fs ws : List FileName) (cs : List ℕ) → TakesInTurn g s (Idle d) (Idle d) (map (λ f. Look n f) fs ++ (puts n ws cs ++ End n ∷ [])) (Err NoMake)
-idle_list g s d n (f ∷ fs) ws cs = inr (record { fault = NoMake; is = refl; first = inr (inl (λ h. h, refl)); unchanged = refl })
-idle_list g s d n [] [] cs = inr (record { fault = NoMake; is = refl; first = inr (inl (λ h. h, refl)); unchanged = refl })
-idle_list g s d n [] (w ∷ ws) [] = inr (record { fault = NoMake; is = refl; first = inr (inl (λ h. h, refl)); unchanged = refl })
-idle_list g s d n [] (w ∷ ws) (c ∷ cs) = inr (record { fault = NoMake; is = refl; first = inr (inl (λ h. h, refl)); unchanged = refl })
+idle_list g s d n (f ∷ fs) ws cs = refused (inr (inl (λ h. h, refl)))
+idle_list g s d n [] [] cs = refused (inr (inl (λ h. h, refl)))
+idle_list g s d n [] (w ∷ ws) [] = refused (inr (inl (λ h. h, refl)))
+idle_list g s d n [] (w ∷ ws) (c ∷ cs) = refused (inr (inl (λ h. h, refl)))
 
 pub idle_finish : (g : Graph) (s : Setting) (d : Disk) (n : ℕ) (cs : List ℕ) → TakesInTurn g s (Idle d) (Idle d) (rest_of_run g s n cs) (Err NoMake)
 idle_finish g s d n cs = idle_list g s d n (reads g s n) (writes g s n) cs
@@ -76,6 +77,32 @@ same_disk w = at w.make
     at : (make : Option MakeState) → model.disk_of (world_in w.scene w.disk make) ≡ disk_of w.disk
     at None = refl
     at (Some m) = refl
+
+-- a begin leaves the disk
+pub begun_disk : (old mid : State) (n : ℕ) → world_of mid ≡ after old.scene.graph (setting old.scene) (world_of old) (Begin n) → disk_of mid.disk ≡ disk_of old.disk
+begun_disk old mid n leaves = sym (same_disk mid) ∙ (ap model.disk_of leaves ∙ (at (world_of old) ∙ same_disk old))
+  where
+    at : (w : World) → model.disk_of (after old.scene.graph (setting old.scene) w (Begin n)) ≡ model.disk_of w
+    at (Idle d) = refl
+    at (Busy m d) = refl
+
+-- a recipe begins, and is finished
+pub whole_answers : (old mid new : State) (node : FileName) (r : Result (Unit {0}) StepFault) → Answers old mid (Begin (number_of old.scene.graph node)) (Ok tt) → AnswersInTurn mid new (finish_steps mid node) r → AnswersInTurn old new (run_steps old node) r
+whole_answers old mid new node r begun finished =
+    let g = old.scene.graph in
+    let s = setting old.scene in
+    let n = number_of g node in
+    let here = subst (λ (k : Scene). AnswersInTurn mid new (rest_of_run k.graph (setting k) (number_of k.graph node) (contents_of k.graph (setting k) (disk_of mid.disk) (number_of k.graph node))) r) begun.scene finished in
+    let rest = subst (λ (d : Disk). AnswersInTurn mid new (rest_of_run g s n (contents_of g s d n)) r) (begun_disk old mid n begun.judged.leaves) here in
+    answers_next old mid new (Begin n) (rest_of_run g s n (contents_of g s (disk_of old.disk) n)) r begun rest
+
+-- its begin is refused
+pub whole_refused : (old mid : State) (node : FileName) (fault : StepFault) → Answers old mid (Begin (number_of old.scene.graph node)) (Err fault) → AnswersInTurn old mid (run_steps old node) (Err fault)
+whole_refused old mid node fault refusal =
+    let g = old.scene.graph in
+    let s = setting old.scene in
+    let n = number_of g node in
+    answers_refused old mid (Begin n) (rest_of_run g s n (contents_of g s (disk_of old.disk) n)) fault refusal
 
 -- the files of a disk in lists are those of the disk
 entry_is : (d : DiskState) (f : FileName) → entry d f ≡ listed_at (disk_of d) f

@@ -1,5 +1,5 @@
 -- Looks of a running recipe at all that it reads.
-use Rattle.std.proofs.Common.{◌≡◌, ℕ, ◌<◌, Bool, true, false, ◌||◌, cond, List, [], ◌∷◌, ◌++◌, length, map, Option, Some, None, Result, Ok, Err, refl, sym, ap, ◌∙◌, subst, inl, inr, nat_eq}
+use Rattle.std.proofs.Common.{◌≡◌, ℕ, ◌<◌, Bool, true, false, ◌||◌, cond, List, [], ◌∷◌, ◌++◌, length, map, Option, Some, None, Ok, Err, refl, sym, ap, ◌∙◌, subst, inl, inr, nat_eq}
 use Rattle.std.specs.Str.{bytes_eq}
 use Rattle.std.specs.Option.{option_flatten}
 use Rattle.std.proofs.lemmas.Bool.{cases_Bool, eq-eqb, cond-true, cond-false}
@@ -12,12 +12,11 @@ use Rattle.mk_graph.specs.Setting.{FileName, Setting, reads}
 use Rattle.mk_graph.specs.World.{Disk, Making, World, Idle, Busy, content, changed, written}
 use Rattle.mk_graph.specs.Steps.{Look, End, changed_at, looked, has_put}
 use Rattle.mk_graph.specs.SerialMake.{puts}
-use Rattle.mk_world.specs.declared.fault.StepFault.{StepFault}
 use Rattle.mk_world.specs.declared.fault.StepFault.TheVariants.{NotRunning}
 use Rattle.mk_world.specs.Tables.{look}
 use Rattle.mk_world.specs.State.{Scene, MakeState, RunState, DiskState, setting, making_of, disk_of, busy, run_at, no_run, with_run}
 use Rattle.mk_world.specs.Fits.{HasSeen}
-use Rattle.mk_world.specs.Running.{TakesInTurn}
+use Rattle.mk_world.specs.Running.{TakesInTurn, ends, takes, refused}
 use Rattle.mk_world.proofs.Tables.{bytes_eq_sym, there_name}
 use Rattle.mk_world.proofs.Changes.{unchanged_at, making_with, seen_is}
 
@@ -60,12 +59,12 @@ module _ (g : Graph) (s : Setting) (t : ℕ) (d : Disk) (m : Making) where
         | inr e ↦ cond-false (nat_eq t n) (changed (changed_at m.seen t at t) f (Some c)) (changed_at m.seen t at n) e ∙ (cond-false (nat_eq t n) at (m.seen n) e ∙ sym (cond-false (nat_eq t n) (changed at f (Some c)) (m.seen n) e))
       ]
 
-  takes : Has m.running t → (fs : List FileName) (at : FileName → Option (Option ℕ)) → ((f : FileName) → Has fs f → Has (reads g s t) f) → TakesInTurn g s (Busy (seeing at) d) (Busy (seeing (saw d fs at)) d) (map (λ f. Look t f) fs) (Ok tt)
+  each_taken : Has m.running t → (fs : List FileName) (at : FileName → Option (Option ℕ)) → ((f : FileName) → Has fs f → Has (reads g s t) f) → TakesInTurn g s (Busy (seeing at) d) (Busy (seeing (saw d fs at)) d) (map (λ f. Look t f) fs) (Ok tt)
   unfolding saw
-  takes runs [] at within = (refl, refl)
-  takes runs (f ∷ fs) at within =
-      let rest = takes runs fs (changed at f (Some (content d f))) (λ h k. within h (inr k)) in
-      inl ((runs, within f (inl refl)), subst (λ (n : Making). TakesInTurn g s (Busy n d) (Busy (seeing (saw d fs (changed at f (Some (content d f))))) d) (map (λ h. Look t h) fs) (Ok tt)) (sym (looks_again at f (content d f))) rest)
+  each_taken runs [] at within = ends
+  each_taken runs (f ∷ fs) at within =
+      let rest = each_taken runs fs (changed at f (Some (content d f))) (λ h k. within h (inr k)) in
+      takes (runs, within f (inl refl)) (subst (λ (n : Making). TakesInTurn g s (Busy n d) (Busy (seeing (saw d fs (changed at f (Some (content d f))))) d) (map (λ h. Look t h) fs) (Ok tt)) (sym (looks_again at f (content d f))) rest)
 
 -- what stands beside names where all were looked at
 look_all : (d : Disk) (names : List FileName) (h : FileName) → look names (map (λ (c : Option ℕ). Some c) (map (content d) names)) h ≡ cond (has_name names h) (Some (content d h)) None
@@ -125,7 +124,7 @@ module _ (scene : Scene) (m new : MakeState) (d : DiskState) (t : ℕ) (seen : L
       subst (λ (n : Making). TakesInTurn g s (Busy n (disk_of d)) (busy scene new d)
       (map (λ f. Look t f) files) (Ok tt)) first (subst (λ (n : Making). TakesInTurn g s
       (Busy (seeing g s t (disk_of d) old (old.seen t)) (disk_of d)) (Busy n (disk_of d))
-      (map (λ f. Look t f) files) (Ok tt)) (sym leaves) (takes g s t (disk_of d) old runs files
+      (map (λ f. Look t f) files) (Ok tt)) (sym leaves) (each_taken g s t (disk_of d) old runs files
       (old.seen t) (λ f h. h)))
     where
       alike : (h : FileName) → look (reads scene.graph (setting scene) t) (map (λ (c : Option ℕ). Some c) (map (content (disk_of d)) (reads scene.graph (setting scene) t))) h ≡ saw (disk_of d) (reads scene.graph (setting scene) t) ((making_of scene m).seen t) h
@@ -161,17 +160,11 @@ abbrev running_in : World → List ℕ
 running_in (Idle d) = []
 running_in (Busy m d) = m.running
 
-no_error : (fault : StepFault) → let ok : Result (Unit {0}) StepFault = Ok tt in ok ≡ Err fault → ⊥
-no_error fault e = cc
-
 -- puts change nothing of that
 puts_keep : (g : Graph) (s : Setting) (t : ℕ) (new : World) (files : List FileName) (cs : List ℕ) (m : Making) (d : Disk) → TakesInTurn g s (Busy m d) new (puts t files cs) (Ok tt) → (seen_in new ≡ m.seen) × (running_in new ≡ m.running)
-puts_keep g s t new [] cs m d h = (ap seen_in h.0, ap running_in h.0)
-puts_keep g s t new (f ∷ files) [] m d h = (ap seen_in h.0, ap running_in h.0)
-puts_keep g s t new (f ∷ files) (c ∷ cs) m d h = elim h [
-  | inl taken ↦ puts_keep g s t new files cs (has_put m t f c) (written d f c) taken.1
-  | inr refused ↦ absurd (no_error refused.fault refused.is)
-]
+puts_keep g s t new [] cs m d ends = (refl, refl)
+puts_keep g s t new (f ∷ files) [] m d ends = (refl, refl)
+puts_keep g s t new (f ∷ files) (c ∷ cs) m d (takes allowed more) = puts_keep g s t new files cs (has_put m t f c) (written d f c) more
 
 module _ (scene : Scene) (m new : MakeState) (d e : DiskState) (t : ℕ) (files : List FileName) (cs : List ℕ) (h : TakesInTurn scene.graph (setting scene) (busy scene m d) (busy scene new e) (puts t files cs) (Ok tt)) where
   -- so the recipe has seen the same behind its puts, and still runs
@@ -190,7 +183,7 @@ module _ (scene : Scene) (m new : MakeState) (d e : DiskState) (t : ℕ) (files 
 
 -- the first step of what is left of a run is refused where the recipe doesn't run
 pub rest_refused : (g : Graph) (s : Setting) (m : Making) (d : Disk) (t : ℕ) (fs ws : List FileName) (cs : List ℕ) → ¬ (Has m.running t) → TakesInTurn g s (Busy m d) (Busy m d) (map (λ f. Look t f) fs ++ (puts t ws cs ++ End t ∷ [])) (Err NotRunning)
-rest_refused g s m d t (f ∷ fs) ws cs not = inr (record { fault = NotRunning; is = refl; first = inr (inl (not, refl)); unchanged = refl })
-rest_refused g s m d t [] (f ∷ ws) (c ∷ cs) not = inr (record { fault = NotRunning; is = refl; first = inr (inl (not, refl)); unchanged = refl })
-rest_refused g s m d t [] (f ∷ ws) [] not = inr (record { fault = NotRunning; is = refl; first = inr (inl (not, refl)); unchanged = refl })
-rest_refused g s m d t [] [] cs not = inr (record { fault = NotRunning; is = refl; first = inr (inl (not, refl)); unchanged = refl })
+rest_refused g s m d t (f ∷ fs) ws cs not = refused (inr (inl (not, refl)))
+rest_refused g s m d t [] (f ∷ ws) (c ∷ cs) not = refused (inr (inl (not, refl)))
+rest_refused g s m d t [] (f ∷ ws) [] not = refused (inr (inl (not, refl)))
+rest_refused g s m d t [] [] cs not = refused (inr (inl (not, refl)))

@@ -1,5 +1,5 @@
 -- There is one run of a plan.
-use Rattle.std.proofs.Common.{◌≡◌, ℕ, List, [], ◌∷◌, ◌++◌, Some, Result, Ok, Err, refl, sym, ap, ◌∙◌, subst, inl, inr}
+use Rattle.std.proofs.Common.{◌≡◌, ℕ, List, [], ◌∷◌, ◌++◌, Some, Err, refl, sym, ap, ◌∙◌, subst, inl, inr}
 use Rattle.std.proofs.lemmas.Bool.{false≢true}
 use Rattle.mk_graph.specs.Graph.{Graph}
 use Rattle.mk_graph.specs.Setting.{Setting}
@@ -10,7 +10,7 @@ use Rattle.mk_world.specs.declared.fault.StepFault.TheVariants as faults
 use Rattle.mk_world.specs.declared.plan.PlanCommand.{PlanCommand}
 use Rattle.mk_world.specs.Faults.{Check, checks, FirstFails}
 use Rattle.mk_world.specs.Steps.{IsFaultOf}
-use Rattle.mk_world.specs.Running.{Stage, Refuses, TakesInTurn, IsRefusal, RunsTo, ends, follows, refused, own_steps, printed}
+use Rattle.mk_world.specs.Running.{Stage, TakesInTurn, takes, IsRefusal, RunsTo, ends, follows, refused, own_steps, printed}
 use Rattle.mk_world.specs.OneRun.{RunIsOne}
 use Rattle.mk_world.proofs.Fronts.{before_one, follows_one, follows_or, not_refused}
 
@@ -22,39 +22,17 @@ fault_one (c ∷ cs) a b h j = elim h [
   | inr later ↦ elim j [ inl k ↦ absurd (k.0 later.0) | inr more ↦ fault_one cs a b later.1 more.1 ]
 ]
 
-same_fault : (a b : StepFault) → (let failed : Result (Unit {0}) StepFault = Err a in failed ≡ Err b) → a ≡ b
-same_fault a b e = cc
-
-no_value : (a : StepFault) → (let failed : Result (Unit {0}) StepFault = Err a in failed ≡ Ok tt) → ⊥
-no_value a e = cc
-
 -- which isn't out of memory
-tested : (g : Graph) (s : Setting) (w : World) (one : model.Step) (a b : StepFault) → a ≡ b → ¬ (a ≡ faults.Memory) → IsFaultOf g s w one b → FirstFails (checks g s w one) a
-tested g s w one a b e not h = elim h [
-  | inl memory ↦ absurd (not (e ∙ memory))
-  | inr fails ↦ subst (FirstFails (checks g s w one)) (sym e) fails
-]
+tested : (g : Graph) (s : Setting) (w : World) (one : model.Step) (fault : StepFault) → ¬ (fault ≡ faults.Memory) → IsFaultOf g s w one fault → FirstFails (checks g s w one) fault
+tested g s w one fault not (inl memory) = absurd (not memory)
+tested g s w one fault not (inr fails) = fails
 
 -- steps in turn are refused with one fault, and leave one world
-module _ (g : Graph) (s : Setting) (new other : World) (a b : StepFault) (not : ¬ (a ≡ faults.Memory)) (nor : ¬ (b ≡ faults.Memory)) where
-  refused_one : (old : World) (x : model.Step) → Refuses g s old new x (Err a) → Refuses g s old other x (Err b) → (a ≡ b) × (new ≡ other)
-  refused_one old x r q = (
-    fault_one (checks g s old x) a b (tested g s old x a r.fault (same_fault a r.fault r.is) not r.first) (tested g s old x b q.fault (same_fault b q.fault q.is) nor q.first),
-    r.unchanged ∙ sym q.unchanged,
-  )
-
-  takes_one : (old : World) (steps : List model.Step) → TakesInTurn g s old new steps (Err a) → TakesInTurn g s old other steps (Err b) → (a ≡ b) × (new ≡ other)
-  takes_one old [] h j = absurd (no_value a h.1)
-  takes_one old (x ∷ steps) h j = elim h [
-    | inl t ↦ elim j [
-      | inl u ↦ takes_one (model.after g s old x) steps t.1 u.1
-      | inr q ↦ absurd (not_refused g s old x b t.0 (tested g s old x b q.fault (same_fault b q.fault q.is) nor q.first))
-    ]
-    | inr r ↦ elim j [
-      | inl u ↦ absurd (not_refused g s old x a u.0 (tested g s old x a r.fault (same_fault a r.fault r.is) not r.first))
-      | inr q ↦ refused_one old x r q
-    ]
-  ]
+takes_one : (g : Graph) (s : Setting) (old new other : World) (steps : List model.Step) (a b : StepFault) → ¬ (a ≡ faults.Memory) → ¬ (b ≡ faults.Memory) → TakesInTurn g s old new steps (Err a) → TakesInTurn g s old other steps (Err b) → (a ≡ b) × (new ≡ other)
+takes_one g s old new other steps a b not nor (takes {next = x} {steps = rest} allowed more) (takes also others) = takes_one g s (model.after g s old x) new other rest a b not nor more others
+takes_one g s old new other steps a b not nor (takes {next = x} allowed more) (refused q) = absurd (not_refused g s old x b allowed (tested g s old x b nor q))
+takes_one g s old new other steps a b not nor (refused {next = x} r) (takes allowed more) = absurd (not_refused g s old x a allowed (tested g s old x a not r))
+takes_one g s old new other steps a b not nor (refused {next = x} r) (refused q) = (fault_one (checks g s old x) a b (tested g s old x a not r) (tested g s old x b nor q), refl)
 
 -- so has a line
 refusal_one : (stage : Stage) (old new other : World) (order : PlanCommand) (a b : StepFault) → IsRefusal stage old new order a → IsRefusal stage old other order b → (a ≡ b) × (new ≡ other)
@@ -67,8 +45,8 @@ refusal_one stage old new other order a b h j = elim h [
     | inl k ↦ absurd (false≢true (sym k.unknown ∙ f.1.known))
     | inr e ↦
         let same = before_one stage.graph order old e.1.behind f.1.behind e.1.passes f.1.passes in
-        let takes = subst (λ (w : World). TakesInTurn stage.graph stage.setting w other (own_steps stage.graph stage.setting (disk_of w) order) (Err b)) same e.1.takes in
-        takes_one stage.graph stage.setting new other a b f.0 e.0 f.1.behind (own_steps stage.graph stage.setting (disk_of f.1.behind) order) f.1.takes takes
+        let moved = subst (λ (w : World). TakesInTurn stage.graph stage.setting w other (own_steps stage.graph stage.setting (disk_of w) order) (Err b)) same e.1.takes in
+        takes_one stage.graph stage.setting f.1.behind new other (own_steps stage.graph stage.setting (disk_of f.1.behind) order) a b f.0 e.0 f.1.takes moved
   ]
 ]
 

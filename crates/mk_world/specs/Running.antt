@@ -153,21 +153,19 @@ own_steps g s d (Pass t) = model.Pass (number_of g t) ∷ []
 own_steps g s d End = model.EndMake ∷ []
 own_steps g s d (Edit f c) = model.Edit f (content_or_stamp d c) ∷ []
 
--- The step is refused with this fault, and nothing changes.
-pub record Refuses (g : Graph) (s : Setting) (old new : World) (step : model.Step)
-    (result : Result (Unit {0}) StepFault) : Type 0 where
-  pub fault : StepFault
-  pub is : result ≡ Err fault
-  pub first : IsFaultOf g s old step fault
-  pub unchanged : new ≡ old
-
 -- The steps are taken one after another, all of them or up to the first that is refused.
-abbrev pub TakesInTurn : Graph → Setting → (old new : World) → List model.Step →
-    Result (Unit {0}) StepFault → Type 0
-TakesInTurn g s old new [] result = (new ≡ old) × (result ≡ Ok tt)
-TakesInTurn g s old new (next ∷ steps) result =
-    (model.Allowed g s old next × TakesInTurn g s (model.after g s old next) new steps result) ⊎
-    Refuses g s old new next result
+pub data TakesInTurn (g : Graph) (s : Setting) : (old new : World) → List model.Step →
+    Result (Unit {0}) StepFault → Type 0 where
+  -- No step is left, and the world stays.
+  ends : {w : World} → TakesInTurn g s w w [] (Ok tt)
+  -- The next step is allowed, and the steps behind it are taken in turn.
+  takes : {old new : World} {next : model.Step} {steps : List model.Step}
+      {result : Result (Unit {0}) StepFault} → model.Allowed g s old next →
+      TakesInTurn g s (model.after g s old next) new steps result →
+      TakesInTurn g s old new (next ∷ steps) result
+  -- The next step is refused, and the world stays.
+  refused : {w : World} {next : model.Step} {steps : List model.Step} {fault : StepFault} →
+      IsFaultOf g s w next fault → TakesInTurn g s w w (next ∷ steps) (Err fault)
 
 -- The result of taking these steps one after another; the graph, the build inputs and the names of
 -- the world don't change.

@@ -86,6 +86,7 @@ fn start(alloc: Global, world: &mut World, jobs: usize, goals: &[Name]) -> Resul
 }
 
 /// Runs a recipe whole.
+#[tactic(auto, using(crate::proofs::Lines::whole_answers, crate::proofs::Lines::whole_refused))]
 fn run_whole(world: &mut World, node: &str) -> Result<(), StepFault>
     requires { is_node world.old.scene.graph node.now ≡ true }
     ensures { AnswersInTurn world.old world.new (run_steps world.old node.now) result }
@@ -95,6 +96,7 @@ fn run_whole(world: &mut World, node: &str) -> Result<(), StepFault>
 }
 
 /// Takes the steps of a command, one after another.
+#[tactic(auto, using(crate::proofs::InTurn::answers_one))]
 fn obey(alloc: Global, world: &mut World, order: &PlanCommand) -> Result<(), StepFault>
     requires { is_known world.old.scene.graph world.old.disk.names order.now ≡ true }
     ensures { AnswersInTurn world.old world.new (steps_of world.old order.now) result }

@@ -1,5 +1,5 @@
 -- The plan of a legal history runs to its end.
-use Rattle.std.proofs.Common.{◌≡◌, ℕ, ◌+◌, ◌<◌, Bool, true, false, cond, not, List, [], ◌∷◌, ◌++◌, length, map, filter_map, Option, None, Some, Result, Ok, Err, refl, sym, ap, ◌∙◌, subst, inl, inr}
+use Rattle.std.proofs.Common.{◌≡◌, ℕ, ◌+◌, ◌<◌, Bool, true, false, cond, not, List, [], ◌∷◌, ◌++◌, length, map, filter_map, Option, None, Some, Ok, Err, refl, sym, ap, ◌∙◌, subst, inl, inr}
 use Rattle.std.specs.List.{list_all, enumerate_from, cons_option}
 use Rattle.std.proofs.lemmas.Bool.{and_from, and_parts, true≢false}
 use Rattle.mk_lines.specs.Names.{has_name}
@@ -20,7 +20,7 @@ use Rattle.mk_world.specs.State.{number_of}
 use Rattle.mk_world.specs.Steps.{step_of}
 use Rattle.mk_world.specs.StepLaws.{AllowedWhereAllHolds}
 use Rattle.mk_world.specs.Faults.{Check, checks, AllHold, FirstFails}
-use Rattle.mk_world.specs.Running.{Follows, Stage, PassesBefore, IsRefusal, RunsTo, ends, follows, refused, TakesInTurn, is_known, is_node, own_steps, printed}
+use Rattle.mk_world.specs.Running.{Follows, Stage, PassesBefore, IsRefusal, RunsTo, ends, follows, refused, TakesInTurn, takes, is_known, is_node, own_steps, printed}
 use Rattle.mk_world_plan.specs.PlanText.{are_all_named, is_idle}
 use Rattle.mk_world_plan.specs.PlanLaws.{HasARun, WrittenPlanRuns, is_idle_pass, named_goals, command_of_step, plan_line, run_step_of, without_idle_passes}
 use Rattle.mk_world_plan.proofs.Numbers.{busy_is, idle_is, low_known, name_there}
@@ -146,31 +146,22 @@ none_fails : (cs : List Check) (fault : StepFault) → AllHold cs → FirstFails
 none_fails [] fault h none = none
 none_fails (c ∷ cs) fault h fails = elim fails [ inl f ↦ f.0 h.0 | inr later ↦ none_fails cs fault h.1 later.1 ]
 
-ok_err : (fault : StepFault) → (let ok : Result (Unit {0}) StepFault = Ok tt in ok ≡ Err fault) → ⊥
-ok_err fault e = cc
+-- a step that is taken leaves the world after it
+one_taken : (g : Graph) (s : Setting) (old new : World) (x : model.Step) → TakesInTurn g s old new (x ∷ []) (Ok tt) → new ≡ after g s old x
+one_taken g s old new x (takes allowed ends) = refl
 
-same_err : (a b : StepFault) → (let failed : Result (Unit {0}) StepFault = Err a in failed ≡ Err b) → a ≡ b
-same_err a b e = cc
+takes_one : (g : Graph) (s : Setting) (old new : World) (x : model.Step) (steps : List model.Step) → steps ≡ x ∷ [] → TakesInTurn g s old new steps (Ok tt) → new ≡ after g s old x
+takes_one g s old new x steps is taken = one_taken g s old new x (subst (λ l. TakesInTurn g s old new l (Ok tt)) is taken)
 
 module _ (holds : AllowedWhereAllHolds) where
-  -- one allowed step is taken
-  takes_one : (g : Graph) (s : Setting) (old new : World) (x : model.Step) (steps : List model.Step) → steps ≡ x ∷ [] → Allowed g s old x → TakesInTurn g s old new steps (Ok tt) → new ≡ after g s old x
-  takes_one g s old new x steps is allowed takes = at (subst (λ l. TakesInTurn g s old new l (Ok tt)) is takes)
-    where
-      at : TakesInTurn g s old new (x ∷ []) (Ok tt) → new ≡ after g s old x
-      at (inl t) = t.1.0
-      at (inr r) = absurd (ok_err r.fault r.is)
+  -- an allowed step isn't refused
+  one_refused : (g : Graph) (s : Setting) (old new : World) (x : model.Step) (fault : StepFault) → Allowed g s old x → ¬ (fault ≡ Memory) → TakesInTurn g s old new (x ∷ []) (Err fault) → ⊥
+  one_refused g s old new x fault allowed not (takes also more) = elim more [ ]
+  one_refused g s old new x fault allowed not (refused (inl memory)) = not memory
+  one_refused g s old new x fault allowed not (refused (inr fails)) = none_fails (checks g s old x) fault ((holds g s old x).0 allowed) fails
 
-  -- and not refused
   not_refused : (g : Graph) (s : Setting) (old new : World) (x : model.Step) (steps : List model.Step) (fault : StepFault) → steps ≡ x ∷ [] → Allowed g s old x → ¬ (fault ≡ Memory) → TakesInTurn g s old new steps (Err fault) → ⊥
-  not_refused g s old new x steps fault is allowed not takes = at (subst (λ l. TakesInTurn g s old new l (Err fault)) is takes)
-    where
-      at : TakesInTurn g s old new (x ∷ []) (Err fault) → ⊥
-      at (inl t) = ok_err fault (sym t.1.1)
-      at (inr r) = elim r.first [
-        | inl memory ↦ not (same_err fault r.fault r.is ∙ memory)
-        | inr fails ↦ none_fails (checks g s old x) r.fault ((holds g s old x).0 allowed) fails
-      ]
+  not_refused g s old new x steps fault is allowed not taken = one_refused g s old new x fault allowed not (subst (λ l. TakesInTurn g s old new l (Err fault)) is taken)
 
   -- a line that can be followed isn't refused
   no_refusal : (stage : Stage) (past old new : World) (taken : Step) (o : PlanCommand) (fault : StepFault) → IsFollowed stage past old taken o → IsRefusal stage old new o fault → ⊥
@@ -258,7 +249,7 @@ module _ (holds : AllowedWhereAllHolds) (one : NamesHaveOneNumber) (reaches : Se
   goes_on stage past old n step steps (Some o) text refusal new done legal rest (refused {fault = fault} stopped) = absurd (no_refusal holds stage past old new step o fault done stopped)
   goes_on stage past old n step steps (Some o) text refusal new done legal rest (follows {behind = there} {later = later} line run) =
       let goes = done.goes line.behind line.passes in
-      let is = takes_one holds stage.graph stage.setting line.behind there (run_step_of stage.graph step) (own_steps stage.graph stage.setting (disk_of line.behind) o) (done.own (disk_of line.behind)) goes.allowed line.takes in
+      let is = takes_one stage.graph stage.setting line.behind there (run_step_of stage.graph step) (own_steps stage.graph stage.setting (disk_of line.behind) o) (done.own (disk_of line.behind)) line.takes in
       let moved = subst (λ w. RunsTo stage w (map plan_line (enumerate_from (n + 1) (filter_map (command_of_step stage.graph) steps))) later refusal new) is run in
       one_line stage.graph stage.setting past old line.behind step steps refusal new goes (rest (after stage.graph stage.setting past (step_of stage.graph step)) (after stage.graph stage.setting line.behind (run_step_of stage.graph step)) (n + 1) later refusal new goes.agrees legal moved)
 
@@ -299,8 +290,8 @@ module _ (holds : AllowedWhereAllHolds) (one : NamesHaveOneNumber) (reaches : Se
       let goes = done.goes before.0 before.1 in
       let behind = after stage.graph stage.setting before.0 (run_step_of stage.graph step) in
       let later = rest (after stage.graph stage.setting past (step_of stage.graph step)) behind (n + 1) goes.agrees legal in
-      let takes = subst (λ l. TakesInTurn stage.graph stage.setting before.0 behind l (Ok tt)) (sym (done.own (disk_of before.0))) (inl (goes.allowed, (refl, refl))) in
-      let line : Follows stage old behind o (Ok tt) = record { known = done.known; behind = before.0; passes = before.1; takes = takes } in
+      let taken = subst (λ l. TakesInTurn stage.graph stage.setting before.0 behind l (Ok tt)) (sym (done.own (disk_of before.0))) (takes goes.allowed ends) in
+      let line : Follows stage old behind o (Ok tt) = record { known = done.known; behind = before.0; passes = before.1; takes = taken } in
       (printed stage.names o behind ++ later.0, later.1, follows line later.2)
 
   has_run : (stage : Stage) (steps : List Step) → IsGraph stage.graph → AreKnown stage → HasRunOn stage steps

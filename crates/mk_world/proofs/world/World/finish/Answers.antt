@@ -1,4 +1,5 @@
-use Rattle.std.proofs.Common.{Option, List, sym, refl, subst, Err}
+use Rattle.std.proofs.Common.{Option, List, ◌<◌, length, sym, refl, subst, Err}
+use Rattle.mk_graph.specs.Graph.{Graph}
 use Rattle.mk_graph.specs.SerialMake.{rest_of_run}
 use Rattle.mk_world.specs.declared.fault.StepFault.TheVariants.{NoMake}
 use Rattle.mk_world.specs.State.{MakeState, setting, world_in, disk_of, number_of}
@@ -25,6 +26,11 @@ returns-in_default c =
 
 pub finish-requires-clause-node : goal.finish-requires-clause-node
 finish-requires-clause-node c = rw c.number-number.ensures (node_low c.self.inside.scene.graph c.args.node.now (rw (← c.self.view_is) at c.requires))
+
+pub mark_done-requires : goal.mark_done-requires
+mark_done-requires c =
+    let k = subst (λ (o : Option MakeState). IsKeptIn c.self.inside.scene o c.self.inside.readiness) c.in-Some.is c.self.invariant.2 in
+    subst (λ (g : Graph). c.number-number.result < length g.nodes) (sym k.graph) (rw c.number-number.ensures (node_low c.self.inside.scene.graph c.args.node.now (rw (← c.self.view_is) at c.requires)))
 
 pub invariant_of-self-in_err-finish : goal.invariant_of-self-in_err-finish
 invariant_of-self-in_err-finish c =
