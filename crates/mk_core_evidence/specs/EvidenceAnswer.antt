@@ -1,5 +1,5 @@
 -- The answer to a request for the plan that shows a finding.
-use Rattle.std.specs.Prelude.{◌≡◌, ℕ, ◌+◌, List, [], ◌++◌, ◌∷◌, length, Option, None, Some, Result, Ok, ◌⊎◌}
+use Rattle.std.specs.Prelude.{◌≡◌, ℕ, ◌+◌, List, [], ◌++◌, ◌∷◌, length, Option, None, Some, Result, Ok}
 use Rattle.mk_cert.specs.Subject.{Subject}
 use Rattle.mk_cert.specs.declared.finding.Finding.{Finding}
 use Rattle.mk_find.specs.Findings.{AreFindings}

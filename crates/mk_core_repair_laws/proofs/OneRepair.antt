@@ -8,8 +8,7 @@ use Rattle.mk_graph.specs.Setting.{name}
 use Rattle.mk_graph.specs.Walk.{Through, Closes}
 use Rattle.mk_graph_needs.specs.NeedsGraph.{IsFirstCycle, needs_graph}
 use Rattle.mk_infer.specs.Laws.{SelectionIsOne}
-use Rattle.mk_read.specs.Files.{Told, text_at}
-use Rattle.mk_read.specs.declared.fault.ReadFault.{ReadFault}
+use Rattle.mk_read.specs.Files.{Told}
 use Rattle.mk_core_text.specs.declared.fault.Fault.{Fault}
 use Rattle.mk_core_text.specs.declared.fault.Fault.TheVariants.{Read, Infer, Foot, Plan, Certificate, Verify, FileReadFailed, NoFile, Memory}
 use Rattle.mk_core_text.specs.declared.verdict.Verdict.{Verdict}
@@ -33,7 +32,7 @@ use Rattle.mk_core_repair.specs.Rounds.{AfterFirst, AfterKnown, AfterRound, Afte
 use Rattle.mk_core_repair.specs.Survey.{GivesSurvey, IsCycleFor, IsFirst}
 use Rattle.mk_core_repair.proofs.Cuts.{behind_same}
 use Rattle.mk_core_repair.proofs.Surveys.{first_surveys, survey_checks}
-use Rattle.mk_core_repair_laws.specs.RepairLaws.{IsReadThrough, IsSettledRepair, RepairIsOne}
+use Rattle.mk_core_repair_laws.specs.RepairLaws.{IsReadThrough, RepairIsOne}
 use Rattle.mk_core_repair_laws.proofs.OneSurvey.{answer_one, settled_fault, shared, survey_one}
 use Rattle.mk_core_repair_laws.proofs.SameFiles.{answers_same}
 

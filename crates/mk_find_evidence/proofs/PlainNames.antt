@@ -1,11 +1,11 @@
 -- The names of the world of a subject that was read are plain paths.
-use Rattle.std.proofs.Common.{◌≡◌, ◌<◌, ℕ, Bool, true, false, List, [], ◌∷◌, ◌++◌, length, get_or, Option, None, Some, Ok, inl, inr, zero, suc, refl, sym, ap, subst, ◌∙◌, arith}
+use Rattle.std.proofs.Common.{◌≡◌, ◌<◌, ℕ, Bool, true, false, List, [], ◌∷◌, ◌++◌, length, get_or, Option, None, Some, inl, inr, zero, suc, refl, sym, subst, ◌∙◌, arith}
 use Rattle.std.specs.Prelude.{find, cond}
 use Rattle.std.specs.List.{list_all, flat_map}
 use Rattle.std.proofs.lemmas.Bool.{and_parts}
 use Rattle.std.proofs.lemmas.List.Folds.{list_all-append}
 use Rattle.std.specs.Str.{bytes_eq}
-use Rattle.mk_foot.specs.Book.{Book, Record, no_book}
+use Rattle.mk_foot.specs.Book.{Book, Record}
 use Rattle.mk_foot.specs.Laws as foot
 use Rattle.mk_foot.specs.Setting as recorded
 use Rattle.mk_graph.specs.declared.node.Node.{Node}
@@ -16,8 +16,8 @@ use Rattle.mk_graph.specs.World.{IsOfWorld}
 use Rattle.mk_infer.specs.NameLaws.{GoalsArePlain, HavePlainNames, NodesHavePlainNames}
 use Rattle.mk_lines.specs.Paths.{is_plain_path}
 use Rattle.mk_read.specs.RuleLaws.{RuleLinesAreWellNamed, TextsArePlain}
-use Rattle.mk_cert.specs.Subject.{Subject, footprints}
-use Rattle.mk_find_evidence.specs.PlanLaws.{IsBookFor, WasRead, NamesOfSubjectArePlain}
+use Rattle.mk_cert.specs.Subject.{footprints}
+use Rattle.mk_find_evidence.specs.PlanLaws.{IsBookFor, NamesOfSubjectArePlain}
 
 abbrev pub ArePlain : List (List ℕ) → Type 0
 ArePlain names = list_all is_plain_path names ≡ true

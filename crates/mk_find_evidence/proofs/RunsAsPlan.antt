@@ -1,5 +1,5 @@
 -- Steps that show a finding run as a plan.
-use Rattle.std.proofs.Common.{◌≡◌, ◌≤◌, ℕ, true, List, length, map, Ok, refl, ap, sym, subst, ◌∙◌, arith}
+use Rattle.std.proofs.Common.{◌≡◌, ◌≤◌, true, List, length, map, Ok, ap, sym, subst, arith}
 use Rattle.mk_lines.specs.Names.{has_name}
 use Rattle.mk_lines.specs.Paths.{is_plain_path}
 use Rattle.mk_graph.specs.Graph.{IsGraph}
@@ -11,14 +11,14 @@ use Rattle.mk_cert.specs.declared.finding.Finding.{Finding}
 use Rattle.mk_cert.specs.declared.finding.Finding.TheVariants.{Race, Stale}
 use Rattle.mk_world.specs.NamedStep.{Step, Edit, Make, Begin, Look, Put, End, Pass, Stop, EndMake}
 use Rattle.mk_world.specs.RunLaws.{AreLegal}
-use Rattle.mk_world.specs.State.{Scene, State, disk_of, setting, world_in, world_of}
+use Rattle.mk_world.specs.State.{Scene, disk_of, setting, world_in, world_of}
 use Rattle.mk_world.specs.Steps.{IsFirstOf, step_of}
 use Rattle.mk_world_plan.specs.PlanLaws.{CanBeWritten, HasReadableNumbers, WrittenHistoryRuns}
 use Rattle.mk_world_plan.specs.PlanReading.{lines_of, max_jobs, max_lines, plan_of}
 use Rattle.mk_world_plan.specs.PlanText.{plan_text}
-use Rattle.mk_find_evidence.specs.Numbers.{HasSmallNumbers, HaveSmallNumbers}
+use Rattle.mk_find_evidence.specs.Numbers.{HasSmallNumbers}
 use Rattle.mk_find_evidence.specs.Shown.{Shows, ShowsFrom}
-use Rattle.mk_find_evidence.specs.PlanLaws.{WasRead, NamesOfSubjectArePlain, RunsAsPlan, ShownStepsRun}
+use Rattle.mk_find_evidence.specs.PlanLaws.{NamesOfSubjectArePlain, ShownStepsRun}
 
 pub readable : (step : Step) → HasSmallNumbers step → HasReadableNumbers step
 readable (Edit f c) h = h

@@ -1,6 +1,6 @@
 -- What sound footprints say of the recipes that write what another one reads or needs.
 use Rattle.std.proofs.Common.{◌≡◌, ℕ, List, [], true, inr, ⊎_elim, sym, ◌∙◌, subst}
-use Rattle.std.specs.Prelude.{not, ◌||◌}
+use Rattle.std.specs.Prelude.{not}
 use Rattle.std.proofs.lemmas.Bool.{cases_Bool, cond-false, true≢false, and_parts, or_left}
 use Rattle.mk_lines.specs.Names.{has_name}
 use Rattle.mk_graph.specs.Membership.{Has}

@@ -85,7 +85,7 @@ pub apart_pushed : (xs : List ℕ) (n : ℕ) → ¬ (Has xs n) → IsDistinct xs
 apart_pushed [] n out d = (λ h. h, tt)
 apart_pushed (x ∷ xs) n out d = (λ h. elim (has_cases xs (n ∷ []) x h) [ inl before ↦ d.0 before | inr (inl last) ↦ out (inl (sym last)) | inr (inr none) ↦ none ], apart_pushed xs n (λ h. out (inr h)) d.1)
 
--- if no number stands twice in a list, the numbers at two places differ
+-- numbers at different places of a list without repeats differ
 pub apart_at : (ns : List ℕ) (k j : ℕ) → IsDistinct ns → k < j → j < length ns → ¬ (get_or ns k 0 ≡ get_or ns j 0)
 apart_at [] k j d less low e = absurd (omega arith)
 apart_at (n ∷ ns) k zero d less low e = absurd (omega arith)

@@ -1,5 +1,5 @@
 -- Results in sequence: the first fault is the result.
-use Rattle.std.specs.Prelude.{◌≡◌, ◌⊎◌, Result, Ok, Err}
+use Rattle.std.specs.Prelude.{Result}
 use Rattle.mk_macros.specs.declared.fault.MacroFault.{MacroFault}
 use Rattle.mk_macros.specs.declared.fault.MacroFault.TheVariants.{Memory}
 pub use Rattle.mk_lines.specs.Results.{◌>>=◌}

@@ -10,7 +10,7 @@ use Rattle.mk_graph.specs.Setting.{FileName, Setting, reads, writes}
 use Rattle.mk_graph.specs.Serial.{serial_order}
 use Rattle.mk_graph.specs.Schedules.{CanStart}
 use Rattle.mk_graph.specs.World.{Disk, Making, World, Idle, Busy, content, written}
-use Rattle.mk_graph_ready.specs.Progress.{Progress, IsBlank, Starts, GoesOn}
+use Rattle.mk_graph_ready.specs.Progress.{Progress, Starts, GoesOn}
 use Rattle.mk_graph_ready.specs.Progress as ready
 use Rattle.mk_world.specs.declared.fault.StepFault.{StepFault}
 use Rattle.mk_world.specs.State.{Scene, MakeState, DiskState, setting, making_of, disk_of, busy, start_of}

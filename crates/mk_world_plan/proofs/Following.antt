@@ -14,7 +14,7 @@ use Rattle.mk_graph.specs.Setting.{FileName, Setting, reads, writes}
 use Rattle.mk_graph.specs.Schedules.{IsPart}
 use Rattle.mk_graph.specs.World.{Disk, Making, World, Idle, Busy, changed, content, outcome}
 use Rattle.mk_graph.specs.Steps as model
-use Rattle.mk_graph.specs.Steps.{Allowed, IsLegal, MustRun, MayEnd, after, after_all, begun, changed_at, finished, has_put, looked, make_of, noted, put_by, seen_by}
+use Rattle.mk_graph.specs.Steps.{Allowed, IsLegal, after, after_all, begun, finished, has_put, looked, make_of, noted, put_by, seen_by}
 use Rattle.mk_world.specs.State.{number_of}
 use Rattle.mk_world.specs.Running.{Passes, PassesAll, goals_among}
 use Rattle.mk_world_plan.specs.PlanText.{are_all_named}

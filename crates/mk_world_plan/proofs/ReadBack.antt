@@ -17,7 +17,7 @@ use Rattle.mk_world.specs.NamedStep.{Step, Edit, Make, Begin, Look, Put, End, Pa
 use Rattle.mk_world.specs.declared.plan.PlanCommand.{PlanCommand}
 use Rattle.mk_world.specs.declared.plan.PlanCommand.TheVariants as order
 use Rattle.mk_world_plan.specs.PlanReading as plans
-use Rattle.mk_world_plan.specs.PlanReading.{lines_of, without_empty_last, is_passed_over, is_bad, parse_words, parse_number, is_number, parse_jobs, jobs_among, max_jobs, max_lines, unless_bad, plan_of, numbered_lines}
+use Rattle.mk_world_plan.specs.PlanReading.{lines_of, without_empty_last, is_passed_over, is_bad, parse_words, parse_number, is_number, parse_jobs, jobs_among, max_jobs, max_lines, unless_bad, numbered_lines}
 use Rattle.mk_world_plan.specs.PlanText.{are_all_named, goals_text, names_text, is_idle, make_line, pass_line, step_text, plan_text}
 use Rattle.mk_world_plan.specs.Spelling.{is_of_word, IsWellSpelled}
 use Rattle.mk_world_plan.specs.PlanLaws.{IsReadable, named_goals, command_of_step, plan_line, WrittenTextIsRead}

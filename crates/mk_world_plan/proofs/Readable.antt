@@ -9,7 +9,7 @@ use Rattle.mk_graph.specs.World.{Disk, Making, World, Idle, Busy, IsOfWorld}
 use Rattle.mk_graph.specs.Steps as model
 use Rattle.mk_graph.specs.Steps.{Allowed, IsLegal, after}
 use Rattle.mk_world.specs.NamedStep.{Step, Edit, Make, Begin, Look, Put, End, Pass, Stop, EndMake}
-use Rattle.mk_world.specs.State.{State, number_of, setting, world_in, world_of}
+use Rattle.mk_world.specs.State.{number_of, setting, world_in, world_of}
 use Rattle.mk_world.specs.State as lists
 use Rattle.mk_world.specs.Steps.{step_of}
 use Rattle.mk_world.specs.Running.{stage_of}

@@ -1,6 +1,6 @@
 -- Each file of the record is judged in its turn, and has its entry once, as the record has no
 -- repeats.
-use Rattle.std.proofs.Common.{◌≡◌, ◌∙◌, ◌<◌, ◌≤◌, ◌+◌, ◌∷◌, ◌++◌, [], refl, ℕ, List, Option, MatchOption, ap, sym, subst, length, get_or, map, drop, take, arith}
+use Rattle.std.proofs.Common.{◌≡◌, ◌∙◌, ◌<◌, ◌≤◌, ◌+◌, ◌∷◌, [], refl, ℕ, List, Option, MatchOption, ap, sym, subst, length, get_or, map, drop, take, arith}
 use Rattle.std.proofs.lemmas.List.{take_all}
 use Rattle.mk_lines.specs.Names.{once}
 use Rattle.mk_graph.specs.Membership.{Has}

@@ -1,5 +1,4 @@
-use Rattle.std.proofs.Common.{◌≡◌, ◌∙◌, [], ◌∷◌, ◌++◌, unwrap_or, ap, arith}
-use Rattle.mk_repair.specs.Gathering.{with_value}
+use Rattle.std.proofs.Common.{◌∙◌, [], ◌∷◌, ◌++◌, unwrap_or, ap, arith}
 use Rattle.mk_repair.specs.Rows.{table_rows}
 use Rattle.mk_repair.proofs.Gathered.{value_put}
 use Rattle.mk_repair.proofs.gathering.add_value.Goals as goal

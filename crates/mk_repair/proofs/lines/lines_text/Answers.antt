@@ -1,4 +1,4 @@
-use Rattle.std.proofs.Common.{ℕ, ◌∙◌, ◌++◌, List, ap, string_bytes}
+use Rattle.std.proofs.Common.{◌∙◌, ◌++◌, List, ap, string_bytes}
 use Rattle.std.specs.List.{flat_map}
 use Rattle.mk_repair.specs.Word.{Word}
 use Rattle.mk_repair.specs.Lines.{line_text, lines_between, phony_lines, grouped, lacking}
