@@ -48,8 +48,8 @@ pub fn read_text(
     Ok(copy_of(alloc, key, text))
 }
 
-/// A list of at most this many texts may keep spare capacity.
-const FEW: usize = 4;
+/// A list that gets a second text has capacity for this many more at once.
+const MORE: usize = 15;
 
 /// Appends a text. Many lists have a single text, so the first one is stored without spare
 /// capacity.
@@ -58,6 +58,8 @@ fn push_text(texts: &mut Vec<String>, text: String) -> Result<(), AllocError>
 {
     if texts.is_empty() {
         texts.reserve_exact(1)?;
+    } else if texts.len() == 1 {
+        texts.reserve_exact(MORE)?;
     }
     texts.push(text)?;
     Ok(())
@@ -98,12 +100,12 @@ fn read_list(
     Ok(texts)
 }
 
-/// Returns the same texts. A list of more than `FEW` texts is moved to one without spare capacity,
-/// since a list that grew may have capacity for twice as many. The only error is out of memory.
+/// Returns the same texts. A list of several texts is moved to one without spare capacity. The only
+/// error is out of memory.
 fn fitted(alloc: Global, texts: Vec<String>) -> Result<Vec<String>, AllocError>
     ensures { IfOk result (λ all. all.items ≡ texts.items) }
 {
-    if texts.len() <= FEW {
+    if texts.len() <= 1 {
         return Ok(texts);
     }
     let mut texts = texts;

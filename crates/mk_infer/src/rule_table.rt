@@ -114,6 +114,7 @@ fn push_words<'m>(words: &mut Vec<&'m str>, more: &'m [String]) -> Result<(), Al
     ensures { OnOk result (map (λ word. word.now) words.new.items ≡
         map (λ word. word.now) words.old.items ++ map string_bytes more.now) }
 {
+    words.reserve(more.len())?;
     for word in more {
         words.push(word.as_str())?;
     }
@@ -168,6 +169,7 @@ fn push_needs<'m>(names: &mut Vec<&'m str>, words: &'m [String]) -> Result<(), A
         map (λ name. name.now) names.old.items ++
         filter (λ word. not (is_wait word)) (map string_bytes words.now)) }
 {
+    names.reserve(words.len())?;
     for word in words {
         if word.as_str() != ".WAIT" {
             names.push(word.as_str())?;

@@ -23,7 +23,7 @@ pub fn numbers(
     ensures { IfOk result (λ found. found.items ≡
         map (number_of met.now) (map (λ name. name.now) names.now)) }
 {
-    let mut numbers = Vec::new(alloc);
+    let mut numbers = Vec::with_capacity(alloc, names.len())?;
     for name in names {
         numbers.push(met.number_of(name))?;
     }
@@ -56,7 +56,8 @@ fn cut_groups(
         in_node_numbers met.now (groups false (map (λ word. word.now) words.now))) }
 {
     let mut groups = Vec::new(alloc);
-    let mut group = Vec::new(alloc);
+    // Most names have a single group, before which one number more may be put.
+    let mut group = Vec::with_capacity(alloc, words.len().saturating_add(1))?;
     for word in words {
         if *word == ".WAIT" {
             let closed = mem::replace(&mut group, Vec::new(alloc));
@@ -78,7 +79,7 @@ fn single_groups(
     ensures { IfOk result (λ found. map (λ group. group.items) found.items ≡
         map (λ name. number_of met.now name ∷ []) (map (λ name. name.now) names.now)) }
 {
-    let mut groups = Vec::new(alloc);
+    let mut groups = Vec::with_capacity(alloc, names.len())?;
     for name in names {
         groups.push(vec![in alloc; met.number_of(name)]?)?;
     }

@@ -1,7 +1,7 @@
 -- Paths that pass the fast test have the shape of a path.
-use Rattle.std.proofs.Common.{◌≡◌, ℕ, Bool, true, false, not, ◌&&◌, ◌||◌, ◌==◌, cond, List, [], ◌∷◌, ◌-◌, ◌≤◌, length, get_or, take, drop, refl, sym, ap, ◌∙◌, true≢false, arith}
+use Rattle.std.proofs.Common.{◌≡◌, ℕ, Bool, true, false, not, ◌&&◌, ◌||◌, ◌==◌, cond, List, [], ◌∷◌, ◌-◌, ◌<◌, ◌≤◌, length, get_or, take, drop, refl, sym, ap, ◌∙◌, true≢false, arith}
 use Rattle.std.specs.List.{slice_split, onto_first, list_all}
-use Rattle.std.proofs.lemmas.Bool.{ne_eqb}
+use Rattle.std.proofs.lemmas.Bool.{ne_eqb, lt-ltb}
 use Rattle.std.proofs.lemmas.List.{drop_all, take_rest}
 use Rattle.mk_lines.specs.Bytes.{is_byte}
 use Rattle.mk_lines.specs.Paths.{is_visible, is_proper, are_components}
@@ -103,10 +103,14 @@ of_bytes b bs first e =
 abbrev pub behind_first : List ℕ → List ℕ
 behind_first name = take (length name - 1) (drop 1 name)
 
-pub tidy_ends : (name : List ℕ) (tidy : Bool) (before i : ℕ) → 1 ≤ length name → (tidy && tidy_from before (drop i (behind_first name))) ≡ ((is_visible (get_or name 0 0) && not (get_or name 0 0 == 46)) && tidy_from (get_or name 0 0) (behind_first name))
-    → length (behind_first name) ≤ i → tidy ≡ true → not (before == 47) ≡ true → (list_all is_visible name ≡ true) × (are_components (slice_split (is_byte 47) name) ≡ true)
-tidy_ends [] tidy before i some so_far le t last = absurd (omega arith)
-tidy_ends (b ∷ bs) tidy before i some so_far le t last =
-    let held : (tidy && tidy_from before (drop i (behind_first (b ∷ bs)))) ≡ true = rw (t, drop_all i (behind_first (b ∷ bs)) le) last in
-    let h = both_true (is_visible b && not (b == 46)) (tidy_from b (behind_first (b ∷ bs))) (sym so_far ∙ held) in
-    of_bytes b bs h.0 (sym (ap (tidy_from b) (take_rest (b ∷ bs) 1)) ∙ h.1)
+-- a first byte that passes the test
+first_is : (b : ℕ) → 32 < b → ¬ (b ≡ 127) → ¬ (b ≡ 46) → (is_visible b && not (b == 46)) ≡ true
+first_is b low del dot = rw (lt-ltb 32 b low, ne_eqb b 127 del, ne_eqb b 46 dot) refl
+
+pub tidy_ends : (name : List ℕ) (before i : ℕ) → 1 ≤ length name → 32 < get_or name 0 0 → ¬ (get_or name 0 0 ≡ 127) → ¬ (get_or name 0 0 ≡ 46)
+    → tidy_from before (drop i (behind_first name)) ≡ tidy_from (get_or name 0 0) (behind_first name)
+    → length (behind_first name) ≤ i → not (before == 47) ≡ true → (list_all is_visible name ≡ true) × (are_components (slice_split (is_byte 47) name) ≡ true)
+tidy_ends [] before i some low del dot so_far le last = absurd (omega arith)
+tidy_ends (b ∷ bs) before i some low del dot so_far le last =
+    let held : tidy_from before (drop i (behind_first (b ∷ bs))) ≡ true = rw (drop_all i (behind_first (b ∷ bs)) le) last in
+    of_bytes b bs (first_is b low del dot) (sym (ap (tidy_from b) (take_rest (b ∷ bs) 1)) ∙ (sym so_far ∙ held))

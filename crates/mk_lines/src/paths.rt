@@ -79,14 +79,22 @@ fn passes_fast_test(name: &[u8]) -> bool
         return false;
     };
     let mut before = *first;
-    let mut tidy = (before > b' ') & (before != 127) & (before != b'.');
+    if before <= b' ' || before == 127 || before == b'.' {
+        return false;
+    }
     for byte in rest {
         let after = *byte;
-        let turns = (before == b'/') & ((after == b'/') | (after == b'.'));
-        tidy = tidy & (after > b' ') & (after != 127) & !turns;
+        // Most bytes are greater than a slash, and then one comparison more is enough.
+        if after > b'/' {
+            if after == 127 {
+                return false;
+            }
+        } else if after <= b' ' || (before == b'/' && (after == b'/' || after == b'.')) {
+            return false;
+        }
         before = after;
     }
-    tidy && before != b'/'
+    before != b'/'
 }
 
 /// Whether a name is 1 to 4,096 bytes without spaces and control bytes, and has only components

@@ -21,7 +21,8 @@ pub struct Span {
 pub fn words(alloc: Global, text: &[u8]) -> Result<Vec<Span>, AllocError>
     ensures exact { IfOk result (λ spans. spans.items ≡ word_spans text.now) }
 {
-    let mut spans = Vec::new(alloc);
+    // Words of eight bytes need no more capacity.
+    let mut spans = Vec::with_capacity(alloc, text.len() / 8)?;
     let mut at = 0;
     for part in text.split(|b| is_blank(*b)) {
         let end = at + part.len();

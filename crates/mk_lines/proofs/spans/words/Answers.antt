@@ -12,7 +12,7 @@ use Rattle.mk_lines.proofs.spans.words.Goals.{then-not-is_empty+in_ok-push, else
 
 pub loop-part-init : goal.loop-part-init
 unfolding word_spans
-loop-part-init c = (rw (c.new-spans.ensures.items) refl, (let e = room_split is_blank c.args.text.now in omega arith))
+loop-part-init c = (rw (c.in_ok-spans.ensures.items) refl, (let e = room_split is_blank c.args.text.now in omega arith))
 
 pub overflow_add-end : goal.overflow_add-end
 overflow_add-end c =
