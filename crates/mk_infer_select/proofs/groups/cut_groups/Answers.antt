@@ -8,7 +8,7 @@ use Rattle.mk_infer_select.proofs.groups.cut_groups.Goals as goal
 use Rattle.mk_infer_select.proofs.groups.cut_groups.Goals.{then-eq+in_ok-push_group, else-eq+in_ok-push}
 
 pub loop-word-init : goal.loop-word-init
-loop-word-init c = rw (c.new-groups.ensures.items, c.new-group.ensures.items) (at_first c.args.met.now (texts c.args.words.now))
+loop-word-init c = rw (c.new-groups.ensures.items, c.in_ok-group.ensures.items) (at_first c.args.met.now (texts c.args.words.now))
 
 pub loop-word-preserved : goal.loop-word-preserved
 loop-word-preserved c =
