@@ -421,13 +421,13 @@ class StateTest(UpdateTest):
             "",
             "[]",
             "{}",
-            '{"format":3,"digest":"","state":{}}',
+            '{"format":4,"digest":"","state":{}}',
         ):
             self.state.write_text(text)
             self.assertEqual(self.all_again(), "isn't whole")
         self.state.write_bytes(b"\xff")
         self.assertEqual(self.all_again(), "can't be read")
-        self.state.write_text(whole.replace('"format":3', '"format":2', 1))
+        self.state.write_text(whole.replace('"format":4', '"format":3', 1))
         self.assertEqual(self.all_again(), "is of another version of mkcheck-record")
 
     def test_changed_by_hand(self) -> None:

@@ -113,6 +113,12 @@ class Accesses:
     listed: dict[str, None] = field(default_factory=dict)
     """Folders whose names it read."""
 
+    locked: dict[str, None] = field(default_factory=dict)
+    """Files and folders that it locked, by flock."""
+
+    tried: dict[str, None] = field(default_factory=dict)
+    """Those of them for whose lock it wouldn't have waited."""
+
     def wrote(self, path: str) -> bool:
         """Whether the recipe wrote this file before, or moved a folder there that holds it."""
         if path in self.writes or not self.moved:
@@ -617,6 +623,14 @@ class Follower:
         path = self.descriptor(call.arguments[0])
         if path is not None:
             self.accesses.own(path)
+
+    def on_flock(self, call: Call) -> None:
+        """A lock is taken, or given back. It changes nothing that a recipe leaves."""
+        path = self.descriptor(call.arguments[0])
+        if path is not None and "LOCK_UN" not in call.arguments[1]:
+            self.accesses.locked.setdefault(path)
+            if "LOCK_NB" in call.arguments[1]:
+                self.accesses.tried.setdefault(path)
 
     def on_chroot(self, call: Call) -> None:
         self.accesses.strange.setdefault(call.name)

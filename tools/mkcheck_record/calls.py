@@ -29,6 +29,7 @@ TRACED = (
     *("unlink", "unlinkat", "mknod", "mknodat", "mkdir", "mkdirat", "rmdir"),
     *("getdents", "getdents64"),
     *("truncate", "truncate64", "utime", "utimes", "utimensat", "utimensat_time64", "futimesat"),
+    "flock",
     *("chmod", "fchmod", "fchmodat", "fchmodat2", "chown", "lchown", "fchown", "fchownat"),
     *("chown32", "lchown32", "fchown32"),
     *("setxattr", "lsetxattr", "fsetxattr", "removexattr", "lremovexattr", "fremovexattr"),

@@ -5,7 +5,7 @@ from __future__ import annotations
 import os
 import stat
 import time
-from collections.abc import Callable, Iterable, Iterator
+from collections.abc import Callable, Container, Iterable, Iterator
 from dataclasses import dataclass, field
 
 from .accesses import DELETED, Accesses
@@ -19,6 +19,7 @@ TOLD_AT_MOST = 10
 # Stands for an option, till the files are known that need it.
 ANY_PREFIX = "--fixed PREFIX"
 TWINS = "which are one file: mkcheck takes them for two, so let rules and recipes use one name"
+LOCK_CURE = "lock a folder in place of the file (flock . COMMAND, or exec 9<. and flock 9)"
 # Some file systems keep stamps by two seconds.
 COARSE = 2_500_000_000
 SECOND = 1_000_000_000
@@ -76,6 +77,12 @@ class Footprint:
     ports: frozenset[str] = frozenset()
     """Addresses, other than files, at which its processes serve."""
 
+    locked: frozenset[str] = frozenset()
+    """Files and folders that it locked, named as those of `scratch`; `.` is the project's own."""
+
+    tried: frozenset[str] = frozenset()
+    """Those of them for whose lock it wouldn't have waited."""
+
     def record(self) -> dict[str, object]:
         """The record of format 1."""
         target, commands = self.recipe.target, self.recipe.lines
@@ -124,7 +131,7 @@ def footprint_of(recipe: Recipe, accesses: Accesses, naming: Naming, warn: Warn)
     there = {*left(tree, accesses.reads), *lost}
     read = [path for path in accesses.reads if path in there and not is_needless(path, naming)]
     written = list(dict.fromkeys(left(tree, [*accesses.writes, *within(tree, accesses.moved)])))
-    refuse_nameless(recipe, read, written, naming)
+    refuse_nameless(recipe, read, written, naming, accesses.locked)
     for path in lost if written else ():
         warn_of_lost(recipe, naming.name(path) or path, warn)
     here = set(written)
@@ -168,6 +175,8 @@ def footprint_of(recipe: Recipe, accesses: Accesses, naming: Naming, warn: Warn)
         frozenset(named(folders_made(accesses), naming)),
         frozenset(listed_in(accesses, naming)),
         ports=frozenset(accesses.ports),
+        locked=frozenset(locked_name(path, naming) for path in accesses.locked),
+        tried=frozenset(locked_name(path, naming) for path in accesses.tried),
     )
 
 
@@ -214,6 +223,12 @@ def listed_in(accesses: Accesses, naming: Naming) -> Iterator[str]:
             yield path[len(naming.root) + 1 :]
 
 
+def locked_name(path: str, naming: Naming) -> str:
+    """The name of what a recipe locked: `.` for the project's folder, and a path for what has none.
+    """
+    return "." if path == naming.root else naming.name(path) or path
+
+
 def is_gone(path: str, accesses: Accesses) -> bool:
     """Whether a file or a folder that a recipe made or took away is gone."""
     tree = accesses.tree
@@ -252,11 +267,20 @@ def named(paths: Iterable[str], naming: Naming) -> list[str]:
     return list(dict.fromkeys(name for name in names if is_plain_path(name)))
 
 
-def refuse_nameless(recipe: Recipe, read: list[str], written: list[str], naming: Naming) -> None:
-    """Refuses files that no footprint can name, and says for each what helps."""
+def refuse_nameless(
+    recipe: Recipe,
+    read: list[str],
+    written: list[str],
+    naming: Naming,
+    locked: Container[str] = (),
+) -> None:
+    """Refuses files that no footprint can name, and says for each what helps.
+
+    `locked` are those that the recipe locked.
+    """
     nameless = [("reads", path) for path in read] + [("writes", path) for path in written]
     nameless = [
-        (verb, path)
+        ("locks" if path in locked and is_outside(path, naming) else verb, path)
         for verb, path in nameless
         if not has_name(path, naming) or (verb == "writes" and is_outside(path, naming))
     ]
@@ -290,6 +314,8 @@ def prefix_above(paths: list[str], naming: Naming) -> str:
 
 def what_helps(verb: str, path: str, naming: Naming) -> str:
     """What is said of a file that has no name."""
+    if verb == "locks":
+        return f"locks files outside the folder, which no footprint can name: {LOCK_CURE}"
     if verb == "writes" and is_outside(path, naming):
         return (
             "writes files outside the folder, which no footprint can name: let it write into the"

@@ -218,6 +218,7 @@ def effects_of(footprint: Footprint, accesses: Accesses, naming: Naming) -> Effe
         ),
         tuple(sorted(footprint.owned)),
         tuple(sorted(filter(is_own, footprint.dropped))),
+        footprint.locked,
     )
 
 

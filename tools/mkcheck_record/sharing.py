@@ -28,6 +28,7 @@ from .folders import is_plain_path
 from .footprints import Footprint, Warn, shown, warn_of_lost
 from .graphs import Ancestors, Graph
 from .late import Late, folders_of
+from .locks import warn_of_locks
 from .refusals import listed
 
 PATTERN = re.compile(r"[*?\[]")
@@ -134,6 +135,7 @@ def with_shared(
     if late is not None:
         warn_of_untested(footprints, late, warn)
     warn_of_ports(footprints, makers.ancestors, warn)
+    warn_of_locks(footprints, makers.ancestors, warn)
     found = [with_sought(footprint, makers, warn) for footprint in footprints]
     return [with_modes(with_own(footprint, uses, warn), uses, warn) for footprint in found]
 

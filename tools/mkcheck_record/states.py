@@ -19,7 +19,7 @@ from .graphs import Recipe
 from .versions import FILE, FOLDER, LINK, THERE, Version
 from .worlds import Effects, Trial
 
-FORMAT = 3
+FORMAT = 4
 DIGEST = re.compile(r"[0-9a-f]{64}")
 KINDS = (FILE, LINK, FOLDER, THERE, "pipe", "socket", "device")
 
@@ -162,6 +162,8 @@ class Writer:
             "taken": sorted(own.taken),
             "seen": sorted(own.seen),
             "ports": sorted(own.ports),
+            "locked": sorted(own.locked),
+            "tried": sorted(own.tried),
             "warnings": list(entry.warnings),
             "order": entry.order,
         }
@@ -227,6 +229,8 @@ class Reader:
             taken=frozenset(texts(entry["taken"])),
             seen=frozenset(texts(entry["seen"])),
             ports=frozenset(texts(entry["ports"])),
+            locked=frozenset(texts(entry["locked"])),
+            tried=frozenset(texts(entry["tried"])),
         )
         after = self.versions(entry["after"])
         made = texts(entry["made"])

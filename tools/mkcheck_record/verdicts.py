@@ -7,6 +7,7 @@ from collections.abc import Iterable, Mapping
 from dataclasses import dataclass, field
 
 from .faults import Fault
+from .footprints import LOCK_CURE
 from .graphs import Recipe
 from .late import Met
 from .refusals import listed
@@ -54,6 +55,7 @@ KEPT = (
     " so what depends on the file may stay old"
 )
 KEPT_CURE = "Let the recipe write all its outputs in each run"
+LOCKED = "it locks that file, and makes it only where there is none"
 STAMPS = (
     "it uses the time stamp of a file that a recipe makes, which is another one in each build, and"
     " here too"
@@ -142,10 +144,11 @@ def complaint(outcome: Outcome, makers: Mapping[str, list[str]]) -> str:
     elif outcome.failed:
         meaning, cure = FAILURES[outcome.run], FAILURE_CURES[outcome.run]
     elif outcome.differences[0].kept and outcome.run != ORDERED:
-        meaning, cure = KEPT, KEPT_CURE
+        is_locked = outcome.differences[0].name in outcome.trial.locked
+        meaning, cure = (LOCKED, LOCK_CURE) if is_locked else (KEPT, KEPT_CURE)
     lines = [
-        f"{subject(outcome)}: {meaning}. {cure}, or give --trust {target} to take the recipe as"
-        " it is"
+        f"{subject(outcome)}: {meaning}. {cure[0].upper()}{cure[1:]}, or give --trust {target} to"
+        " take the recipe as it is"
     ]
     lines += [f"\t{line}" for line in likely_causes(outcome, makers)]
     lines += [f"\tit looks at {listed(outcome.glanced)}"] if outcome.glanced else []

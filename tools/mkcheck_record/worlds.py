@@ -50,6 +50,9 @@ class Effects:
     dropped: tuple[str, ...] = ()
     """Folders that it removed and hadn't made."""
 
+    locked: frozenset[str] = frozenset()
+    """Files and folders that it locked."""
+
 
 @dataclass(frozen=True)
 class Trial:
@@ -96,6 +99,9 @@ class Trial:
 
     listed: tuple[str, ...] = ()
     """The folders of the project whose names it read."""
+
+    locked: frozenset[str] = frozenset()
+    """The files and folders that it locked."""
 
     def with_reads(self, reads: Mapping[str, Version]) -> Trial:
         """The same recipe, recorded to read these too."""
@@ -223,6 +229,7 @@ class World:
             number,
             tuple(filter(is_own, effects.looked)),
             tuple(filter(is_own, effects.listed)),
+            effects.locked,
         )
         self.trials.append(trial)
         return trial

@@ -1,0 +1,45 @@
+"""Locks that recipes share.
+
+A lock keeps two recipes from running at the same time, but puts neither first, so it counts for
+nothing. The file that is locked counts as any other.
+"""
+
+from __future__ import annotations
+
+from collections.abc import Sequence
+
+from .footprints import LOCK_CURE, Footprint, Warn, shown
+from .graphs import Ancestors
+from .refusals import listed
+
+
+def warn_of_locks(footprints: Sequence[Footprint], ancestors: Ancestors, warn: Warn) -> None:
+    """Warns of each file that several recipes lock and one of these writes, and of each lock for
+    which a recipe doesn't wait and that another one may have.
+    """
+    users: dict[str, list[Footprint]] = {}
+    for footprint in footprints:
+        for name in footprint.locked:
+            users.setdefault(name, []).append(footprint)
+    for name, those in sorted(users.items()):
+        targets = [footprint.recipe.target for footprint in those]
+        if len(those) > 1 and any(name in footprint.writes for footprint in those):
+            warn(
+                f"the recipes of {listed(targets)} lock {shown(name)}, which counts as a file that"
+                f" they write: where it is there for the lock alone, {LOCK_CURE}; a lock puts no"
+                " recipe first, so check answers as if there were none"
+            )
+        pairs = (
+            (footprint.recipe.target, other)
+            for footprint in those
+            if name in footprint.tried
+            for other in targets
+            if other != footprint.recipe.target
+        )
+        pair = next((pair for pair in pairs if not ancestors.in_order(*pair)), None)
+        if pair is not None:
+            warn(
+                f"the recipe of {pair[0]} locks {shown(name)} without waiting (flock -n), and that"
+                f" of {pair[1]} locks it too: with several jobs the lock may be taken, and"
+                f" {pair[0]} fails or is made otherwise; let it wait for the lock"
+            )
