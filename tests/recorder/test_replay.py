@@ -151,14 +151,29 @@ class BareTest(ReplayTest):
         outcome = self.record(*words, environment=environment)
         self.assertEqual((outcome.status, outcome.book), (1, None), outcome.errors)
         said = (
+            " anew: Python keeps compiled modules there, and then only looks at their texts. Remove"
+            " that folder, and write python3 -B in the recipes, or give --trust a to take the"
+            " recipe as it is\n"
+        )
+        self.assertEqual(outcome.errors.count(said), 1, outcome.errors)
+        said = (
             "\n\tPython keeps compiled modules in d/__pycache__, and then only looks at their"
             " texts: remove that folder, and write python3 -B in the recipes\n"
         )
-        self.assertEqual(outcome.errors.count(said), 2, outcome.errors)
+        self.assertEqual(outcome.errors.count(said), 1, outcome.errors)
+        warning = (
+            "the recipes of a, b use modules that Python keeps compiled in d/__pycache__, and so"
+            " may not read their texts: remove that folder, and write python3 -B in the recipes"
+        )
+        for more in (("--no-replay",), ("--trust", "a", "--trust", "b")):
+            outcome = self.recorded(*words, *more, environment=environment)
+            self.assertIn(warning, outcome.warnings())
         self.write({"makefile": rules.replace("@P@", f"{python} -B")})
         outcome = self.record(*words, environment=environment)
         self.assertEqual(outcome.status, 0, outcome.errors)
         self.assertEqual(outcome.own("b")[0] & {"d/b.py", "d/one.py"}, {"d/b.py", "d/one.py"})
+        outcome = self.recorded(*words, "--no-replay", environment=environment)
+        self.assertNotIn("__pycache__", outcome.errors)
 
     def test_a_file_that_the_recipe_takes_away(self) -> None:
         makefile = "a:\n\techo 1 > x; echo > a\n"

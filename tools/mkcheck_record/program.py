@@ -23,6 +23,7 @@ from .graphs import Checker, Graph, Refused, asked_graph, find_checker, warn_of_
 from .late import with_met
 from .leftovers import warn_of_left_over
 from .macros import Prober, handed_down, refuse_absent_compiler, warn_of_environment, with_shell
+from .modules import warn_of_modules
 from .places import Place
 from .predefined import refuse_predefined
 from .recording import Recorded, Workshop, record
@@ -201,6 +202,8 @@ def record_and_write(asked: argparse.Namespace, folder: str, scratch: str) -> No
         raise RecipeFault("\nmkcheck-record: ".join([*recorded.failures, *verdict.errors]))
     if recorded.late or footprints != recorded.footprints:
         text = book(footprints, late=recorded.looked_late).text()
+    if asked.no_replay or asked.trust:
+        warn_of_modules(footprints, tuple(fixed), warn)
     if asked.no_replay:
         tell(UNTESTED)
     write_text(text, asked.update or asked.o)

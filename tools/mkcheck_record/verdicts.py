@@ -10,6 +10,8 @@ from .faults import Fault
 from .footprints import LOCK_CURE
 from .graphs import Recipe
 from .late import Met
+from .modules import CURE as MODULES_CURE
+from .modules import folder_of_modules
 from .refusals import listed
 from .replaying import AGAIN, BARE, DAMAGED, LOOKED, ORDERED, Outcome
 from .worlds import Trial
@@ -55,6 +57,7 @@ KEPT = (
     " so what depends on the file may stay old"
 )
 KEPT_CURE = "Let the recipe write all its outputs in each run"
+MODULES = "and then only looks at their texts"
 LOCKED = "it locks that file, and makes it only where there is none"
 STAMPS = (
     "it uses the time stamp of a file that a recipe makes, which is another one in each build, and"
@@ -139,18 +142,23 @@ def complaint(outcome: Outcome, makers: Mapping[str, list[str]]) -> str:
     """The error of a replay that failed, or left other files than the recording."""
     target = outcome.trial.recipe.target
     meaning, cure = MEANINGS[outcome.run], CURES[outcome.run]
+    kept = outcome.differences[0].name if is_kept(outcome) else ""
     if outcome.stamps:
         meaning, cure = STAMPS, STAMPS_CURE
     elif outcome.failed:
         meaning, cure = FAILURES[outcome.run], FAILURE_CURES[outcome.run]
-    elif outcome.differences[0].kept and outcome.run != ORDERED:
-        is_locked = outcome.differences[0].name in outcome.trial.locked
-        meaning, cure = (LOCKED, LOCK_CURE) if is_locked else (KEPT, KEPT_CURE)
+    elif folder_of_modules([kept]):
+        meaning, cure = f"Python keeps compiled modules there, {MODULES}", MODULES_CURE
+    elif kept in outcome.trial.locked:
+        meaning, cure = LOCKED, LOCK_CURE
+    elif kept:
+        meaning, cure = KEPT, KEPT_CURE
     lines = [
         f"{subject(outcome)}: {meaning}. {cure[0].upper()}{cure[1:]}, or give --trust {target} to"
         " take the recipe as it is"
     ]
-    lines += [f"\t{line}" for line in likely_causes(outcome, makers)]
+    causes = [] if folder_of_modules([kept]) else likely_causes(outcome, makers)
+    lines += [f"\t{line}" for line in causes]
     lines += [f"\tit looks at {listed(outcome.glanced)}"] if outcome.glanced else []
     lines += [f"\t{line}" for line in outcome.failed.split("\n") if line]
     if outcome.differences:
@@ -161,6 +169,11 @@ def complaint(outcome: Outcome, makers: Mapping[str, list[str]]) -> str:
         if len(more) > SHOWN_AT_MOST:
             lines.append(f"\tand {len(more) - SHOWN_AT_MOST} more differences")
     return "\n".join(lines)
+
+
+def is_kept(outcome: Outcome) -> bool:
+    """Whether the first difference is an output that the recipe passed over."""
+    return bool(outcome.differences) and outcome.differences[0].kept and outcome.run != ORDERED
 
 
 def likely_causes(outcome: Outcome, makers: Mapping[str, list[str]]) -> list[str]:
@@ -191,13 +204,10 @@ def likely_causes(outcome: Outcome, makers: Mapping[str, list[str]]) -> list[str
 def said_of_modules(trial: Trial) -> list[str]:
     """What is said of a recipe that reads or writes a module that Python compiled in the project:
     the module's text is only looked at then."""
-    folders = {os.path.dirname(name) for name in (*trial.before, *trial.writes)}
-    kept = sorted(name for name in folders if os.path.basename(name) == "__pycache__")
-    return [
-        f"Python keeps compiled modules in {name}, and then only looks at their texts: remove that"
-        " folder, and write python3 -B in the recipes"
-        for name in kept[:1]
-    ]
+    folder = folder_of_modules((*trial.before, *trial.writes))
+    if folder is None:
+        return []
+    return [f"Python keeps compiled modules in {folder}, {MODULES}: {MODULES_CURE}"]
 
 
 def warning(outcome: Outcome, run: str, failed: str) -> str:
