@@ -7,6 +7,7 @@ import shutil
 import signal
 import subprocess
 import sys
+import tempfile
 import time
 import unittest
 from pathlib import Path
@@ -17,7 +18,7 @@ from test_unseen import left_with, processes_with
 
 sys.path[:0] = [str(ROOT / "tools"), str(ROOT / "tests")]
 
-from mkcheck_record import places, stopping  # noqa: E402
+from mkcheck_record import folders, places, stopping  # noqa: E402
 from mkcheck_record.folders import scratch_folder  # noqa: E402
 from mkcheck_record.places import Place  # noqa: E402
 from mkcheck_record.versions import Store  # noqa: E402
@@ -119,6 +120,35 @@ class ScratchFolderTest(ProjectTest):
             (Path(scratch) / "d" / "a").touch()
             (Path(scratch) / "d").chmod(0o500)
         self.assertFalse(os.path.exists(scratch))
+
+    def left_after_signals(self, name: str, early: bool) -> list[str]:
+        """What is left of a folder where a function gets a signal each time, at its begin if
+        `early`, else at its end.
+        """
+        module = {"mkdtemp": tempfile, "remove": folders}[name]
+        function = getattr(module, name)
+
+        def signalled(*words: str, **options: str) -> object:
+            """The function, and a signal."""
+            if early:
+                signal.raise_signal(signal.SIGTERM)
+            found = function(*words, **options)
+            signal.raise_signal(signal.SIGTERM)
+            return found
+
+        take_signals()
+        stopping.catch_signals()
+        with mock.patch.object(module, name, signalled), self.assertRaises(stopping.Stopped):
+            with folders.temporary_folder(str(self.scratch)) as scratch:
+                (Path(scratch) / "a").touch()
+        return [path.name for path in self.scratch.iterdir() if path != self.folder]
+
+    def test_signals_while_it_is_made_or_removed(self) -> None:
+        for number in stopping.SIGNALS:
+            self.addCleanup(signal.signal, number, signal.getsignal(number))
+        for name in ("mkdtemp", "remove"):
+            for early in (True, False):
+                self.assertEqual(self.left_after_signals(name, early), [], (name, early))
 
 
 @traced

@@ -5,14 +5,13 @@ from __future__ import annotations
 import shlex
 import shutil
 import stat
-import tempfile
 from dataclasses import dataclass
 from pathlib import Path
 
 from . import places, tracing
 from .accesses import Accesses, Follower
 from .faults import Fault, RecipeFault
-from .folders import Naming, plain_folder
+from .folders import Naming, plain_folder, temporary_folder
 from .footprints import Footprint, Warn, footprint_of
 from .graphs import Recipe
 from .recording import Recorded, Workshop
@@ -61,7 +60,7 @@ def compare_make(
     tree = shop.set_up()
     # make takes the name of a shell apart at blanks and the like.
     above = plain_folder(shop.scratch)
-    with tempfile.TemporaryDirectory(prefix="mkcheck-record-", dir=above) as traces:
+    with temporary_folder(above) as traces:
         made = run_make(shop, words, traces, shell_of(recorded))
         naming = Naming(shop.place.seen, fixed)
         commands = assigned([footprint.recipe for footprint in recorded.footprints], made, warn)

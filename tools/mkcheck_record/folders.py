@@ -14,6 +14,7 @@ import time
 from collections.abc import Iterator
 from dataclasses import dataclass, field
 
+from . import stopping
 from .faults import Fault
 
 # Where programs and libraries of the system lie.
@@ -276,16 +277,36 @@ def scratch_folder(project: str) -> Iterator[str]:
         raise Fault(
             "there is no folder for temporary files outside the project's: set TMPDIR to one"
         )
-    scratch = os.path.realpath(tempfile.mkdtemp(prefix="mkcheck-record-", dir=above))
+    with temporary_folder(above) as scratch:
+        yield os.path.realpath(scratch)
+
+
+@contextlib.contextmanager
+def temporary_folder(above: str | None = None) -> Iterator[str]:
+    """A new folder, that is gone at the end, also where a signal comes while it is made or removed.
+    """
+    made: list[str] = []
     try:
-        yield scratch
+        with stopping.held():
+            made.append(tempfile.mkdtemp(prefix="mkcheck-record-", dir=above))
+        yield made[0]
     finally:
-        # What was killed just now may still end a call that makes a file.
+        try:
+            remove_all(made)
+        finally:
+            # A signal may have cut that short, and a second one does nothing.
+            remove_all(made)
+
+
+def remove_all(folders: list[str]) -> None:
+    """Takes folders away. What was killed just now may still end a call that makes a file."""
+    for folder in folders:
         for _ in range(TRIES):
-            remove(scratch)
-            if not os.path.lexists(scratch):
+            if not os.path.lexists(folder):
                 break
-            time.sleep(MOMENT)
+            remove(folder)
+            if os.path.lexists(folder):
+                time.sleep(MOMENT)
 
 
 def is_outside(place: str, project: str) -> bool:

@@ -25,6 +25,7 @@ from pathlib import Path
 from . import stopping
 from .calls import unescaped
 from .faults import Fault
+from .folders import temporary_folder
 
 # Folders for temporary files, which stay open, and what no file system of a disk holds.
 TEMPORARY = ("/tmp", "/var/tmp")
@@ -89,7 +90,7 @@ def namespace() -> Namespace | None:
 
 def works(way: Namespace, front: str = "") -> bool:
     """Whether a namespace can be made so, and a file is seen over the mount."""
-    with tempfile.TemporaryDirectory(prefix="mkcheck-record-") as scratch:
+    with temporary_folder() as scratch:
         folder, seen = Path(scratch, "folder"), Path(scratch, "seen")
         folder.mkdir()
         seen.mkdir()
