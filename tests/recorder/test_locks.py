@@ -81,12 +81,13 @@ class LockTest(ProjectTest):
 
     def test_a_lock_for_which_a_recipe_does_not_wait(self) -> None:
         told = (
-            "the recipe of a locks . without waiting (flock -n), and that of b locks it too: with"
-            " several jobs the lock may be taken, and a fails or is made otherwise; let it wait for"
-            " the lock"
+            "the recipe of a locks . and doesn't wait, or not for long, till it may (flock -n,"
+            " flock -w), and that of b locks it too: with several jobs a may fail or be made"
+            " otherwise; let it wait for the lock"
         )
-        self.lock("flock -n . sh -c '", "' || :")
-        self.assertEqual(self.recorded().warnings(), [told])
+        for word in ("-n", "-w 9"):
+            self.lock(f"flock {word} . sh -c '", "' || :")
+            self.assertEqual(self.recorded().warnings(), [told])
         # One of them needs the other, or only one doesn't wait.
         self.lock("flock -n . sh -c '", "' || :", MAKEFILE.replace("b: y", "b: y a"))
         self.assertEqual(self.recorded().warnings(), [])

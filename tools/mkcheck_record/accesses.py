@@ -117,7 +117,7 @@ class Accesses:
     """Files and folders that it locked, by flock."""
 
     tried: dict[str, None] = field(default_factory=dict)
-    """Those of them for whose lock it wouldn't have waited."""
+    """Those of them for whose lock it wouldn't have waited, or only for a while."""
 
     def wrote(self, path: str) -> bool:
         """Whether the recipe wrote this file before, or moved a folder there that holds it."""
@@ -266,6 +266,8 @@ class Follower:
     standings: dict[int, Standing] = field(default_factory=dict)
     makers: dict[int, tuple[str, str]] = field(default_factory=dict)
     at_work: set[int] = field(default_factory=set)
+    timed: set[int] = field(default_factory=set)
+    """Processes that set a timer, by which they may give up to wait."""
 
     def follow(self, calls: Iterable[Call]) -> None:
         """Takes the calls, in their order."""
@@ -629,8 +631,11 @@ class Follower:
         path = self.descriptor(call.arguments[0])
         if path is not None and "LOCK_UN" not in call.arguments[1]:
             self.accesses.locked.setdefault(path)
-            if "LOCK_NB" in call.arguments[1]:
+            if "LOCK_NB" in call.arguments[1] or call.process in self.timed:
                 self.accesses.tried.setdefault(path)
+
+    def on_alarm(self, call: Call) -> None:
+        self.timed.add(call.process)
 
     def on_chroot(self, call: Call) -> None:
         self.accesses.strange.setdefault(call.name)

@@ -29,7 +29,7 @@ TRACED = (
     *("unlink", "unlinkat", "mknod", "mknodat", "mkdir", "mkdirat", "rmdir"),
     *("getdents", "getdents64"),
     *("truncate", "truncate64", "utime", "utimes", "utimensat", "utimensat_time64", "futimesat"),
-    "flock",
+    *("flock", "alarm", "setitimer", "timer_settime"),
     *("chmod", "fchmod", "fchmodat", "fchmodat2", "chown", "lchown", "fchown", "fchownat"),
     *("chown32", "lchown32", "fchown32"),
     *("setxattr", "lsetxattr", "fsetxattr", "removexattr", "lremovexattr", "fremovexattr"),
@@ -114,6 +114,8 @@ SAME = {
     "umount2": "chroot",
     "fsmount": "chroot",
     "open_tree_attr": "open_tree",
+    "setitimer": "alarm",
+    "timer_settime": "alarm",
 }
 
 LINE = re.compile(r"(\d+) +(.*)")

@@ -81,7 +81,7 @@ class Footprint:
     """Files and folders that it locked, named as those of `scratch`; `.` is the project's own."""
 
     tried: frozenset[str] = frozenset()
-    """Those of them for whose lock it wouldn't have waited."""
+    """Those of them for whose lock it wouldn't have waited, or only for a while."""
 
     def record(self) -> dict[str, object]:
         """The record of format 1."""

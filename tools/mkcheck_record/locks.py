@@ -39,7 +39,7 @@ def warn_of_locks(footprints: Sequence[Footprint], ancestors: Ancestors, warn: W
         pair = next((pair for pair in pairs if not ancestors.in_order(*pair)), None)
         if pair is not None:
             warn(
-                f"the recipe of {pair[0]} locks {shown(name)} without waiting (flock -n), and that"
-                f" of {pair[1]} locks it too: with several jobs the lock may be taken, and"
-                f" {pair[0]} fails or is made otherwise; let it wait for the lock"
+                f"the recipe of {pair[0]} locks {shown(name)} and doesn't wait, or not for long,"
+                f" till it may (flock -n, flock -w), and that of {pair[1]} locks it too: with"
+                f" several jobs {pair[0]} may fail or be made otherwise; let it wait for the lock"
             )
