@@ -1332,7 +1332,6 @@ class GlanceTest(Refusals):
         fixed = ("--fixed", os.path.dirname(os.path.dirname(python)))
         for way in (
             "if test -s e; then echo 1; else echo 2; fi > a; cat x >> a",
-            "if test e -ot x; then echo 1; else echo 2; fi > a; cat x >> a",
             f"{python} -IB p > a; cat x >> a",
         ):
             rules = f"a: x p\n\t{way}\n{maker}"
@@ -1342,6 +1341,18 @@ class GlanceTest(Refusals):
             outcome = self.of("all: a\n" + rules.replace("x p", "x p e"), None, *fixed)
             self.assertIn("e", outcome.own("a")[0], way)
             self.assertEqual(self.check()[0][:3], "yes", way)
+
+    def test_stamps_of_files_of_recipes_before(self) -> None:
+        """After an edit of x it is newer than e; in a clean build it is older."""
+        way = "if test e -ot x; then echo 1; else echo 2; fi > a; cat x >> a"
+        front = "the recipe of a, run where the files that it reads have their stamps in another"
+        for rules in ("all: e a\na: x\n", "all: a\na: x e\n"):
+            said = self.refused(f"{rules}\t{way}\ne:\n\techo > e\n", {"x": "1\n"})
+            self.assertIn(f"mkcheck-record: {front} order, writes a with other contents", said)
+            self.assertIn('\n\tline 1 was "2"\n\tline 1 is  "1"\n', said)
+        # As long as e is made from x, it is never older.
+        outcome = self.of(f"all: a\na: x e\n\t{way}\ne: x\n\techo > e\n")
+        self.assertEqual((outcome.warnings(), self.check()[0][:3]), ([], "yes"))
 
     def test_sources(self) -> None:
         self.write({"x": "1\n", "y.log": "2\n", "z.log": "", "e": ""})

@@ -200,7 +200,9 @@ class Replay:
                     met = Met(seen=frozenset(seen))
                     if outcome.passed:
                         outcome, more = self.glancing(tried, place, folders, outcome)
-                        met = Met(seen=met.seen | more)
+                        met = Met(seen=met.seen | more.keys())
+                        if more:
+                            outcome = self.ordered(trial, {**seen, **more}, place, folders, outcome)
                     if late:
                         self.furnish(tried, folder, folders)
                         met = replace(self.beside(tried, place, late), seen=met.seen)
@@ -327,7 +329,7 @@ class Replay:
 
     def glancing(
         self, trial: Trial, place: Place, folders: frozenset[str], outcome: Outcome
-    ) -> tuple[Outcome, frozenset[str]]:
+    ) -> tuple[Outcome, Mapping[str, Version]]:
         """The outcome of a recipe that passed, when it has run beside other versions of the files
         at which it only looks; and those of them that recipes made, if it depends on these.
 
@@ -342,13 +344,28 @@ class Replay:
                 apart = self.looking(trial, place, folders, made, given, newest)
                 made = {} if apart.passed else made
             if made:
-                return outcome, frozenset(made)
-            return replace(found, glanced=tuple(sorted(given))), frozenset()
+                return outcome, made
+            return replace(found, glanced=tuple(sorted(given))), {}
         near = {*trial.before, *made}
         oldest = frozenset(name for name in made if not self.needs_any(name, near - {name}))
         if oldest and not self.looking(trial, place, folders, made, {}, oldest).passed:
-            return outcome, frozenset(made)
-        return outcome, frozenset()
+            return outcome, made
+        return outcome, {}
+
+    def ordered(
+        self,
+        trial: Trial,
+        seen: Mapping[str, Version],
+        place: Place,
+        folders: frozenset[str],
+        outcome: Outcome,
+    ) -> Outcome:
+        """The outcome of a recipe that passed, when files at which it only looks count as read: it
+        may go by their stamps, and these come in another order too.
+        """
+        tried = with_later_stamps(self.world, trial.with_reads(seen))
+        found = self.tried(tried, place, folders)
+        return found if found.run == ORDERED else outcome
 
     def needs_any(self, name: str, others: Iterable[str]) -> bool:
         """Whether one of some files is always made before a file that recipes make."""
