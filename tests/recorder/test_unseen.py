@@ -1066,6 +1066,24 @@ class ProcessTest(Refusals):
             outcome = self.of(f"all: a b\n{rules}".replace(f"p {address}", "p 0"), None, *fixed)
             self.assertEqual(outcome.warnings(), [])
 
+    def test_all_processes(self) -> None:
+        """By ps and pkill a recipe may find processes of other recipes, and end them."""
+        for way, told, they in (
+            ("", "the recipe of a looks", "it finds"),
+            ("ls /proc > u; rm u; ", "the recipes of a, b look", "they find"),
+        ):
+            rules = f"a: x\n\tls /proc > t; rm t; cp x a\nb: x\n\t{way}cp x b\n"
+            said = (
+                f"{told} through all processes, as ps and pkill do: with several jobs {they} those"
+                " of other recipes too; go by the numbers of the recipe's own processes, or let no"
+                " other recipe run beside it"
+            )
+            self.assertEqual(self.of(f"all: a b\n{rules}", {"x": ""}).warnings(), [said])
+            ordered = rules.replace("b: x", "b: x a")
+            self.assertEqual(self.of(f"all: b\n{ordered}").warnings(), [])
+        own = "all: a b\na b: x\n\tkill -0 $$$$; cat /proc/self/stat > $@.t; rm $@.t; cp x $@\n"
+        self.assertEqual(self.of(own).warnings(), [])
+
     def test_another_root_of_all_files(self) -> None:
         if (
             subprocess.run(

@@ -19,6 +19,8 @@ TOLD_AT_MOST = 10
 # Stands for an option, till the files are known that need it.
 ANY_PREFIX = "--fixed PREFIX"
 TWINS = "which are one file: mkcheck takes them for two, so let rules and recipes use one name"
+# The folder that names all processes.
+PROCESSES = "/proc"
 LOCK_CURE = "lock a folder in place of the file (flock . COMMAND, or exec 9<. and flock 9)"
 # Some file systems keep stamps by two seconds.
 COARSE = 2_500_000_000
@@ -76,6 +78,9 @@ class Footprint:
 
     ports: frozenset[str] = frozenset()
     """Addresses, other than files, at which its processes serve."""
+
+    processes: bool = False
+    """Whether it looked through all processes."""
 
     locked: frozenset[str] = frozenset()
     """Files and folders that it locked, named as those of `scratch`; `.` is the project's own."""
@@ -175,6 +180,7 @@ def footprint_of(recipe: Recipe, accesses: Accesses, naming: Naming, warn: Warn)
         frozenset(named(folders_made(accesses), naming)),
         frozenset(listed_in(accesses, naming)),
         ports=frozenset(accesses.ports),
+        processes=PROCESSES in accesses.listed,
         locked=frozenset(locked_name(path, naming) for path in accesses.locked),
         tried=frozenset(locked_name(path, naming) for path in accesses.tried),
     )

@@ -135,6 +135,7 @@ def with_shared(
     if late is not None:
         warn_of_untested(footprints, late, warn)
     warn_of_ports(footprints, makers.ancestors, warn)
+    warn_of_processes(footprints, makers.ancestors, warn)
     warn_of_locks(footprints, makers.ancestors, warn)
     found = [with_sought(footprint, makers, warn) for footprint in footprints]
     return [with_modes(with_own(footprint, uses, warn), uses, warn) for footprint in found]
@@ -207,6 +208,28 @@ def warn_of_ports(footprints: list[Footprint], ancestors: Ancestors, warn: Warn)
                     " take other addresses"
                 )
             others.append(target)
+
+
+def warn_of_processes(footprints: list[Footprint], ancestors: Ancestors, warn: Warn) -> None:
+    """Warns of recipes that look through all processes while another recipe may run."""
+    targets = [footprint.recipe.target for footprint in footprints]
+    found = [
+        footprint.recipe.target
+        for footprint in footprints
+        if footprint.processes
+        and not all(
+            one == footprint.recipe.target or ancestors.in_order(one, footprint.recipe.target)
+            for one in targets
+        )
+    ]
+    if found:
+        who = f"the recipe of {found[0]} looks" if len(found) == 1 else ""
+        warn(
+            f"{who or f'the recipes of {listed(found)} look'} through all processes, as ps and"
+            f" pkill do: with several jobs {'it finds' if who else 'they find'} those of other"
+            " recipes too; go by the numbers of the recipe's own processes, or let no other recipe"
+            " run beside it"
+        )
 
 
 def with_matches(footprints: list[Footprint]) -> list[Footprint]:

@@ -162,6 +162,7 @@ class Writer:
             "taken": sorted(own.taken),
             "seen": sorted(own.seen),
             "ports": sorted(own.ports),
+            "processes": own.processes,
             "locked": sorted(own.locked),
             "tried": sorted(own.tried),
             "warnings": list(entry.warnings),
@@ -229,6 +230,7 @@ class Reader:
             taken=frozenset(texts(entry["taken"])),
             seen=frozenset(texts(entry["seen"])),
             ports=frozenset(texts(entry["ports"])),
+            processes=entry["processes"] is True,
             locked=frozenset(texts(entry["locked"])),
             tried=frozenset(texts(entry["tried"])),
         )
