@@ -5,10 +5,13 @@ from __future__ import annotations
 import os
 import shutil
 import sys
+import tempfile
 import time
 import unittest
+from pathlib import Path
 
-from project import ROOT, ProjectTest, traced
+from project import ROOT, Environment, ProjectTest, traced
+from project import Outcome as Recording
 
 sys.path.insert(0, str(ROOT / "tools"))
 
@@ -34,6 +37,24 @@ FRONTS = {
     DAMAGED: "where its outputs are there with other bytes and later stamps",
     ORDERED: "where the files that it reads have their stamps in another order",
 }
+
+
+MEMORY = "/dev/shm"
+
+
+def lists_by_age(above: str) -> bool:
+    """Whether a file system lists files in the order in which they were made, or the reverse of it,
+    and programs may start there.
+    """
+    if not os.access(above, os.W_OK) or os.statvfs(above).f_flag & os.ST_NOEXEC:
+        return False
+    found = []
+    for names in ("mczak", "kazcm"):
+        with tempfile.TemporaryDirectory(dir=above) as folder:
+            for name in names:
+                Path(folder, name).touch()
+            found.append(os.listdir(folder))
+    return found[0] == found[1][::-1]
 
 
 class ReplayTest(ProjectTest):
@@ -325,6 +346,50 @@ class OrderedTest(ReplayTest):
             "q: x y c\n\tcat x y c > q; test c -nt x; test ! c -nt y\nc: y\n\tcp -p y c\n",
             {"x": "1\n", "y": "2\n"},
         )
+
+
+@traced
+@namespaces
+@unittest.skipUnless(lists_by_age(MEMORY), f"{MEMORY} lists files by their names, or isn't there")
+class ListedTest(ReplayTest):
+    """Many file systems list a folder in the order in which its files were made."""
+
+    listing = "cat d/a d/b > out; find d -type f > l; cat l >> out; rm l"
+    rules = "d/a: x\n\tcp x d/a\nd/b: y\n\tcp y d/b\n"
+    files = {"x": "1\n", "y": "2\n"}
+
+    def setUp(self) -> None:
+        super().setUp()
+        (self.folder / "d").mkdir()
+        self.room = tempfile.mkdtemp(prefix="recorder-test-", dir=MEMORY)
+        self.addCleanup(shutil.rmtree, self.room)
+
+    def record_plainly(self, *words: str, environment: Environment | None = None) -> Recording:
+        return super().record_plainly(*words, environment={"TMPDIR": self.room})
+
+    def test_files_of_two_recipes(self) -> None:
+        makefile = f"out: d/a d/b\n\t{self.listing}\n{self.rules}"
+        said = self.refused(makefile, "writes out with other contents", BARE, self.files)
+        self.assertIn(
+            "\n\tit lists d, whose files come in another order in each build: let it sort their"
+            " names\n",
+            said,
+        )
+        self.passes(makefile.replace("-type f >", "-type f | sort >"))
+
+    def test_files_that_are_made_in_one_order(self) -> None:
+        """One needs the other, or one recipe makes both."""
+        makefile = f"out: d/a d/b\n\t{self.listing}\n{self.rules}".replace("d/b: y", "d/b: y d/a")
+        self.passes(makefile, self.files)
+        self.passes(f"out: d/b x\n\t{self.listing}\nd/b: y\n\tcp y d/a; cp y d/b\n")
+
+    def test_folders_of_two_recipes(self) -> None:
+        listing = "cat d/p/a d/q/b > out; find d -type d > l; cat l >> out; rm l"
+        rules = "d/p/a: x\n\tmkdir -p d/p; cp x d/p/a\n"
+        rules += "d/q/b: y\n\tmkdir -p d/q; cp y d/q/b\n"
+        makefile = f"out: d/p/a d/q/b\n\t{listing}\n{rules}"
+        self.refused(makefile, "writes out with other contents", BARE, self.files)
+        self.passes(makefile.replace("-type d >", "-type d | sort >"))
 
 
 @traced

@@ -62,6 +62,21 @@ def in_other_order(
     return dict(zip(order, sorted(stamps[name] for name in order)))
 
 
+def other_order(
+    names: Sequence[str], makers: Mapping[str, Sequence[str]], ancestors: Ancestors
+) -> list[str]:
+    """Files or folders in another order than that in which recipes made them, as several jobs or a
+    later make may have it. What the same recipes made keeps its order.
+    """
+    groups: dict[tuple[str, ...], list[str]] = {}
+    for name in names:
+        groups.setdefault(tuple(makers.get(name, ())), []).append(name)
+    firsts = {those[0]: number for number, those in enumerate(groups.values())}
+    those_of = {those[0]: those for those in groups.values()}
+    new = in_other_order(firsts, {name: makers.get(name, ()) for name in firsts}, ancestors)
+    return [name for first in sorted(firsts, key=new.__getitem__) for name in those_of[first]]
+
+
 def rank(
     name: str, stamps: Mapping[str, int], makers: Mapping[str, Sequence[str]]
 ) -> tuple[bool, int, str]:

@@ -127,10 +127,13 @@ class Replay:
     writers: Mapping[str, list[str]] = field(default_factory=dict)
     once: frozenset[str] = frozenset()
     _stopped: threading.Event = field(default_factory=threading.Event)
+    _places: Mapping[str, int] = field(default_factory=dict)
+    """Of each file that recipes made its place in the order in which they made it."""
 
     def run(self, trials: list[Trial]) -> list[Outcome]:
         """Replays these recipes, several at a time where that can be. Returns outcomes in order."""
         os.makedirs(self.scratch, exist_ok=True)
+        self._places = {name: place for place, name in enumerate(self.world.history)}
         jobs = processors()
         if places.namespace() is None:
             jobs = 1
@@ -528,16 +531,28 @@ class Replay:
         return ""
 
     def furnish(self, trial: Trial, folder: str, folders: frozenset[str]) -> None:
-        """Makes the folder, with what a bare run needs."""
+        """Makes the folder, with what a bare run needs.
+
+        What recipes made comes in another order than in the recording, since many file systems list
+        a folder in the order in which its files were made.
+        """
         os.mkdir(folder)
-        for name in sorted({*self.folders_of(trial), *folders}):
+        wanted = {*self.folders_of(trial), *folders}
+        made = [name for name in self.world.makers if name in wanted]
+        for name in [
+            *sorted(wanted.difference(made)),
+            *orders.other_order(made, self.world.makers, self.ancestors),
+        ]:
             os.makedirs(os.path.join(folder, name), exist_ok=True)
         for name, goal in trial.links.items():
             if name not in trial.after:
                 os.symlink(goal, os.path.join(folder, name))
         twins: dict[tuple[int, int], str] = {}
-        for name, version in trial.before.items():
-            self.lay(name, version, folder, twins)
+        made = [name for name, version in trial.before.items() if version != GIVEN]
+        made.sort(key=lambda name: self._places.get(name, 0))
+        given = [name for name in trial.before if trial.before[name] == GIVEN]
+        for name in [*given, *orders.other_order(made, self.writers, self.ancestors)]:
+            self.lay(name, trial.before[name], folder, twins)
         self.liken(trial, folder)
 
     def liken(self, trial: Trial, folder: str) -> None:

@@ -3,6 +3,7 @@
 from __future__ import annotations
 
 import os
+from collections import Counter
 from collections.abc import Iterable, Mapping
 from dataclasses import dataclass, field
 
@@ -14,7 +15,7 @@ from .modules import CURE as MODULES_CURE
 from .modules import folder_of_modules
 from .refusals import listed
 from .replaying import AGAIN, BARE, DAMAGED, LOOKED, ORDERED, Outcome
-from .worlds import Trial
+from .worlds import GIVEN, Trial
 
 SHOWN_AT_MOST = 10
 
@@ -193,12 +194,25 @@ def likely_causes(outcome: Outcome, makers: Mapping[str, list[str]]) -> list[str
                 f"the folder {name} is made by the recipe of {others[0]}, which needn't run"
                 f" before: let this recipe make it too (mkdir -p {name})"
             )
+    said += said_of_orders(trial) if not outcome.failed else []
     gone = [name for name, version in trial.after.items() if version is None]
     return said + [
         f"it takes away {name}, which it neither made nor read: let it do without (rm -f {name})"
         for name in gone[:SHOWN_AT_MOST]
         if name not in trial.before
     ]
+
+
+def said_of_orders(trial: Trial) -> list[str]:
+    """What is said of a recipe that lists a folder in which it reads several files of recipes: many
+    file systems list these in the order in which they were made."""
+    made = [name for name, version in trial.before.items() if version != GIVEN]
+    counts = Counter(os.path.dirname(name) or "." for name in made)
+    return [
+        f"it lists {name}, whose files come in another order in each build: let it sort their names"
+        for name in trial.listed
+        if counts[name] > 1
+    ][:1]
 
 
 def said_of_modules(trial: Trial) -> list[str]:
