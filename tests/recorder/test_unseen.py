@@ -1389,6 +1389,19 @@ class GlanceTest(Refusals):
             outcome = self.of(f"a: x y.log\n\t{way}\n", None, "--trust", "a")
             self.assertIn("and not shown to be right: the recipe of a, run where", outcome.errors)
 
+    def test_sources_that_an_edit_of_others_leaves_behind(self) -> None:
+        """The recording finds e newer than x. An edit of x turns that, and one of e turns it back,
+        and then a isn't made again."""
+        self.write({"x": "1\n", "e": "2\n"})
+        for number, name in enumerate(("x", "e")):
+            os.utime(self.folder / name, (1e9 + number, 1e9 + number))
+        way = "if test x -nt e; then echo 1; else echo 2; fi > a; cat x >> a"
+        said = self.refused(f"a: x\n\t{way}\n")
+        self.assertIn("where the files at which it only looks have other sizes and stamps, ", said)
+        self.assertIn("\n\tit looks at e\n", said)
+        outcome = self.of(f"a: x e\n\t{way}; cat e >> a\n")
+        self.assertEqual((outcome.warnings(), self.check()[0][:3]), ([], "yes"))
+
     def test_files_that_are_always_older(self) -> None:
         """As javac asks whether a class is newer than its source."""
         rules = "o: c\n\tcp c o\np: o\n\tcp o p\n"

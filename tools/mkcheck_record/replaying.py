@@ -336,23 +336,24 @@ class Replay:
         """The outcome of a recipe that passed, when it has run beside other versions of the files
         at which it only looks; and those of them that recipes made, if it depends on these.
 
-        An edit makes a file the newest one, and another edit may leave a made file the oldest one.
-        What is always made before another file keeps its stamp, since that is never older.
+        An edit makes a file the newest one, and edits of others leave it the oldest one. What is
+        always made before another file is never newer, so it isn't made the newest one, and what is
+        made from another file isn't made the oldest one.
         """
         made, given = self.world.glanced(trial)
+        near = {*trial.before, *made}
+        oldest = frozenset(name for name in made if not self.needs_any(name, near - {name}))
         newest: frozenset[str] = frozenset()
-        found = self.looking(trial, place, folders, {**made, **given}, {}, newest)
-        if not found.passed:
+        for first in dict.fromkeys((newest, oldest.union(given))):
+            found = self.looking(trial, place, folders, {**made, **given}, {}, first)
+            if found.passed:
+                continue
             if given and made:
-                apart = self.looking(trial, place, folders, made, given, newest)
+                apart = self.looking(trial, place, folders, made, given, first)
                 made = {} if apart.passed else made
             if made:
                 return outcome, made
             return replace(found, glanced=tuple(sorted(given))), {}
-        near = {*trial.before, *made}
-        oldest = frozenset(name for name in made if not self.needs_any(name, near - {name}))
-        if oldest and not self.looking(trial, place, folders, made, {}, oldest).passed:
-            return outcome, made
         return outcome, {}
 
     def ordered(
@@ -408,11 +409,15 @@ class Replay:
             return Outcome(trial)
         self.furnish(trial, place.folder, folders)
         found = [(name, *self.world.material(name, version)) for name, version in others.items()]
-        found.sort(key=lambda one: (one[0] not in first, -one[2].stamp))
-        paths = [os.path.join(place.folder, name) for name in trial.before]
-        oldest = min(os.lstat(path).st_mtime_ns for path in paths) if paths else time.time_ns()
-        early, late = (stamp - APART * len(found) for stamp in (oldest, time.time_ns()))
+        # A source is never newer than what is made from it, so of the oldest ones it comes first.
+        later = {name for name in others if name not in first or others[name] != GIVEN}
+        found.sort(key=lambda one: (one[0] not in first, one[0] in later, -one[2].stamp))
         bound = self.bound(others, trial.before) - first
+        paths = [os.path.join(place.folder, name) for name in trial.before]
+        stamps = [os.lstat(path).st_mtime_ns for path in paths]
+        stamps += [full.stamp for name, _, full in found if name in bound]
+        oldest = min(stamps, default=time.time_ns())
+        early, late = (stamp - APART * len(found) for stamp in (oldest, time.time_ns()))
         with contextlib.suppress(OSError):
             for name in [*others, *same]:
                 os.makedirs(os.path.dirname(os.path.join(place.folder, name)), exist_ok=True)
