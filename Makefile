@@ -17,6 +17,7 @@ all: build
 # is newer than all sources stays as it is, also a proved one.
 build:
 	@python3 tools/quick.py bin/mkcheck
+	@python3 tools/zipapps.py bin
 
 # Proves the program, links it, and runs it once. rt looks by itself at what changed
 # since the last build, so this is always run and names no source.
@@ -24,6 +25,7 @@ proved:
 	cd crates/mkcheck && rt run -- --version
 	mkdir -p bin
 	cp -f crates/mkcheck/out/mkcheck bin/mkcheck
+	@python3 tools/zipapps.py bin
 
 # Shows the program on the examples. The lines with cmp compare its answers with the
 # stored ones, those with `if` its status with that of a no, which is 1. The second
@@ -71,19 +73,20 @@ growths: build
 
 # Tests the recorder on small projects, by strace and a compiler where these are there.
 recorder: build
-	@MKCHECK=bin/mkcheck python3 tests/recorder/run.py
+	@pytest-3 -q tests/recorder/test_places.py
+	@pytest-3 -q -n 4 tests/recorder --ignore tests/recorder/test_places.py
 
 # Tests the importer on small builds, by GNU make, ninja, cmake and strace where these are there.
 importer: build
-	@python3 tests/importer/run.py bin/mkcheck
+	@pytest-3 -q -n 4 tests/importer
 
 # Tests the report, by Graphviz, Chromium, strace and git where these are there.
 report: build
-	@python3 tests/report/run.py bin/mkcheck
+	@pytest-3 -q -n 4 tests/report
 
 # Records the examples anew, where strace and their compilers are there.
 realcheck: build
-	@MKCHECK=bin/mkcheck python3 tests/recorder/real.py
+	@MKCHECK=bin/mkcheck PYTHONPATH=tests python3 -m recorder.real
 
 # Imports real source packages of Debian, which it fetches, and compares with stored
 # counts. CHECKED has names of projects and options, such as --samples 20.
@@ -124,14 +127,7 @@ bench: proved
 # Installs the proved program, where it was built and is up to date, else the quick one.
 install: build
 	mkdir -p $(DESTDIR)$(PREFIX)/bin
-	cp -f bin/mkcheck tools/mkcheck-record tools/mkcheck-import $(DESTDIR)$(PREFIX)/bin
-	cp -f tools/mkcheck-report $(DESTDIR)$(PREFIX)/bin
-	mkdir -p $(DESTDIR)$(PREFIX)/lib/mkcheck/mkcheck_record
-	mkdir -p $(DESTDIR)$(PREFIX)/lib/mkcheck/mkcheck_import
-	mkdir -p $(DESTDIR)$(PREFIX)/lib/mkcheck/mkcheck_report
-	cp -f tools/mkcheck_record/*.py $(DESTDIR)$(PREFIX)/lib/mkcheck/mkcheck_record
-	cp -f tools/mkcheck_import/*.py $(DESTDIR)$(PREFIX)/lib/mkcheck/mkcheck_import
-	cp -f tools/mkcheck_report/*.py $(DESTDIR)$(PREFIX)/lib/mkcheck/mkcheck_report
+	cp -f bin/mkcheck bin/mkcheck-* $(DESTDIR)$(PREFIX)/bin
 	mkdir -p $(DESTDIR)$(PREFIX)/share/man/man1
 	cp -f man/*.1 $(DESTDIR)$(PREFIX)/share/man/man1
 	mkdir -p $(DESTDIR)$(PREFIX)/share/doc/mkcheck
@@ -140,6 +136,6 @@ install: build
 
 clean:
 	rm -rf bin bench/data bench/__pycache__ crates/*/out
-	rm -rf tools/*/__pycache__ tests/*/__pycache__
+	find tools tests -name __pycache__ -prune -exec rm -rf {} +
 	cd examples/wordcount && rm -f wordcount *.o counted.txt forgotten.mk
 	rm -f examples/figlet/mended.mk

@@ -3,15 +3,13 @@
 from __future__ import annotations
 
 import shutil
-import sys
 import tempfile
 import unittest
 from pathlib import Path
 
-HERE = Path(__file__).resolve().parent
-sys.path.insert(0, str(HERE.parent / "tools"))
+from mkcheck_tools.run import places
 
-from mkcheck_record import places  # noqa: E402
+HERE = Path(__file__).resolve().parent
 
 
 def folder_outside(test: unittest.TestCase) -> Path:

@@ -15,9 +15,9 @@ from collections.abc import Callable, Iterable
 from dataclasses import dataclass
 from pathlib import Path
 
-from mkcheck_import.builds import Build, Node
-from mkcheck_import.plain import names_of
-from mkcheck_import.saving import build_of_text
+from mkcheck_tools.imports.builds import Build, Node
+from mkcheck_tools.imports.plain import names_of
+from mkcheck_tools.imports.saving import build_of_text
 from trials import STREAMS, Tally, sample
 
 # How many seconds a writer waits for a reader that may never begin.

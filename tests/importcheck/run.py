@@ -27,11 +27,13 @@ HERE = Path(__file__).resolve().parent
 ROOT = HERE.parents[1]
 sys.path.insert(0, str(ROOT / "tools"))
 
-from orders import Orders  # It needs the modules of the importer.
+from orders import Orders  # noqa: E402  It needs the modules of the importer.
 
 PROJECTS = HERE / "projects.json"
 COUNTS = HERE / "counts.json"
 STEP = re.compile(r"mkcheck-import: (\w+) +([0-9.]+) s")
+# The statuses of answers: yes, no, and yes as far as judged.
+ANSWERED = (0, 1, 4)
 STEPS = ("read", "build", "translate", "graph", "record", "check")
 
 
@@ -64,7 +66,7 @@ class Outcome:
     @property
     def answer(self) -> str:
         """The answer in a word."""
-        return {0: "yes", 1: "no"}.get(self.status, "none")
+        return {0: "yes", 1: "no", 4: "yes as far"}.get(self.status, "none")
 
     def counts(self) -> dict[str, object]:
         """What is compared with the stored counts."""
@@ -135,7 +137,7 @@ def import_project(
     outcome = Outcome(str(project["name"]), str(project["kind"]))
     shutil.rmtree(output, ignore_errors=True)
     words = [*project.get("options", []), *options, *project.get("words", [])]
-    program = [sys.executable, str(ROOT / "tools" / "mkcheck-import")]
+    program = [sys.executable, str(ROOT / "bin" / "mkcheck-import")]
     begun = processor_time()
     done = subprocess.run(
         [*program, "-C", str(folder), "-o", str(output), *words],
@@ -148,7 +150,7 @@ def import_project(
     outcome.status = done.returncode
     outcome.seconds = {step: float(seconds) for step, seconds in STEP.findall(done.stderr)}
     (output.parent / f"{output.name}.txt").write_text(done.stderr + done.stdout)
-    if done.returncode not in (0, 1):
+    if done.returncode not in ANSWERED:
         lines = (done.stdout + done.stderr).strip().splitlines()
         outcome.trouble = " ".join(lines[-2:])[-300:]
     later = check(output, folder, "makefile")
@@ -230,9 +232,7 @@ def lay_configured(archive: Archive, folder: Path) -> None:
     shutil.copytree(archive.cache / "configured" / folder.name, folder, symlinks=True)
 
 
-def do_project(
-    project: dict[str, object], archive: Archive, asked: argparse.Namespace
-) -> Outcome:
+def do_project(project: dict[str, object], archive: Archive, asked: argparse.Namespace) -> Outcome:
     """All steps of one project."""
     name = str(project["name"])
     folder, output = archive.cache / "work" / name, archive.cache / "output" / name
@@ -242,7 +242,7 @@ def do_project(
         prepare(project, archive, folder, asked.again)
         imported = import_project(project, folder, output, asked.option)
         outcome = imported.outcome
-        if outcome.status in (0, 1) and asked.samples:
+        if outcome.status in ANSWERED and asked.samples:
             try_project(imported, asked.samples)
             try_orders(imported, asked.samples, archive)
     except (FetchFault, RuntimeError, OSError, ValueError) as fault:

@@ -15,7 +15,7 @@ from dataclasses import dataclass, field
 from pathlib import Path
 
 ROOT = Path(__file__).resolve().parents[2]
-IMPORTER = ROOT / "tools" / "mkcheck-import"
+IMPORTER = ROOT / "bin" / "mkcheck-import"
 MKCHECK = os.path.abspath(os.environ.get("MKCHECK", ROOT / "bin" / "mkcheck"))
 SYSTEM = ("/usr/", "/lib/", "/lib64/", "/bin/", "/etc/", "/opt/")
 OF_MAKE = ("MAKEFLAGS", "MAKELEVEL", "MFLAGS", "GNUMAKEFLAGS")
@@ -114,7 +114,9 @@ class Answer:
 def without_front(text: str) -> str:
     """A makefile without the lines that stand in each."""
     lines = text.splitlines()
-    return "".join(f"{line}\n" for line in lines if not line.startswith(("#", ".SUFFIXES:")))
+    return "".join(
+        f"{line}\n" for line in lines if not line.startswith(("#", ".POSIX:", ".SUFFIXES:"))
+    )
 
 
 class MakeFolderTest(unittest.TestCase):

@@ -7,21 +7,18 @@ import os
 import re
 import shutil
 import subprocess
-import sys
 import tempfile
 import time
 import unittest
 from dataclasses import dataclass
 from pathlib import Path
 
+from mkcheck_tools.imports.builds import Build
+from mkcheck_tools.imports.ninja import NinjaBuild, read_ninja
+from mkcheck_tools.run.places import Place
+
 ROOT = Path(__file__).resolve().parents[2]
-sys.path.insert(0, str(ROOT / "tools"))
-
-from mkcheck_import.builds import Build  # noqa: E402
-from mkcheck_import.ninja import NinjaBuild, read_ninja  # noqa: E402
-from mkcheck_record.places import Place  # noqa: E402
-
-IMPORTER = ROOT / "tools" / "mkcheck-import"
+IMPORTER = ROOT / "bin" / "mkcheck-import"
 MKCHECK = os.path.abspath(os.environ.get("MKCHECK", ROOT / "bin" / "mkcheck"))
 ENVIRONMENT = {
     **{name: value for name, value in os.environ.items() if not name.startswith("MAKE")},
@@ -162,7 +159,11 @@ class NinjaFolderTest(unittest.TestCase):
         records = json.loads((output / "footprint.json").read_text())["records"]
         log = (output / "import.log").read_text().splitlines()
         text = (output / ("makefile.first" if has_first else "makefile")).read_text()
-        lines = [line for line in text.splitlines() if not line.startswith(("#", ".SUFFIXES:"))]
+        lines = [
+            line
+            for line in text.splitlines()
+            if not line.startswith(("#", ".POSIX:", ".SUFFIXES:"))
+        ]
         problems = done.stdout.partition("Not judged:\n")[2].partition("\n\n")[0].splitlines()
         answer = Answer(
             done.stdout,
@@ -173,7 +174,9 @@ class NinjaFolderTest(unittest.TestCase):
             [line.removeprefix("note: ") for line in log if line.startswith("note: ")],
             {record["target"]: record["writes"] for record in records},
         )
-        expected = 2 if answer.problems else 1 if answer.findings else 0
+        expected = 1 if answer.findings else 4 if answer.problems else 0
+        if answer.text.startswith("no answer: no recipe could be judged"):
+            expected = 2
         self.assertEqual(done.returncode, expected, said)
         return answer
 

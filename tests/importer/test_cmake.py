@@ -6,7 +6,7 @@ import shutil
 import subprocess
 import unittest
 
-from ninja_folder import NinjaFolderTest, can_judge
+from importer.ninja_folder import NinjaFolderTest, can_judge
 
 LISTS = """cmake_minimum_required(VERSION 3.13)
 project(small C)

@@ -2,10 +2,9 @@
 
 from __future__ import annotations
 
-from ninja_folder import NinjaFolderTest
-
-from mkcheck_import.configured import configured_files
-from mkcheck_record.faults import Fault
+from importer.ninja_folder import NinjaFolderTest
+from mkcheck_tools.faults import Fault
+from mkcheck_tools.imports.configured import configured_files
 
 CMAKE = "# CMAKE generated file: DO NOT EDIT!\n"
 STATUS = 'config_files=" Makefile lib/Makefile po/Makefile.in t.sh"\nconfig_headers=" config.h"\n'

@@ -2,10 +2,9 @@
 
 from __future__ import annotations
 
-from ninja_folder import NinjaFolderTest, has_ninja
-
-from mkcheck_import.depfiles import DepfileFault, read_depfile
-from mkcheck_import.ninja_files import canonical
+from importer.ninja_folder import NinjaFolderTest, has_ninja
+from mkcheck_tools.imports.depfiles import DepfileFault, read_depfile
+from mkcheck_tools.imports.ninja_files import canonical
 
 # The text of a dependency file of `out`, and the prerequisites that it names.
 TEXTS: dict[str, list[str]] = {

@@ -2,10 +2,9 @@
 
 from __future__ import annotations
 
-from ninja_folder import NinjaFolderTest, has_ninja
-
-from mkcheck_import.ninja_dyndeps import Addition, read_dyndeps
-from mkcheck_import.ninja_text import NinjaFault
+from importer.ninja_folder import NinjaFolderTest, has_ninja
+from mkcheck_tools.imports.ninja_dyndeps import Addition, read_dyndeps
+from mkcheck_tools.imports.ninja_text import NinjaFault
 
 VERSION = "ninja_dyndep_version = 1\n"
 ACCEPTED: dict[str, Addition] = {

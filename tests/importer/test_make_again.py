@@ -2,18 +2,20 @@
 
 from __future__ import annotations
 
-from make_folder import MakeFolderTest, can_judge
+from importer.make_folder import MakeFolderTest, can_judge
 
 # What another folder makes is needed, so `make -n` fails, and the commands are those of a build.
-MAKEFILE = """all:
-	$(MAKE) all-recursive
-all-recursive:
-	for d in low . high; do test $$d = . && t=own || t=all; (cd $$d && $(MAKE) $$t) || exit 1; done
-own: a
-a: s
-	cp s a
-.PHONY: all all-recursive own
-"""
+MAKEFILE = (
+    "all:\n"
+    "\t$(MAKE) all-recursive\n"
+    "all-recursive:\n"
+    "\tfor d in low . high; do test $$d = . && t=own || t=all;"
+    " (cd $$d && $(MAKE) $$t) || exit 1; done\n"
+    "own: a\n"
+    "a: s\n"
+    "\tcp s a\n"
+    ".PHONY: all all-recursive own\n"
+)
 
 
 @can_judge

@@ -4,7 +4,7 @@ from __future__ import annotations
 
 import subprocess
 
-from make_folder import MKCHECK, MakeFolderTest, can_judge
+from importer.make_folder import MKCHECK, MakeFolderTest, can_judge
 
 
 @can_judge
@@ -229,9 +229,7 @@ class OrderTest(MakeFolderTest):
         answer = self.imported()
         self.assertEqual(
             answer.rules(),
-            "x: x@order a\n\tset +e; cat a tool > x\n"
-            "x@order: tool\n"
-            "tool: b\n\tcp b tool\n",
+            "x: x@order a\n\tset +e; cat a tool > x\n" "x@order: tool\n" "tool: b\n\tcp b tool\n",
         )
         self.assertEqual(answer.findings, ["no stale x tool"])
         self.assertEqual(answer.status, 1)
@@ -488,7 +486,8 @@ class SeveralTargetsTest(MakeFolderTest):
     def test_double_colon_file(self) -> None:
         self.write({"Makefile": "x:: a\n\tcp a x\nx:: b\n\tcp b x\n", "a": "a\n", "b": "b\n"})
         answer = self.imported()
-        self.assertEqual(answer.status, 2)
+        self.assertEqual((answer.status, len(answer.findings)), (1, 1))
+        self.assertIn("both write x", answer.output)
         self.assertIn("x: it is a file with several :: rules", answer.output)
 
     def test_intermediate(self) -> None:
@@ -510,7 +509,7 @@ class SeveralTargetsTest(MakeFolderTest):
     def test_archive_member(self) -> None:
         self.write({"Makefile": "l.a(m.o): m.o\n\tar rc l.a m.o\nm.o: m\n\tcp m m.o\n", "m": "m\n"})
         answer = self.imported()
-        self.assertEqual(answer.status, 2)
+        self.assertEqual(answer.status, 4)
         self.assertIn("a member of an archive as target isn't translated", answer.output)
 
 
@@ -535,7 +534,7 @@ class VaryingTest(MakeFolderTest):
         self.write(
             {
                 "Makefile": ".ONESHELL:\n"
-                "x: a\n\tname=one\n\tcat a b > $@\n\techo \"$$name\" >> $@\n"
+                'x: a\n\tname=one\n\tcat a b > $@\n\techo "$$name" >> $@\n'
                 "y: x\n\tcp x y\n.DEFAULT_GOAL = y\n",
                 "a": "a\n",
                 "b": "b\n",
@@ -545,7 +544,7 @@ class VaryingTest(MakeFolderTest):
         self.assertEqual(answer.findings, ["no stale x b"], answer.output + answer.errors)
         self.assertIn(
             "\texec /bin/sh -c \"$$(printf '%s\\n' name=one 'cat a b > x'"
-            " 'echo \"$$name\" >> x')\"\n",
+            ' \'echo "$$name" >> x\')"\n',
             answer.rules(),
         )
         self.try_answer(answer)
@@ -571,7 +570,7 @@ class VaryingTest(MakeFolderTest):
                 "Makefile": "export MODE = fast and\\$$loose\nunexport GONE\nPLAIN = no\n"
                 "all: x y z\n.PHONY: all\n"
                 "y: export EXTRA = of y\nz: MODE = of z\n"
-                "x y z: a\n\tset > /dev/null; echo \"$$MODE $$GONE $$PLAIN $$EXTRA\" > $@;"
+                'x y z: a\n\tset > /dev/null; echo "$$MODE $$GONE $$PLAIN $$EXTRA" > $@;'
                 " cat a >> $@\n",
                 "a": "a\n",
             }
@@ -589,7 +588,7 @@ class VaryingTest(MakeFolderTest):
         self.write(
             {
                 "Makefile": "%.o: export MODE = of objects\nall: x.o y\n.PHONY: all\n"
-                "x.o y: a\n\techo \"$$MODE\" > $@; cat a >> $@\n",
+                'x.o y: a\n\techo "$$MODE" > $@; cat a >> $@\n',
                 "a": "a\n",
             }
         )

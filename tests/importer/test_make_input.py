@@ -9,7 +9,7 @@ import subprocess
 import sys
 import time
 
-from make_folder import ENVIRONMENT, IMPORTER, MKCHECK, MakeFolderTest, can_judge, has_make
+from importer.make_folder import ENVIRONMENT, IMPORTER, MKCHECK, MakeFolderTest, can_judge, has_make
 
 
 @has_make
@@ -94,7 +94,7 @@ class RefusedTest(MakeFolderTest):
                 "a": "a\n",
             }
         )
-        self.assertEqual(self.imported("--only", "translate").status, 2)
+        self.assertEqual(self.imported("--only", "translate").status, 4)
         answer = self.imported("--only", "graph", keep=True)
         self.assertEqual(answer.status, 2)
         self.assertIn(
@@ -162,9 +162,7 @@ class StepsTest(MakeFolderTest):
     """Steps that are done one at a time."""
 
     def test_steps(self) -> None:
-        self.write(
-            {"Makefile": "x: a\n\tcat a b > x\n-include x.d\n", "a": "a\n", "b": "b\n"}
-        )
+        self.write({"Makefile": "x: a\n\tcat a b > x\n-include x.d\n", "a": "a\n", "b": "b\n"})
         self.assertEqual(self.imported("--only", "read").status, 0)
         answer = self.imported("--only", "check", keep=True)
         self.assertEqual(answer.status, 2)
@@ -187,7 +185,7 @@ class StepsTest(MakeFolderTest):
         reporter = [sys.executable, str(IMPORTER.with_name("mkcheck-report"))]
         for words, status, said in (
             ([MKCHECK, "repair", *files], 0, "\nx: b\n"),
-            ([MKCHECK, "check", "-w", *files], 1, "makefile:3: x reads b, but doesn't depend on"),
+            ([MKCHECK, "check", "-w", *files], 1, "makefile:4: x reads b, but doesn't depend on"),
             ([*reporter, *files, "-o", report], 1, "no, 1 finding in 1 group"),
         ):
             done = subprocess.run(
@@ -215,9 +213,9 @@ class StepsTest(MakeFolderTest):
         self.assertIn("strace isn't there", answer.errors)
         self.assertNotIn("build ", answer.errors)
         answer = self.imported("--only", "translate", "--build", environment=path)
-        self.assertEqual((answer.status, answer.rules().count("\t")), (2, 1), answer.errors)
+        self.assertEqual((answer.status, answer.rules().count("\t")), (4, 1), answer.errors)
         self.assertIn(
-            "not translated: whether commands depend on files that make reads beside its makefiles"
+            "not judged: whether commands depend on files that make reads beside its makefiles"
             " isn't known: strace isn't there",
             answer.output,
         )
@@ -226,12 +224,12 @@ class StepsTest(MakeFolderTest):
         """It may lack what make knows only after a build, so it is never a yes."""
         self.write({"Makefile": "x: a\n\tcp a x\n", "a": "a\n"})
         answer = self.imported("--only", "translate")
-        self.assertEqual(answer.status, 2)
+        self.assertEqual(answer.status, 4)
         self.assertIn("translated without a build", answer.output)
-        self.assertEqual(self.imported("--only", "record", keep=True).status, 2)
+        self.assertEqual(self.imported("--only", "record", keep=True).status, 4)
         answer = self.imported("--only", "check", keep=True)
-        self.assertEqual((answer.status, answer.findings), (2, []))
-        self.assertTrue(answer.output.startswith("no answer: nothing was found"), answer.output)
+        self.assertEqual((answer.status, answer.findings), (4, []))
+        self.assertTrue(answer.output.startswith("yes as far as judged (1 "), answer.output)
 
 
 @can_judge

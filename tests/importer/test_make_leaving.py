@@ -4,7 +4,7 @@ from __future__ import annotations
 
 import os
 
-from make_folder import MakeFolderTest, can_judge
+from importer.make_folder import MakeFolderTest, can_judge
 
 
 @can_judge
@@ -55,4 +55,4 @@ class LeavingTest(MakeFolderTest):
         makefile = self.folder / "Makefile"
         makefile.write_text(makefile.read_text().replace("config.status", "configure.sh"))
         answer = self.imported(replay=True)
-        self.assertEqual(answer.status, 2, answer.output + answer.errors)
+        self.assertEqual(answer.status, 4, answer.output + answer.errors)

@@ -11,11 +11,8 @@ import tempfile
 import unittest
 from pathlib import Path
 
-from make_folder import ENVIRONMENT, IMPORTER, Answer, MakeFolderTest, can_judge
-
-sys.path.insert(0, str(IMPORTER.parent))
-
-from mkcheck_record.places import namespace  # noqa: E402
+from importer.make_folder import ENVIRONMENT, IMPORTER, Answer, MakeFolderTest, can_judge
+from mkcheck_tools.run.places import namespace
 
 # The object lacks the header that it reads; the program is made from the object.
 MAKEFILE = "prog: a.o\n\tcat a.o > prog\na.o: a.in\n\tcat a.in h > a.o\n"
@@ -35,8 +32,9 @@ NOBODY = 65534
 IMPATIENT = """
 import sys
 sys.argv[0] = sys.argv.pop(1)
-sys.path.insert(0, sys.argv.pop(1))
-from mkcheck_import import leftovers, program
+sys.path.insert(0, sys.argv[0])
+from mkcheck_tools.imports import leftovers
+from mkcheck_tools.imports import program
 leftovers.CLEAN_SECONDS = 2
 sys.exit(program.main(sys.argv[1:]))
 """
@@ -164,10 +162,34 @@ class CleanTest(LeftoversTestCase):
         self.project(MAKEFILE + CLEAN.replace("prog", "prog h"))
         self.build()
         answer = self.imported()
-        self.assertEqual((answer.status, answer.output), (2, ""))
+        self.stale(answer)
         self.assertIn(
-            " (it was built without 3 files (a.o, h, prog), which an earlier build left; with",
-            answer.errors,
+            "    1 file (h) that `make clean` removes stayed as they are, since a build fails",
+            answer.output,
+        )
+        self.assertIn("    2 files (a.o, prog) of an earlier build are left out", answer.output)
+
+    def manual(self) -> None:
+        """A manual of the release, for which a program is needed that isn't there."""
+        self.project(
+            "prog: a.o doc\n\tcat a.o doc > prog\na.o: a.in\n\tcat a.in h > a.o\n"
+            "doc: doc.in\n\tno-such-program doc.in > doc\n" + CLEAN.replace("prog", "prog doc"),
+            **{"doc.in": "d\n", "doc": "d\n"},
+        )
+        self.date("a.in", "h", "doc.in", "doc", "Makefile")
+
+    def test_a_file_older_than_config_status_came_with_the_release(self) -> None:
+        self.manual()
+        self.write({"config.status": "#!/bin/sh\n"})
+        answer = self.left_out()
+        self.assertIn("aren't judged (1 file): doc", answer.output)
+
+    def test_a_hidden_file_without_which_the_build_fails_is_shown_again(self) -> None:
+        self.manual()
+        answer = self.left_out()
+        self.assertIn(
+            "    1 file (doc) that `make clean` removes stayed as they are, since a build fails",
+            answer.output,
         )
 
     def test_clean_that_fails(self) -> None:
@@ -180,15 +202,14 @@ class CleanTest(LeftoversTestCase):
     def unknown(self, files: str, said: str) -> None:
         """`make clean` fails, and nothing else tells what is there already."""
         answer = self.imported()
-        self.assertEqual(answer.status, 2, answer.output + answer.errors)
+        status = 2 if "make has nothing to do" in answer.errors else 4
+        self.assertEqual(answer.status, status, answer.output + answer.errors)
         self.assertIn(f" {files} with rules are there already", answer.output + answer.errors)
         self.assertIn("`make clean` tells nothing, since it", answer.output + answer.errors)
         self.assertIn(said, answer.output + answer.errors)
 
     def test_clean_that_cannot_be_read(self) -> None:
-        self.project(
-            MAKEFILE + CLEAN + "ifeq ($(MAKECMDGOALS),clean)\n$(error not now)\nendif\n"
-        )
+        self.project(MAKEFILE + CLEAN + "ifeq ($(MAKECMDGOALS),clean)\n$(error not now)\nendif\n")
         self.build()
         self.unknown("2 files (a.o, prog)", "not now")
 
@@ -213,7 +234,7 @@ class CleanTest(LeftoversTestCase):
     def test_clean_that_does_not_end(self) -> None:
         self.project(MAKEFILE + f"clean:\n\trm -f prog *.o\n\tsleep 6{os.getpid()}\n")
         self.build()
-        words = [sys.executable, "-c", IMPATIENT, str(IMPORTER), str(IMPORTER.parent)]
+        words = [sys.executable, "-c", IMPATIENT, str(IMPORTER)]
         done = subprocess.run(
             [*words, "--no-replay", "-C", str(self.folder)],
             env=ENVIRONMENT,
@@ -264,7 +285,7 @@ class HarmTest(LeftoversTestCase):
     def not_told(self, recipe: str) -> None:
         """It fails, so that nothing tells what is there."""
         answer = self.cleaned(recipe)
-        self.assertEqual(answer.status, 2, answer.output + answer.errors)
+        self.assertEqual(answer.status, 4, answer.output + answer.errors)
         self.assertIn("    1 file (a.o) with rules are there already", answer.output)
         self.assertIn("Read-only file system", answer.output)
 
@@ -357,7 +378,7 @@ class WithoutCleanTest(LeftoversTestCase):
     def unknown(self) -> None:
         """The object that is there may be an output: that is never a yes."""
         answer = self.imported()
-        self.assertEqual(answer.status, 2, answer.output + answer.errors)
+        self.assertEqual(answer.status, 4, answer.output + answer.errors)
         self.assertIn("nothing tells whether they came with the project", answer.output)
         self.assertEqual(self.imported("--keep").status, 0)
 

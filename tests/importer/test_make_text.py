@@ -2,35 +2,24 @@
 
 from __future__ import annotations
 
-import sys
 import tempfile
 import unittest
 from pathlib import Path
 from types import SimpleNamespace
 
-sys.path.insert(0, str(Path(__file__).resolve().parents[2] / "tools"))
-
-from mkcheck_import.builds import (  # noqa: E402
-    Build,
-    Command,
-    Kind,
-    Node,
-    Origin,
-    Setting,
-    path_name,
-)
-from mkcheck_import.database import Database, read_database  # noqa: E402
-from mkcheck_import.gnumake import Make, is_harmless, options_of  # noqa: E402
-from mkcheck_import.judging import OWN_ADVICE, PROGRESS, advice  # noqa: E402
-from mkcheck_import.ordering import Order  # noqa: E402
-from mkcheck_import.plain import makefile, quoted, shell_text  # noqa: E402
-from mkcheck_import.recursion import is_only_makes, without_makes  # noqa: E402
-from mkcheck_import.saving import build_of_text, text_of_build  # noqa: E402
-from mkcheck_import.transcripts import MARK, prefix_of, read_transcript  # noqa: E402
-from mkcheck_import.translating import Translation  # noqa: E402
-from mkcheck_import.trying import Said, Trial  # noqa: E402
-from mkcheck_record.places import Place  # noqa: E402
-from mkcheck_record.refusals import started_make  # noqa: E402
+from mkcheck_tools.imports.builds import Build, Command, Kind, Node, Origin, Setting, path_name
+from mkcheck_tools.imports.database import Database, read_database
+from mkcheck_tools.imports.gnumake import Make, is_harmless, options_of
+from mkcheck_tools.imports.judging import OWN_ADVICE, PROGRESS, advice
+from mkcheck_tools.imports.ordering import Order
+from mkcheck_tools.imports.plain import makefile, quoted, shell_text
+from mkcheck_tools.imports.recursion import is_only_makes, without_makes
+from mkcheck_tools.imports.saving import build_of_text, text_of_build
+from mkcheck_tools.imports.transcripts import MARK, prefix_of, read_transcript
+from mkcheck_tools.imports.translating import Translation
+from mkcheck_tools.imports.trying import Said, Trial
+from mkcheck_tools.judge.refusals import started_make
+from mkcheck_tools.run.places import Place
 
 # As GNU make 4.3 prints it, shortened.
 BASE = """
@@ -379,6 +368,7 @@ class WriterTest(unittest.TestCase):
         self.assertEqual(
             text[1:],
             [
+                ".POSIX:",
                 ".SUFFIXES:",
                 ".PHONY: all",
                 ".PHONY: goals@",

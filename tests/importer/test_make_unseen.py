@@ -6,10 +6,11 @@ Beside each stands one that is right, and that is a yes.
 
 from __future__ import annotations
 
+import re
 import time
 from pathlib import Path
 
-from make_folder import Answer, MakeFolderTest, can_judge
+from importer.make_folder import Answer, MakeFolderTest, can_judge
 
 
 class UnseenTestCase(MakeFolderTest):
@@ -41,9 +42,20 @@ class UnseenTestCase(MakeFolderTest):
     def refused(self, sentence: str, *words: str) -> Answer:
         """An import that isn't judged, and says why."""
         answer = self.imported(*words)
-        self.assertEqual((answer.status, answer.findings), (2, []), answer.output + answer.errors)
+        status = 2 if answer.output.startswith("no answer: no recipe could be judged") else 4
+        self.assertEqual(
+            (answer.status, answer.findings), (status, []), answer.output + answer.errors
+        )
         self.assertIn("\nNot judged:\n", answer.output)
         self.assertIn(sentence, answer.output)
+        return answer
+
+    def stays_old(self, target: str, file: str) -> Answer:
+        """An import that finds that a target stays old when a file changes that make reads."""
+        answer = self.imported()
+        self.assertEqual(answer.status, 1, answer.output + answer.errors)
+        text = f"{target} isn't made again when {file} changes: make reads {file} for its commands"
+        self.assertIn(text, answer.output)
         return answer
 
     def accepted(self, *words: str) -> Answer:
@@ -170,7 +182,7 @@ class RemadeMakefileTest(UnseenTestCase):
         makefile = self.folder / "Makefile"
         makefile.write_text(makefile.read_text().replace("config.mk", "Makefile.inc"))
         (self.folder / "config.mk").rename(self.folder / "Makefile.inc")
-        status = "#!/bin/sh\nconfig_files=\"Makefile.inc\"\ncp config.in Makefile.inc\n"
+        status = '#!/bin/sh\nconfig_files="Makefile.inc"\ncp config.in Makefile.inc\n'
         self.write({"config.status": status})
         self.assertIn("1 makefile that make makes anew", self.accepted().log)
 
@@ -292,12 +304,15 @@ class ReadingTest(UnseenTestCase):
     def test_commands(self) -> None:
         self.version()
         self.assertEqual(self.left({"version": "2.0\n"}, "x"), ["1.0\na\n", "2.0\na\n"])
-        answer = self.refused(
-            "    Makefile:5: the commands of x depend on version, which make reads beside its"
-            " makefiles (`echo 2.1 > x; cat a >> x` and not `echo 1.0 > x; cat a >> x`), and make"
-            " doesn't run them again when version changes; let what they make need version\n"
+        answer = self.imported()
+        self.assertEqual(answer.status, 1, answer.output + answer.errors)
+        self.assertIn(
+            "no: 1 finding (2 recipes, 38 reads)\n\n"
+            "Makefile:5: x isn't made again when version changes: make reads version for its"
+            " commands, which are others then (`echo 2.1 > x; cat a >> x` and not `echo 1.0 > x;"
+            " cat a >> x`)\n\nAdd to Makefile:\n    x: version\n",
+            re.sub(r"\d+ reads", "38 reads", answer.output),
         )
-        self.assertEqual(answer.output.count("depend on version"), 1)
 
     def test_target_that_needs_it(self) -> None:
         self.version("x: version\n")
@@ -307,7 +322,9 @@ class ReadingTest(UnseenTestCase):
     def test_order_only(self) -> None:
         self.version("x: | b\nb: version\n\tcp version b\n")
         self.assertEqual(self.left({"version": "2.0\n"}, "x"), ["1.0\na\n", "2.0\na\n"])
-        self.refused("the commands of x depend on version")
+        answer = self.imported()
+        self.assertEqual(answer.status, 1, answer.output + answer.errors)
+        self.assertIn("x isn't made again when version changes: make reads", answer.output)
 
     def test_without_a_part(self) -> None:
         self.version("unused := $(shell cat notes)\nx: version\n", notes="1\n2\n")
@@ -352,7 +369,7 @@ class ReadingTest(UnseenTestCase):
     def test_condition_of_a_function(self) -> None:
         mode = "mode := $(shell cat mode)\n"
         self.mode(mode + "flag = $(if $(filter debug,$(mode)),-g)\n")
-        self.refused("the commands of x depend on mode, which make reads")
+        self.stays_old("x", "mode")
         self.mode(mode + "flag = $(if $(filter debug,$(word 1,$(mode))),-g)\n")
         self.refused("    Makefile:2: a condition depends on mode")
         self.mode(mode + "flag_debug := -g\nflag = $(flag_$(mode))\n")
@@ -368,7 +385,7 @@ class ReadingTest(UnseenTestCase):
     def test_condition_of_the_shell(self) -> None:
         """A word that the makefile names is tried; a whole file can't be guessed."""
         self.mode("flag := $(shell if grep -q debug mode; then echo -g; fi)\n")
-        self.refused("the commands of x depend on mode, which make reads")
+        self.stays_old("x", "mode")
         self.mode('flag := $(shell if test "$$(cat mode)" = debug; then echo -g; fi)\n')
         sentence = "make reads mode beside its makefiles, and whether commands depend on it isn't"
         self.refused(sentence)
@@ -434,9 +451,7 @@ class ReadingTest(UnseenTestCase):
         """The commands read what the list doesn't name any more."""
         self.write({"Makefile": "x: $(shell cat list)\n\tcat a b > x\n", "list": "a\nb\n"})
         self.write({"a": "a\n", "b": "b\n"})
-        self.assertEqual(
-            self.left({"list": "a\n", "b": "c\n"}, "x"), ["a\nb\n", "a\nc\n"]
-        )
+        self.assertEqual(self.left({"list": "a\n", "b": "c\n"}, "x"), ["a\nb\n", "a\nc\n"])
         sentence = (
             "    Makefile:2: what x needs depends on list, which make reads beside its makefiles"
             " (b), and its commands don't, so they may read what it doesn't need when list changes;"
@@ -456,27 +471,25 @@ class ReadingTest(UnseenTestCase):
         self.refused("make reads version beside its makefiles, and whether commands depend on it")
         makefile.write_text(makefile.read_text().replace("readlink version", "cat version/file"))
         self.write({"v1/file": "1\n"})
-        self.refused("the commands of x depend on v1/file")
+        self.stays_old("x", "v1/file")
 
     def test_list_of_files(self) -> None:
-        self.write(
-            {"Makefile": "x: $(shell cat list)\n\tcat $^ > x\n", "a": "a\n", "b": "b\n"}
-        )
+        self.write({"Makefile": "x: $(shell cat list)\n\tcat $^ > x\n", "a": "a\n", "b": "b\n"})
         self.write({"list": "a\nb\n"})
         self.assertEqual(self.left({"list": "a\n"}, "x"), ["a\nb\n", "a\n"])
-        self.refused("the commands of x depend on list")
+        self.stays_old("x", "list")
 
     def test_make_below(self) -> None:
         self.version()
         (self.folder / "Makefile").rename(self.folder / "sub.mk")
         self.write({"Makefile": "all:\n\t$(MAKE) -f sub.mk\n.PHONY: all\n"})
-        self.refused("    sub.mk:5: the commands of x depend on version")
+        self.assertIn("sub.mk:5: x isn't", self.stays_old("x", "version").output)
 
     def test_file_that_can_be_run(self) -> None:
         """Only what make starts, and scripts, are programs."""
         self.version()
         (self.folder / "version").chmod(0o755)
-        self.refused("the commands of x depend on version")
+        self.stays_old("x", "version")
         self.write({"version": "#!/bin/sh\necho 1.0\n"})
         self.version(version="#!/bin/sh\necho 1.0\n")
         makefile = self.folder / "Makefile"
@@ -492,7 +505,7 @@ class ReadingTest(UnseenTestCase):
         (self.folder / "version").unlink()
         (self.folder / "v1").write_text("1.0\n")
         (self.folder / "version").symlink_to("v1")
-        self.refused("the commands of x depend on v1")
+        self.stays_old("x", "v1")
         makefile = self.folder / "Makefile"
         makefile.write_text(makefile.read_text().replace("cat version", "readlink version"))
         self.refused("make reads version beside its makefiles, and whether commands depend on it")
@@ -612,7 +625,7 @@ class OptionsTest(UnseenTestCase):
 
     def test_stamps_alone(self) -> None:
         self.started_with("-st")
-        self.assertEqual(self.imported().status, 2)
+        self.assertIn(self.imported().status, (2, 4))
 
     def test_other_options(self) -> None:
         self.started_with("-I other -j 2 -k --no-print-directory -s")

@@ -2,10 +2,9 @@
 
 from __future__ import annotations
 
-from ninja_folder import NinjaFolderTest, has_ninja
-
-from mkcheck_import.ninja_files import Edge, Manifest, canonical, quoted, read_manifest
-from mkcheck_import.ninja_text import NinjaFault
+from importer.ninja_folder import NinjaFolderTest, has_ninja
+from mkcheck_tools.imports.ninja_files import Edge, Manifest, canonical, quoted, read_manifest
+from mkcheck_tools.imports.ninja_text import NinjaFault
 
 RULE = "rule r\n  command = run $in to $out\n"
 
@@ -57,8 +56,7 @@ ACCEPTED: dict[str, dict[str, str]] = {
         "build a: r b\r\n  x = 1\r\n"
     },
     "what the shell would see is quoted": {
-        "build.ninja": RULE
-        + "build a+b@c=d%e'f: r x,y ~z $$q (p) *w a_b-c.d/e {f} [g] !h é\n"
+        "build.ninja": RULE + "build a+b@c=d%e'f: r x,y ~z $$q (p) *w a_b-c.d/e {f} [g] !h é\n"
     },
     "pools": {
         "build.ninja": "pool one\n  depth = 1\np = one\nrule r\n  command = x $out\n"
@@ -84,8 +82,7 @@ ACCEPTED: dict[str, dict[str, str]] = {
     },
     "only implicit outputs": {"build.ninja": RULE + "build | b: r a\nbuild c: r b\n"},
     "default goals": {
-        "build.ninja": RULE
-        + "build a: r x\nbuild b: r x\nbuild c: r x\ndefault b\ndefault a b\n"
+        "build.ninja": RULE + "build a: r x\nbuild b: r x\nbuild c: r x\ndefault b\ndefault a b\n"
     },
     "nothing": {"build.ninja": ""},
 }

@@ -2,14 +2,10 @@
 
 from __future__ import annotations
 
-import sys
 
-from make_folder import ROOT, MakeFolderTest, can_judge
-from ninja_folder import has_ninja
-
-sys.path.insert(0, str(ROOT / "tests"))
-
-from outside import assert_untouched, folder_outside  # noqa: E402
+from importer.make_folder import MakeFolderTest, can_judge
+from importer.ninja_folder import has_ninja
+from outside import assert_untouched, folder_outside
 
 WRITES = ", since it writes outside of the project, which an import doesn't allow:\n"
 
@@ -24,7 +20,7 @@ class OutsideTestCase(MakeFolderTest):
     def refused(self, sentence: str, *words: str) -> None:
         """An import that isn't judged, and says why."""
         answer = self.imported(*words)
-        self.assertEqual(answer.status, 2, answer.output + answer.errors)
+        self.assertIn(answer.status, (2, 4), answer.output + answer.errors)
         self.assertIn(sentence, answer.output + answer.errors)
         assert_untouched(self, self.outside)
 

@@ -103,9 +103,7 @@ def faults_of(topic: Topic, printed: str, found: str) -> Iterator[str]:
 
 def explain(mkcheck: str, *words: str) -> subprocess.CompletedProcess[str]:
     """Runs `mkcheck explain`."""
-    return subprocess.run(
-        [mkcheck, "explain", *words], capture_output=True, text=True, check=False
-    )
+    return subprocess.run([mkcheck, "explain", *words], capture_output=True, text=True, check=False)
 
 
 def wrong_explanations(mkcheck: str) -> int:

@@ -17,12 +17,13 @@ import tempfile
 from collections.abc import Sequence
 from pathlib import Path
 
-from edits import wrong_edits
 from explained import wrong_explanations
 from lengths import wrong_lengths
 from links import broken_links
 from sentences import wrong_sentences
 from sessions import try_page
+
+from edits import wrong_edits
 
 ROOT = Path(__file__).resolve().parents[2]
 PAGE = ROOT / "docs" / "FROM_GNU_MAKE.md"

@@ -189,8 +189,8 @@ def side_stale(names: list[str], files: list[str]) -> Build:
 
 def selection(names: list[str], files: list[str]) -> Build:
     """A name that an inference rule makes of a file once a recipe has written that."""
-    makefile = (
-        ".SUFFIXES: .o .c .s\n.c.o:\n\tmk\n.s.o:\n\tmk\nall: gen .WAIT x.o\n" + rules(["gen"])
+    makefile = ".SUFFIXES: .o .c .s\n.c.o:\n\tmk\n.s.o:\n\tmk\nall: gen .WAIT x.o\n" + rules(
+        ["gen"]
     )
     records = [("gen", [], ["gen", "x.c"]), ("x.o", ["x.s"], ["x.o"])]
     return Build(makefile, ["x.s"], records, ["x.o"], ["x.c"])

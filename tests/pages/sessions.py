@@ -104,7 +104,7 @@ def environment_of(program: str, tools: Path) -> dict[str, str]:
     tools.mkdir()
     (tools / "mkcheck").symlink_to(program)
     for name in ("mkcheck-record", "mkcheck-report"):
-        (tools / name).symlink_to(ROOT / "tools" / name)
+        (tools / name).symlink_to(ROOT / "bin" / name)
     path = os.pathsep.join([str(tools), os.environ.get("PATH", os.defpath)])
     kept = {name: os.environ[name] for name in ("HOME", "TMPDIR") if name in os.environ}
     return {**kept, "PATH": path, "LC_ALL": "C", "MKCHECK": program}

@@ -9,8 +9,8 @@ import shutil
 import subprocess
 import sys
 import tempfile
-from itertools import chain
 from dataclasses import dataclass, field
+from itertools import chain
 from pathlib import Path
 
 from builds import builds
@@ -67,9 +67,7 @@ REPAIR_USAGE = "\n\nUsage: mkcheck repair [-f F] [-r] -b BOOK [WORD]..." + HINT
 VERIFY_USAGE = "\n\nUsage: mkcheck verify [-f F] [-r] -b BOOK -k CERT [WORD]..." + HINT
 SIMULATE_USAGE = "\n\nUsage: mkcheck simulate [-f F] [-r] -b BOOK -p PLAN [WORD]..." + HINT
 NOTHING = "no finding and no fault is called {}; mkcheck explain lists all of them\n"
-AS_VALUE = (
-    "error: unexpected argument '{0}' found\n\n  tip: to pass '{0}' as a value, use '-- {0}'"
-)
+AS_VALUE = "error: unexpected argument '{0}' found\n\n  tip: to pass '{0}' as a value, use '-- {0}'"
 UNEXPECTED = "error: unexpected argument 'race' found\n\nUsage: mkcheck explain [WHAT]" + HINT
 MISSING = "error: the following required arguments were not provided:\n  "
 NO_TEXT = "error: a word of the command line is not UTF-8\n"
@@ -344,9 +342,7 @@ def main() -> None:
     ran_of, wrong = 0, 0
     tables = (
         Run(words, status, out, files=files)
-        for words, status, out, files in chain(
-            builds(), faults(), orders(), repairs(), sentences()
-        )
+        for words, status, out, files in chain(builds(), faults(), orders(), repairs(), sentences())
     )
     for run in chain(ANSWERS, WORDS, versions(program), PLACES, SIZES, tables):
         ran_of += 1

@@ -539,10 +539,7 @@ REFUSED = [
     ([], [f"makefile:1: {NOT_A_LINE}", "  " + "x" * 200], "x" * 200 + "\n"),
     ([], [f"makefile:1: {NOT_A_LINE}", "  " + "x" * 200 + " .."], "x" * 201 + "\n"),
     # Files with the names that stand in places of other kinds.
-    *(
-        (["-f", name], [f"{name}:1: {NOT_A_LINE}"], "x\n")
-        for name in ("operand", "goal")
-    ),
+    *((["-f", name], [f"{name}:1: {NOT_A_LINE}"], "x\n") for name in ("operand", "goal")),
     (["-f", "goals"], [f"goals:1: {NOT_A_LINE}", "  x"], "x\n"),
 ]
 

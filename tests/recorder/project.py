@@ -13,10 +13,10 @@ import unittest
 from collections.abc import Mapping
 from dataclasses import dataclass, replace
 from pathlib import Path
-from typing import Optional
+from typing import Any, Optional
 
 ROOT = Path(__file__).resolve().parents[2]
-RECORDER = ROOT / "tools" / "mkcheck-record"
+RECORDER = ROOT / "bin" / "mkcheck-record"
 MKCHECK = os.path.abspath(os.environ.get("MKCHECK", ROOT / "bin" / "mkcheck"))
 UNTESTED = (
     "mkcheck-record: no recipe was run again (--no-replay), so nothing tests that each writes what"
@@ -24,6 +24,12 @@ UNTESTED = (
 )
 SYSTEM = ("/usr/", "/lib/", "/lib64/", "/bin/", "/etc/", "/opt/")
 Environment = Mapping[str, Optional[str]]
+# What stands before and behind the sentences on recipes that have no record.
+COUNTED = re.compile(r"(?m)^mkcheck-record: recorded (\d+) of (\d+) recipes\n")
+BEHIND = re.compile(
+    r"(?m)^mkcheck-record: (when that is mended, mkcheck-record --update .* records the rest|.* is"
+    r" still that of the recording before)\n"
+)
 # Lines of progress, which only a recording of over ten seconds has.
 PROGRESS = re.compile(r"(?m)^\[(?:\w+ )?\d+/\d+(?: [\d:]+ left)?\] .*\n")
 # What a make that runs the tests sets for them.
@@ -55,7 +61,24 @@ class Outcome:
     status: int
     output: str
     errors: str
-    book: dict | None
+    book: dict[str, Any] | None
+    counts: tuple[int, int] | None = None
+    """How many recipes of all are recorded, where some aren't; `errors` has only why."""
+
+    behind: tuple[str, ...] = ()
+    """What then is said in the end."""
+
+    def lacks(self, *targets: str) -> bool:
+        """Whether just these recipes have no record, or nothing was written since all failed."""
+        recorded = [] if self.book is None else [one["target"] for one in self.book["records"]]
+        counts = self.counts or (0, 0)
+        is_counted = counts == (len(recorded), len(recorded) + len(targets))
+        return self.status == 1 and is_counted and not set(targets) & set(recorded)
+
+    @property
+    def is_refused(self) -> bool:
+        """Whether a recipe has no record, or all of them together can't be written."""
+        return (self.status, self.output) == (1, "") and (bool(self.counts) or not self.book)
 
     def own(self, target: str) -> tuple[set[str], set[str]]:
         """What the recipe of a target reads and writes beside what is the system's."""
@@ -123,7 +146,11 @@ class ProjectTest(unittest.TestCase):
         )
         errors = PROGRESS.sub("", done.stderr)
         errors = errors if not unplayed else errors.replace(UNTESTED, "")
-        return Outcome(done.returncode, done.stdout, errors, None)
+        counted = COUNTED.search(errors)
+        counts = None if counted is None else (int(counted[1]), int(counted[2]))
+        behind = tuple(BEHIND.findall(errors))
+        errors = BEHIND.sub("", COUNTED.sub("", errors))
+        return Outcome(done.returncode, done.stdout, errors, None, counts, behind)
 
     def recorded(self, *words: str, environment: Environment | None = None) -> Outcome:
         """Runs the recorder, which has to succeed."""

@@ -15,7 +15,7 @@ import tempfile
 from dataclasses import dataclass
 from pathlib import Path
 
-from project import MKCHECK, RECORDER, ROOT, SYSTEM
+from recorder.project import MKCHECK, RECORDER, ROOT, SYSTEM
 
 
 @dataclass(frozen=True)

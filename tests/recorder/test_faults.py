@@ -4,7 +4,7 @@ from __future__ import annotations
 
 import sys
 
-from project import ProjectTest, traced
+from recorder.project import ProjectTest, traced
 
 FAILING = "out: a b\n\tcat b\na:\n\techo > a\nb: a\n\techo first\n\t@echo said; exit 7\n"
 
@@ -16,19 +16,26 @@ class FaultTest(ProjectTest):
     def test_a_recipe_that_fails(self) -> None:
         self.write({"makefile": FAILING})
         outcome = self.record()
-        self.assertEqual((outcome.status, outcome.book, outcome.output), (1, None, ""))
+        self.assertEqual((outcome.status, outcome.counts, outcome.output), (1, (1, 3), ""))
+        self.assertTrue(outcome.lacks("b", "out"), outcome)
+        self.assertEqual(outcome.own("a"), (set(), {"a"}))
         self.assertEqual(
             outcome.errors,
             (
                 "mkcheck-record: the recipe of b failed, status 7, at 'echo said; exit 7'\n"
                 "\techo first\n\t@echo said; exit 7\nfirst\nsaid\n"
+                "mkcheck-record: the recipe of out wasn't run, since it depends on one that"
+                " failed\n"
             ),
         )
+        said = f"when that is mended, mkcheck-record --update {self.book} records the rest"
+        self.assertEqual(outcome.behind, (said,))
+        self.assertEqual(self.check()[0], "no record b")
 
     def test_a_recipe_that_fails_for_what_another_makes_later(self) -> None:
         self.write({"makefile": "all: b d/c\nb: x\n\tcat x d/c\nd/c: x\n\tcp x d/c\n", "x": ""})
         outcome = self.record()
-        self.assertEqual((outcome.status, outcome.book), (1, None))
+        self.assertTrue(outcome.lacks("b", "d/c"), outcome)
         self.assertIn(
             "\n\tb looks for d/c, which the recipe of d/c makes later: add b: d/c\n",
             outcome.errors,
@@ -53,12 +60,10 @@ class FaultTest(ProjectTest):
                 }
             )
             outcome = self.record()
-            self.assertEqual((outcome.status, outcome.book), (1, None))
+            self.assertTrue(outcome.lacks("o/b"), outcome)
             said = f"\n\to/b looks for the folder of g/d/c, which the recipe of g/d/c {late}"
             self.assertIn(said, outcome.errors)
-        self.write(
-            {"makefile": "all: g/b g/c\ng/b: x\n\tmkdir -p g; false\ng/c: x\n\tcp x g/c\n"}
-        )
+        self.write({"makefile": "all: g/b g/c\ng/b: x\n\tmkdir -p g; false\ng/c: x\n\tcp x g/c\n"})
         self.assertNotIn("looks for", self.record().errors)
 
     def test_a_recipe_that_fails_for_a_rule_that_the_goals_dont_reach(self) -> None:
@@ -70,7 +75,7 @@ class FaultTest(ProjectTest):
             rule = f"a.o: a\n\tcat a {names} > a.o\n"
             self.write({"makefile": makefile + rule, "a": "", "p.y": ""})
             outcome = self.record()
-            self.assertEqual((outcome.status, outcome.book), (1, None))
+            self.assertTrue(outcome.is_refused, outcome)
             self.assertIn(said, outcome.errors)
             self.assertEqual(outcome.errors.count("looks for"), 1)
         self.write({"makefile": "a.o:\n\tcat p.h > a.o\np.h: a.o\n\tcp a.o p.h\n"})
@@ -85,7 +90,7 @@ class FaultTest(ProjectTest):
         self.assertNotIn("is there", self.record().errors)
         self.write({"p.c": "int a;\n"})
         outcome = self.record()
-        self.assertEqual((outcome.status, outcome.book), (1, None))
+        self.assertTrue(outcome.lacks("p.c", "p"), outcome)
         self.assertIn(said, outcome.errors)
         self.write({"makefile": "p: p.c\n\tcp p.c p\np.c: p.y\n"})
         self.assertEqual(self.recorded().own("p"), ({"p.c"}, {"p"}))
@@ -98,7 +103,7 @@ class FaultTest(ProjectTest):
         said = "\n\tthe commands of list use $?, which is empty here: write $^\n"
         self.write({"makefile": makefile, "x": ""})
         outcome = self.record()
-        self.assertEqual((outcome.status, outcome.book), (1, None))
+        self.assertTrue(outcome.lacks("p"), outcome)
         self.assertIn(said, outcome.errors)
         self.write({"makefile": makefile.replace("> list", "> list; false")})
         self.assertIn(said, self.record().errors)
@@ -157,11 +162,13 @@ class FaultTest(ProjectTest):
             " reads\n",
         )
 
-    def test_an_old_file_stays_where_a_recipe_fails(self) -> None:
-        self.write({"makefile": FAILING})
+    def test_an_old_file_stays_where_no_recipe_is_recorded(self) -> None:
+        self.write({"makefile": "a:\n\tfalse\n"})
         kept = self.scratch / "kept"
         kept.write_text('{"format": 1}')
-        self.assertEqual(self.record("-o", str(kept)).status, 1)
+        outcome = self.record("-o", str(kept))
+        self.assertEqual((outcome.status, outcome.counts), (1, (0, 1)))
+        self.assertEqual(outcome.behind, (f"{kept} is still that of the recording before",))
         self.assertEqual(kept.read_text(), '{"format": 1}')
 
     def test_a_file_that_is_no_footprint_file(self) -> None:

@@ -6,16 +6,12 @@ import json
 import os
 import random
 import subprocess
-import sys
 import unittest
 from pathlib import Path
 
-from project import MKCHECK, ROOT, ProjectTest
-
-sys.path.insert(0, str(ROOT / "tools"))
-
-from mkcheck_record import formats  # noqa: E402
-from mkcheck_record.faults import Fault  # noqa: E402
+from mkcheck_tools.book import formats
+from mkcheck_tools.faults import Fault
+from recorder.project import MKCHECK, ProjectTest
 
 RECIPES, HEADERS = 70, 5000
 checked = unittest.skipUnless(os.access(MKCHECK, os.X_OK), "no mkcheck")

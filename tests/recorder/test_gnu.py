@@ -7,7 +7,7 @@ import shutil
 import subprocess
 import unittest
 
-from project import OF_MAKE, ProjectTest, traced
+from recorder.project import OF_MAKE, ProjectTest, traced
 
 
 def refusal(name: str, value: str, word: str) -> str:
@@ -227,7 +227,7 @@ class DifferenceTest(ProjectTest):
             (f"{name}-include other.mk \\\n $(NAME).mk\n{rules}", (), [again, goal]),
             (f"-include deps.mk\n{rules}", ("all",), [again]),
             (f"{rules}-include deps.mk\n", (), [again]),
-            (f"include rules.mk\n-include deps.mk\n", (), [again]),
+            ("include rules.mk\n-include deps.mk\n", (), [again]),
             (f".DEFAULT_GOAL = all\n-include deps.mk\n{rules}", (), [again]),
             (f"-include none.mk\n{rules}", (), []),
         ):
@@ -285,18 +285,12 @@ class DifferenceTest(ProjectTest):
     def test_names_that_are_not_there(self) -> None:
         self.write({"gram.y": "", "gram.h": ""})
         rule = "all: gram.c\n\techo > all\ngram.c: gram.h\n"
-        self.assertEqual(
-            self.warnings(rule), [built_in("gram.c", "gram.y", "has no recipe")]
-        )
+        self.assertEqual(self.warnings(rule), [built_in("gram.c", "gram.y", "has no recipe")])
         self.assertEqual(self.warnings(rule, "-r"), [])
         self.write({"gram.c": ""})
-        self.assertEqual(
-            self.warnings(rule), [built_in("gram.c", "gram.y", "counts as a source")]
-        )
+        self.assertEqual(self.warnings(rule), [built_in("gram.c", "gram.y", "counts as a source")])
         rule = "main: main.o util.o\nmain.o util.o: gram.h\n\techo > $@\n"
-        self.assertEqual(
-            self.warnings(rule), [built_in("main", "main.o", "has no recipe")]
-        )
+        self.assertEqual(self.warnings(rule), [built_in("main", "main.o", "has no recipe")])
         self.write({"main.c": ""})
         self.assertEqual(
             self.warnings(rule, "CC=touch main;:"),

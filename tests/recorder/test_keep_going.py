@@ -1,12 +1,13 @@
-"""`-k`: a recording goes on where a recipe fails, and all failures are told at the end."""
+"""A recording goes on where a recipe fails, and all failures are told at the end."""
 
 from __future__ import annotations
 
+import json
 import os
 import shutil
 from pathlib import Path
 
-from project import ProjectTest, traced
+from recorder.project import ProjectTest, traced
 
 
 def heads(errors: str) -> list[str]:
@@ -29,8 +30,10 @@ class KeepGoingTest(ProjectTest):
                 )
             }
         )
-        outcome = self.record("-k")
-        self.assertEqual((outcome.status, outcome.book, outcome.output), (1, None, ""))
+        outcome = self.record()
+        self.assertEqual(outcome.output, "")
+        self.assertTrue(outcome.lacks("a", "b", "c"), outcome)
+        self.assertEqual(outcome.own("d"), ({"e"}, {"d"}))
         first, second, third = heads(outcome.errors)
         self.assertEqual(first, "the recipe of a failed, status 1, at 'echo one; false'")
         self.assertEqual(second, "the recipe of b wasn't run, since it depends on one that failed")
@@ -47,25 +50,49 @@ class KeepGoingTest(ProjectTest):
             heads(outcome.errors)[1:], [f"the recipe of b {front}", f"the recipe of c {front}"]
         )
 
-    def test_without_it_the_first_failure_ends_all(self) -> None:
+    def test_the_option_changes_nothing(self) -> None:
         self.write({"makefile": "all: a b\na:\n\tfalse\nb:\n\tfalse\n"})
-        self.assertEqual(
-            heads(self.record().errors), ["the recipe of a failed, status 1, at false"]
-        )
-        self.assertEqual(len(heads(self.record("-k").errors)), 2)
+        said = [f"the recipe of {name} failed, status 1, at false" for name in "ab"]
+        self.assertEqual(heads(self.record().errors), said)
+        self.assertEqual(heads(self.record("-k").errors), said)
+
+    def test_no_recipe_finds_what_one_left_that_failed(self) -> None:
+        self.write({"makefile": "all: a b\na:\n\techo > half; false\nb:\n\tls > b\n"})
+        outcome = self.record()
+        self.assertTrue(outcome.lacks("a"), outcome)
+        self.write({"makefile": "all: a b\na:\n\techo > half; false\nb:\n\tcat half > b\n"})
+        self.assertTrue(self.record().lacks("a", "b"))
 
     def test_where_all_goes_well(self) -> None:
         self.write({"makefile": "all: a b\na:\n\techo > a\nb: a\n\tcp a b\n"})
         outcome = self.recorded("-k")
         self.assertEqual(outcome.own("b"), ({"a"}, {"b"}))
 
-    def test_nothing_is_written(self) -> None:
+    def test_what_is_recorded_is_written_over_an_old_file(self) -> None:
         self.write({"makefile": "all: a b\na:\n\tfalse\nb:\n\techo > b\n"})
-        self.book.write_text("old")
-        kept = self.scratch / "kept"
-        kept.write_text('{"format": 1}')
-        self.assertEqual(self.record_plainly("-k", "-o", str(kept)).status, 1)
-        self.assertEqual(kept.read_text(), '{"format": 1}')
+        self.book.write_text('{"format": 1}')
+        self.assertEqual(self.record_plainly("-o", str(self.book)).status, 1)
+        self.assertEqual(self.check(), ["no record a"])
+
+    def test_standard_output_has_what_is_recorded(self) -> None:
+        self.write({"makefile": "all: a b\na:\n\tfalse\nb:\n\techo > b\n"})
+        outcome = self.record_plainly()
+        self.assertEqual((outcome.status, outcome.counts, outcome.behind), (1, (1, 2), ()))
+        (record,) = json.loads(outcome.output)["records"]
+        self.assertEqual(record["target"], "b")
+
+    def test_the_next_update_records_only_what_is_missing(self) -> None:
+        text = "all: a b c\na: s\n\tcp s a; false\nb: s\n\tcp s b\nc: a\n\tcp a c\n"
+        self.write({"makefile": text, "s": "1\n"})
+        self.assertTrue(self.record().lacks("a", "c"))
+        self.write({"makefile": text.replace("; false", "")})
+        outcome = self.record_plainly("--update", str(self.book))
+        self.assertEqual(outcome.status, 0, outcome.errors)
+        said = "2 of 3 recipes were recorded, the others hadn't changed"
+        self.assertEqual(heads(outcome.errors), [said])
+        full = self.scratch / "full.json"
+        self.record_plainly("-o", str(full))
+        self.assertEqual(self.book.read_text(), full.read_text())
 
 
 @traced
@@ -76,8 +103,9 @@ class ReplayedTest(ProjectTest):
 
     def test_what_replays_show_is_told_too(self) -> None:
         self.write({"makefile": "all: a b c\na:\n\tfalse\nb:\n\tdate +%s%N > b\nc:\n\techo > c\n"})
-        outcome = self.record("-k")
-        self.assertEqual((outcome.status, outcome.book), (1, None))
+        outcome = self.record()
+        self.assertTrue(outcome.lacks("a", "b"), outcome)
+        self.assertEqual(outcome.own("c"), (set(), {"c"}))
         first, second = heads(outcome.errors)
         self.assertEqual(first, "the recipe of a failed, status 1, at false")
         self.assertTrue(second.startswith("the recipe of b, run "), second)
@@ -108,7 +136,7 @@ class WithoutNamespaceTest(ProjectTest):
         )
         words = ("--fixed", str(self.scratch / "tools"))
         outcome = self.record(*words, environment=self.path())
-        self.assertEqual((outcome.status, outcome.book), (1, None))
+        self.assertTrue(outcome.lacks("a"), outcome)
         (head,) = heads(outcome.errors)
         self.assertTrue(head.startswith("the recipe of a, run in a folder that holds only"), head)
         outcome = self.record("--trust", "a", *words, environment=self.path())

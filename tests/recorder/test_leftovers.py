@@ -7,7 +7,7 @@ import shutil
 import subprocess
 import unittest
 
-from project import ProjectTest, traced
+from recorder.project import ProjectTest, traced
 
 MAKEFILE = (
     "list: stamp\n\tcat data/*.txt data/h x.h > list\n"

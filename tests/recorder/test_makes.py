@@ -5,14 +5,10 @@ from __future__ import annotations
 import os
 import shutil
 import subprocess
-import sys
 import unittest
 
-from project import OF_MAKE, ROOT, ProjectTest, compiled, traced
-
-sys.path.insert(0, str(ROOT / "tools"))
-
-from mkcheck_record.tracing import flags_of  # noqa: E402
+from mkcheck_tools.trace.tracing import flags_of
+from recorder.project import OF_MAKE, ProjectTest, compiled, traced
 
 GNU = "GNU Make" in os.popen("make --version 2>/dev/null").read()
 SUB = {"sub/makefile": "x: y\n\tcp y x\n", "sub/y": ""}
@@ -26,9 +22,7 @@ class SubMakeTest(ProjectTest):
         """What is said of a project that is refused."""
         self.write({"makefile": makefile, **files})
         outcome = self.record()
-        self.assertEqual(
-            (outcome.status, outcome.book, outcome.output), (1, None, ""), outcome.errors
-        )
+        self.assertTrue(outcome.is_refused, outcome.errors)
         return outcome.errors
 
     def in_sub(self, name: str) -> str:
@@ -52,6 +46,40 @@ class SubMakeTest(ProjectTest):
         ):
             self.assertEqual(self.said(f"all:\n\t{way}\n", SUB), self.in_sub("make"), way)
             shutil.rmtree(self.folder / "sub")
+
+    @unittest.skipUnless(shutil.which("make"), "no make")
+    def test_one_is_ended_as_it_begins_to_work(self) -> None:
+        mark = self.scratch / "mark"
+        sub = {"sub/makefile": f"x: y\n\tsleep 2; echo > {mark}; cp y x\n", "sub/y": ""}
+        self.assertEqual(self.said("all:\n\t$(MAKE) -C sub\n", sub), self.in_sub("make"))
+        self.assertFalse(mark.exists())
+
+    @unittest.skipUnless(shutil.which("make"), "no make")
+    def test_one_over_a_makefile_that_the_recipe_writes_elsewhere_is_a_part_of_it(self) -> None:
+        """`gcc -flto=auto` runs such a make."""
+        self.write(
+            {
+                "makefile": (
+                    "out: in\n\tf=`mktemp` && printf 'all:\\n\\tcat in > out\\n' > $$f &&"
+                    " make -s -f $$f && rm $$f\n"
+                ),
+                "in": "",
+            }
+        )
+        self.assertEqual(self.recorded().own("out"), ({"in"}, {"out"}))
+        makefile = "out: in\n\techo 'all:;cp in out' > t.mk; make -s -f t.mk\n"
+        self.assertIn("the recipe of out starts make in the folder", self.said(makefile, {}))
+
+    @unittest.skipUnless(shutil.which("make") and shutil.which("gcc"), "no make, or no gcc")
+    def test_gcc_that_links_in_parallel(self) -> None:
+        self.write(
+            {
+                "makefile": "p: a.c b.c\n\tgcc -O2 -flto=auto -o p a.c b.c\n",
+                "a.c": "int b(void);\nint main(void) { return b(); }\n",
+                "b.c": "int b(void) { return 0; }\n",
+            }
+        )
+        self.assertEqual(self.recorded().own("p"), ({"a.c", "b.c"}, {"p"}))
 
     @unittest.skipUnless(shutil.which("make"), "no make")
     def test_one_in_the_same_folder(self) -> None:
@@ -95,7 +123,6 @@ class SubMakeTest(ProjectTest):
             (outcome.status, outcome.errors),
             (2, "mkcheck-record: --opaque c: the goals reach no recipe of that name\n"),
         )
-
 
     @unittest.skipUnless(shutil.which("make"), "no make")
     def test_operands_reach_an_opaque_one(self) -> None:
@@ -244,7 +271,7 @@ class MacroTest(ProjectTest):
     @compiled
     def test_macros_of_built_in_rules(self) -> None:
         """GNU make's rule may read a file that the rule of POSIX doesn't."""
-        code = "#ifdef LONG\n#include \"n.h\"\n#endif\nint main(void) {return 0;}\n"
+        code = '#ifdef LONG\n#include "n.h"\n#endif\nint main(void) {return 0;}\n'
         self.write({"p.c": code, "n.h": "#define N 2\n"})
         rule = ".c.o:\n\t$(CC) $(CPPFLAGS) -c $<\n"
         for macro, target, front, rules, told in (

@@ -10,11 +10,8 @@ import sys
 import unittest
 from unittest import mock
 
-from project import MKCHECK, RECORDER, ROOT, ProjectTest, traced
-
-sys.path.insert(0, str(ROOT / "tools"))
-
-from mkcheck_record.progress import CLEAR, SECONDS_APART, Progress, duration  # noqa: E402
+from mkcheck_tools.run.progress import CLEAR, SECONDS_APART, Progress, duration
+from recorder.project import MKCHECK, RECORDER, ProjectTest, traced
 
 
 def read_all(terminal: int) -> str:
@@ -74,6 +71,17 @@ class LinesTest(unittest.TestCase):
             "[replay 1/3 0:04 left] a\n[replay 2/3 0:02 left] b\n[replay 3/3] c\n",
         )
 
+    def test_a_recipe_that_goes_on(self) -> None:
+        stream = io.StringIO()
+        clock = iter([0.0, 11.0, 12.0, 22.0])
+        with mock.patch("time.monotonic", lambda: next(clock)):
+            progress = Progress(2, stream, SECONDS_APART, "replay")
+            progress.goes_on("a")
+            progress.goes_on("a")
+            progress.goes_on("a")
+        line = "[replay 0/2] a goes on\n"
+        self.assertEqual(stream.getvalue(), line + line)
+
     def test_durations(self) -> None:
         self.assertEqual(
             [duration(seconds) for seconds in (0.4, 59.6, 3599.0, 3600.0, 36061.0)],
@@ -117,6 +125,7 @@ class TerminalTest(ProjectTest):
         os.close(writer)
         self.assertEqual((done.returncode, done.stdout), (0, b""))
         lines = [line for line in read_all(reader).split(CLEAR) if line]
+        lines = [line for line in lines if not line.endswith(" goes on")]
         self.assertEqual(len(lines), 4, lines)
         self.assertEqual(lines[0], "[1/2] a: echo > a; echo a long line > /"[:39])
         self.assertRegex(lines[1], r"^\[2/2 0:0\d left\] b: cp a b; echo unseen$")

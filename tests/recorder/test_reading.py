@@ -2,30 +2,26 @@
 
 from __future__ import annotations
 
-import sys
 import unittest
 from pathlib import Path
 
-from project import ROOT
-
-sys.path.insert(0, str(ROOT / "tools"))
-
-from mkcheck_record.accesses import Accesses, Follower  # noqa: E402
-from mkcheck_record.calls import (
+from mkcheck_tools.answers.graphs import Command, read_graph
+from mkcheck_tools.faults import Fault
+from mkcheck_tools.replay.orders import OLD, OTHER, OTHER_OF_MADE, with_order
+from mkcheck_tools.run.folders import Naming, is_plain_path
+from mkcheck_tools.run.places import Place
+from mkcheck_tools.trace.accesses import Accesses, Follower
+from mkcheck_tools.trace.calls import (
     FORKS,
     SAME,
+    SIGNALS,
     TRACED,
     Trace,
     path_of,
     read_calls,
     text_of,
-)  # noqa: E402
-from mkcheck_record.faults import Fault  # noqa: E402
-from mkcheck_record.folders import Naming, is_plain_path  # noqa: E402
-from mkcheck_record.graphs import Command, read_graph  # noqa: E402
-from mkcheck_record.orders import OLD, OTHER, OTHER_OF_MADE, with_order  # noqa: E402
-from mkcheck_record.places import Place  # noqa: E402
-from mkcheck_record.trees import Tree  # noqa: E402
+)
+from mkcheck_tools.trace.trees import Tree
 
 TRACES = Path(__file__).resolve().parent / "traces"
 
@@ -132,6 +128,13 @@ class CallsTest(unittest.TestCase):
             with self.assertRaises(Fault, msg=line):
                 read_calls([line])
 
+    def test_a_call_of_a_process_that_is_killed_as_it_begins_is_none(self) -> None:
+        trace = Trace()
+        trace.feed('7 execve("/bin/true", ["true"], 0x7f /* 1 var */) = 0')
+        trace.feed("7 ???()                             = ?")
+        trace.feed("7 +++ killed by SIGKILL +++")
+        self.assertTrue(trace.is_whole())
+
     def test_processes_that_go_on(self) -> None:
         trace = Trace()
         for line in (
@@ -150,11 +153,15 @@ class CallsTest(unittest.TestCase):
         self.assertTrue(trace.is_whole())
 
 
+# Calls that the trace itself takes.
+OTHERS = (*FORKS, *SIGNALS)
+
+
 class TracedTest(unittest.TestCase):
     """What strace is asked for."""
 
     def test_each_call_is_followed(self) -> None:
-        for name in (SAME.get(name, name) for name in TRACED if name not in FORKS):
+        for name in (SAME.get(name, name) for name in TRACED if name not in OTHERS):
             self.assertTrue(hasattr(Follower, f"on_{name}"), name)
 
 
@@ -203,7 +210,7 @@ class GraphTest(unittest.TestCase):
 
     def test_prefixes(self) -> None:
         self.assertEqual(Command.of("@- + cc -c a.c"), Command("cc -c a.c", True))
-        self.assertEqual(Command.of("cc -c a.c").words, ["/bin/sh", "-ec", "cc -c a.c"])
+        self.assertEqual(Command.of("cc -c a.c").words, ["/bin/sh", "-c", "cc -c a.c"])
         self.assertEqual(Command.of("-x").words, ["/bin/sh", "-c", "x"])
 
 

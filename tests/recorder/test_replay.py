@@ -4,30 +4,24 @@ from __future__ import annotations
 
 import os
 import shutil
+import subprocess
 import sys
 import tempfile
 import time
 import unittest
 from pathlib import Path
 
-from project import ROOT, Environment, ProjectTest, traced
-from project import Outcome as Recording
-
-sys.path.insert(0, str(ROOT / "tools"))
-
-from mkcheck_record import places, replaying  # noqa: E402
-from mkcheck_record.graphs import Ancestors, Recipe  # noqa: E402
-from mkcheck_record.replaying import (
-    AGAIN,
-    BARE,
-    DAMAGED,
-    ORDERED,
-    Outcome,
-    Replay,
-    lines_that_differ,
-)  # noqa: E402
-from mkcheck_record.versions import Store, Version, version_of  # noqa: E402
-from mkcheck_record.worlds import Effects, World  # noqa: E402
+from mkcheck_tools.answers.graphs import Ancestors, Recipe
+from mkcheck_tools.replay import runs
+from mkcheck_tools.replay.differences import lines_that_differ
+from mkcheck_tools.replay.replays import Replay
+from mkcheck_tools.replay.runs import AGAIN, BARE, DAMAGED, ORDERED, Outcome
+from mkcheck_tools.replay.versions import Store, Version, version_of
+from mkcheck_tools.replay.worlds import Effects, World
+from mkcheck_tools.run import places
+from recorder.project import Environment
+from recorder.project import Outcome as Recording
+from recorder.project import ProjectTest, traced
 
 namespaces = unittest.skipUnless(places.namespace(), "no mount namespace is allowed")
 
@@ -39,6 +33,7 @@ FRONTS = {
 }
 
 
+CONTENTS = "writes out with other contents"
 MEMORY = "/dev/shm"
 
 
@@ -70,9 +65,7 @@ class ReplayTest(ProjectTest):
         """Records, which has to be refused for the recipe of `out`; returns all that was said."""
         self.write({"makefile": makefile, **(files or {})})
         outcome = self.record()
-        self.assertEqual(
-            (outcome.status, outcome.book, outcome.output), (1, None, ""), outcome.errors
-        )
+        self.assertTrue(outcome.is_refused, outcome.errors)
         front = f"mkcheck-record: the recipe of out, run {FRONTS[run]}, {what}: "
         lines = [
             line
@@ -132,30 +125,45 @@ class BareTest(ReplayTest):
             outcome.errors, r"doesn't make the folder t\.\w+, as it did when it was recorded"
         )
 
-    def test_a_file_that_is_only_looked_at(self) -> None:
-        makefile = "out:\n\tif test -f chosen; then echo 1; else echo 2; fi > out\n"
-        said = self.refused(makefile, "writes out with other contents", BARE, {"chosen": ""})
+    def test_a_link_that_is_only_looked_at(self) -> None:
+        """No footprint can name it."""
+        (self.folder / "l").symlink_to("nowhere")
+        makefile = "out:\n\tif test -h l; then echo 1; else echo 2; fi > out\n"
+        said = self.refused(makefile, "writes out with other contents", BARE)
+        self.assertIn("contents: it looks in vain for l, which was there when it was", said)
         self.assertIn('\tline 1 was "1"\n\tline 1 is  "2"\n', said)
 
+    def test_nothing_is_missing(self) -> None:
+        said = self.refused("out: a\n\tcat a; date +%N > out\n", CONTENTS, BARE, {"a": ""})
+        self.assertIn(
+            f"{CONTENTS}: nothing for which it looked was missing in that run, so it depends on"
+            " something else, such as the time, a random name, a process number or the order of"
+            " the names in a folder. Take that out of the recipe, or",
+            said,
+        )
+
     def test_a_failure_shows_the_output(self) -> None:
-        said = self.refused("out:\n\techo hello; test -f a; echo > out\n", "fails", BARE, {"a": ""})
+        (self.folder / "l").symlink_to("nowhere")
+        said = self.refused("out:\n\techo hello; test -h l && echo > out\n", "fails", BARE)
+        self.assertIn("fails: it looks in vain for l, which was there when it was recorded.", said)
         self.assertTrue(
-            said.endswith("\n\tstatus 1, at echo hello; test -f a; echo > out\n\thello\n"), said
+            said.endswith("\n\tstatus 1, at echo hello; test -h l && echo > out\n\thello\n"), said
         )
 
     def test_a_recipe_that_writes_nothing(self) -> None:
-        self.refused(".PHONY: out\nout:\n\ttest -f a\n", "fails", BARE, {"a": ""})
+        (self.folder / "l").symlink_to("nowhere")
+        self.refused(".PHONY: out\nout:\n\ttest -h l\n", "fails", BARE)
         self.passes(".PHONY: out\nout:\n\tcat a\n", {"a": ""})
 
     def test_a_folder_that_another_recipe_makes(self) -> None:
         makefile = (
-            "all: dirs out\ndirs:\n\tmkdir obj; touch dirs\nout:\n\techo > obj/x; echo > out\n"
+            "all: dirs out\ndirs:\n\tmkdir obj; touch dirs\nout:\n\techo > obj/x && echo > out\n"
         )
         said = self.refused(makefile, "fails", BARE)
         self.assertIn(
             (
-                "\tthe folder obj is made by the recipe of dirs, which needn't run before:"
-                " let this recipe make it too (mkdir -p obj)\n"
+                "\tthe folder obj is made by the recipe of dirs, and needn't be there when"
+                " this one runs: let this recipe make it too (mkdir -p obj)\n"
             ),
             said,
         )
@@ -170,16 +178,11 @@ class BareTest(ReplayTest):
         words = ("--fixed", os.path.dirname(os.path.dirname(python)))
         environment = {"PYTHONDONTWRITEBYTECODE": None, "PYTHONPYCACHEPREFIX": None}
         outcome = self.record(*words, environment=environment)
-        self.assertEqual((outcome.status, outcome.book), (1, None), outcome.errors)
+        self.assertTrue(outcome.lacks("a"), outcome)
         said = (
             " anew: Python keeps compiled modules there, and then only looks at their texts. Remove"
             " that folder, and write python3 -B in the recipes, or give --trust a to take the"
             " recipe as it is\n"
-        )
-        self.assertEqual(outcome.errors.count(said), 1, outcome.errors)
-        said = (
-            "\n\tPython keeps compiled modules in d/__pycache__, and then only looks at their"
-            " texts: remove that folder, and write python3 -B in the recipes\n"
         )
         self.assertEqual(outcome.errors.count(said), 1, outcome.errors)
         warning = (
@@ -199,7 +202,7 @@ class BareTest(ReplayTest):
     def test_a_file_that_the_recipe_takes_away(self) -> None:
         makefile = "a:\n\techo 1 > x; echo > a\n"
         self.passes("out: a\n\tcat x > out; rm x\n" + makefile)
-        said = self.refused("out: a\n\trm x; echo > out\n" + makefile, "fails", BARE)
+        said = self.refused("out: a\n\trm x && echo > out\n" + makefile, "fails", BARE)
         what = "it takes away x, which it neither made nor read: let it do without (rm -f x)"
         self.assertIn(f"\t{what}\n", said)
 
@@ -209,7 +212,7 @@ class BareTest(ReplayTest):
         for way in ("gzip -c a > out", "tar cf out s a", "stat -c %Y a > out"):
             self.write({"makefile": f"out: s a\n\t{way}\na: s\n\tcat s > a\n", "s": "1\n"})
             outcome = self.record()
-            self.assertEqual((outcome.status, outcome.book), (1, None), way)
+            self.assertTrue(outcome.lacks("out"), way)
             self.assertIn(
                 f"the recipe of out, run {FRONTS[BARE]}, writes out with other contents: it uses"
                 " the time stamp of a file that a recipe makes, which is another one in each build,"
@@ -220,6 +223,45 @@ class BareTest(ReplayTest):
 
     def test_an_ignored_failure_is_none(self) -> None:
         self.passes("out: a\n\t-cat a b > out\n\t-@false\n", {"a": ""})
+
+
+@traced
+@namespaces
+class FailingTest(ReplayTest):
+    """What a recipe leaves where writes to its target fail."""
+
+    def halves(self, rule: str) -> bool:
+        """Whether the recipe of `out` leaves it half-written, where no other run finds anything."""
+        self.write({"makefile": f"{rule}\n", "a": "1\n"})
+        self.recorded()
+        store = Store(str(self.scratch / "store"))
+        world = World.of(str(self.folder), str(self.copy()), store)
+        recipe = Recipe("out", [rule.partition("\t")[2]])
+        place = Path(world.place)
+        subprocess.run(recipe.commands[0].words, cwd=place, check=True)
+        trial = world.took(recipe, Effects(("a",), ("out",)), time.time())
+        replay = Replay(
+            world, str(self.folder), str(self.scratch / "runs"), os.environ, Ancestors()
+        )
+        (outcome,) = replay.run([trial]).outcomes
+        self.assertTrue(outcome.passed, outcome)
+        return outcome.half
+
+    def copy(self) -> Path:
+        """A copy of the project."""
+        return Path(shutil.copytree(self.folder, tempfile.mkdtemp(dir=self.scratch) + "/copy"))
+
+    def test_a_target_that_is_written_by_its_own_name(self) -> None:
+        for way in ("sort a > out", "cp a out", "cat a | tee out > t; rm t"):
+            self.assertTrue(self.halves(f"out: a\n\t{way}"), way)
+
+    def test_a_target_that_is_renamed_or_removed(self) -> None:
+        for way in (
+            "sort a > out.new && mv out.new out",
+            "sort a > out || { rm -f out; false; }",
+            "cp a out || rm -f out",
+        ):
+            self.assertFalse(self.halves(f"out: a\n\t{way}"), way)
 
 
 @traced
@@ -273,7 +315,7 @@ class AgainTest(ReplayTest):
         self.refused("out: a\n\tln -s a out\n", "fails", AGAIN, {"a": ""})
 
     def test_a_failure_of_what_is_made_once(self) -> None:
-        self.write({"makefile": "out:\n\tmkdir d; echo > out\n"})
+        self.write({"makefile": "out:\n\tmkdir d && echo > out\n"})
         (warning,) = self.recorded().warnings()
         self.assertTrue(
             warning.startswith(f"the recipe of out, run {FRONTS[AGAIN]}, fails: "), warning
@@ -379,9 +421,15 @@ class ListedTest(ReplayTest):
 
     def test_files_that_are_made_in_one_order(self) -> None:
         """One needs the other, or one recipe makes both."""
-        makefile = f"out: d/a d/b\n\t{self.listing}\n{self.rules}".replace("d/b: y", "d/b: y d/a")
-        self.passes(makefile, self.files)
-        self.passes(f"out: d/b x\n\t{self.listing}\nd/b: y\n\tcp y d/a; cp y d/b\n")
+        first = f"out: d/a d/b\n\t{self.listing}\n{self.rules}".replace("d/b: y", "d/b: y d/a")
+        second = f"out: d/b x\n\t{self.listing}\nd/b: y\n\tcp y d/a; cp y d/b\n"
+        for makefile in (first, second):
+            self.write({"makefile": makefile, **self.files})
+            (warning,) = self.recorded().warnings()
+            told = (
+                "run where folders list their names the other way round, as on another file system"
+            )
+            self.assertIn(told, warning)
 
     def test_folders_of_two_recipes(self) -> None:
         listing = "cat d/p/a d/q/b > out; find d -type d > l; cat l >> out; rm l"
@@ -404,7 +452,9 @@ class DamagedTest(ReplayTest):
         self.refused(makefile, "writes out with other contents", DAMAGED, {"a": "1"})
 
     def test_a_failure_is_a_warning(self) -> None:
-        self.write({"makefile": "out: a\n\ttest ! -f out || cmp out a; cat a > out\n", "a": "1\n"})
+        self.write(
+            {"makefile": "out: a\n\ttest ! -f out || cmp out a && cat a > out\n", "a": "1\n"}
+        )
         (warning,) = self.recorded().warnings()
         self.assertTrue(
             warning.startswith(f"the recipe of out, run {FRONTS[DAMAGED]}, fails: "), warning
@@ -608,14 +658,14 @@ class UntracedTest(ReplayTest):
             place = places.Place(str(self.folder), str(self.folder))
             self.assertEqual(places.run(command.words, place, environment).status, 0)
         world.took(recipe, Effects(tuple(reads), tuple(writes)), world.begun)
-        least, replaying.LEAST_SECONDS = replaying.LEAST_SECONDS, seconds
+        least, runs.LEAST_SECONDS = runs.LEAST_SECONDS, seconds
         try:
             replay = Replay(
                 world, str(self.folder), str(self.scratch / "replays"), environment, Ancestors()
             )
-            (outcome,) = replay.run(world.trials)
+            (outcome,) = replay.run(world.trials).outcomes
         finally:
-            replaying.LEAST_SECONDS = least
+            runs.LEAST_SECONDS = least
         return outcome
 
     def test_a_read_that_is_left_out(self) -> None:

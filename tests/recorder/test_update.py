@@ -6,16 +6,17 @@ import json
 import os
 import random
 import shutil
+import signal
+import subprocess
 import sys
+import time
 import unittest
 from collections.abc import Callable
 from pathlib import Path
 
-from project import ROOT, Outcome, ProjectTest, compiled, traced
-
-sys.path.insert(0, str(ROOT / "tools"))
-
-from mkcheck_record import states  # noqa: E402
+from mkcheck_tools.book import states
+from mkcheck_tools.run import places
+from recorder.project import MKCHECK, RECORDER, Outcome, ProjectTest, compiled, traced
 
 ALL = "all recipes are recorded"
 
@@ -322,11 +323,12 @@ class RandomTest(UpdateTest):
             outcome, full = self.update(), self.full()
             said = f"seed {seed}: {done}\n{outcome.errors}{full.errors}"
             self.assertEqual(outcome.status, full.status, said)
+            if self.book.exists():
+                self.assertEqual(self.updated.read_text(), self.book.read_text(), said)
             if full.status != 0:
                 self.start_again()
                 continue
             right += 1
-            self.assertEqual(self.updated.read_text(), self.book.read_text(), said)
             self.assertEqual(outcome.warnings(), full.warnings(), said)
         self.assertGreater(right, rounds // 2)
 
@@ -378,8 +380,7 @@ class LateTest(UpdateTest):
         for text, told in (
             (f"all: dirs a\na: x dirs\n\tcp x d/x; cp x a\n{dirs}", "the folder d is made by"),
             (
-                "a: x dirs c\n\tcat x c dirs > a; test c -nt dirs\n"
-                f"{dirs}c: x dirs\n\tcp x c\n",
+                "a: x dirs c\n\tcat x c dirs > a; test c -nt dirs\n" f"{dirs}c: x dirs\n\tcp x c\n",
                 "it compares stamps of files",
             ),
         ):
@@ -391,6 +392,7 @@ class LateTest(UpdateTest):
             outcome = self.update()
             self.assertEqual((outcome.status, self.full().status), (1, 1), outcome.errors)
             self.assertIn(told, outcome.errors)
+            self.assertEqual(self.updated.read_text(), self.book.read_text())
 
 
 @traced
@@ -409,8 +411,9 @@ class StateTest(UpdateTest):
         outcome = self.update(*words, environment=environment)
         self.assertEqual(self.count(outcome), 2)
         self.assertEqual(self.count(self.update(*words, environment=environment)), 0)
-        front, line = f"{self.state} ", self.told(outcome)[0]
-        self.assertTrue(line.startswith(front) and line.endswith(f": {ALL}"), line)
+        front = f"{self.state} "
+        (line,) = [line for line in self.told(outcome) if line.startswith(front)]
+        self.assertTrue(line.endswith(f": {ALL}"), line)
         return line[len(front) : -len(f": {ALL}")]
 
     def test_torn(self) -> None:
@@ -421,13 +424,13 @@ class StateTest(UpdateTest):
             "",
             "[]",
             "{}",
-            '{"format":4,"digest":"","state":{}}',
+            '{"format":5,"digest":"","state":{}}',
         ):
             self.state.write_text(text)
             self.assertEqual(self.all_again(), "isn't whole")
         self.state.write_bytes(b"\xff")
         self.assertEqual(self.all_again(), "can't be read")
-        self.state.write_text(whole.replace('"format":4', '"format":3', 1))
+        self.state.write_text(whole.replace('"format":5', '"format":4', 1))
         self.assertEqual(self.all_again(), "is of another version of mkcheck-record")
 
     def test_changed_by_hand(self) -> None:
@@ -438,9 +441,13 @@ class StateTest(UpdateTest):
         self.state.unlink()
         self.assertEqual(self.all_again(), "isn't there")
 
-    def test_footprints_that_were_changed(self) -> None:
-        self.updated.write_text(self.updated.read_text() + "\n")
-        self.assertEqual(self.all_again(), "belongs to other footprints")
+    def test_footprints_that_were_changed_or_are_gone(self) -> None:
+        """The state has all that stands in them."""
+        text = self.updated.read_text()
+        self.updated.write_text(text + "\n")
+        self.assertEqual((self.count(self.update()), self.updated.read_text()), (0, text))
+        self.updated.unlink()
+        self.assertEqual((self.count(self.update()), self.updated.read_text()), (0, text))
 
     def test_a_kept_file_that_was_changed(self) -> None:
         (file,) = self.store.iterdir()
@@ -455,7 +462,7 @@ class StateTest(UpdateTest):
         )
         self.assertEqual(
             self.all_again(environment={"A_VARIABLE": "1"}),
-            "was written under other conditions ($A_VARIABLE, fixed)",
+            "was written under other conditions ($A_VARIABLE)",
         )
         self.assertEqual(
             self.all_again("CC=cc", environment={"A_VARIABLE": "2"}),
@@ -464,9 +471,11 @@ class StateTest(UpdateTest):
         self.assertNotIn("A_VARIABLE=", self.state.read_text())
         outcome = self.update(environment={"TERM": "other", "SHLVL": "7"})
         self.assertEqual(
-            self.told(outcome)[0],
-            f"{self.state} was written under other conditions ($A_VARIABLE, $CC, $MAKEFLAGS):"
-            f" {ALL}",
+            self.told(outcome)[:2],
+            [
+                "as before: --fixed /nowhere/ CC=cc",
+                f"{self.state} was written under other conditions ($A_VARIABLE): {ALL}",
+            ],
         )
         self.assertEqual(self.count(self.update(environment={"TERM": "another", "SHLVL": "8"})), 0)
 
@@ -487,18 +496,23 @@ class StateTest(UpdateTest):
         self.assertEqual(self.all_again(), "isn't whole")
         self.assertFalse((self.scratch / "elsewhere").exists())
 
-    def test_a_failure_leaves_all_as_it_was(self) -> None:
-        before = (self.updated.read_text(), self.state.read_text())
+    def test_a_failure_costs_that_recipe(self) -> None:
         self.write({"makefile": "b: a\n\tcp a b; false\na: s\n\tcp s a\n"})
         failed = self.update()
-        self.assertEqual(failed.status, 1)
-        self.assertTrue(
-            failed.errors.endswith(
-                f"\nmkcheck-record: {self.updated} is still that of the old sources\n"
-            ),
-            failed.errors,
-        )
-        self.assertEqual((self.updated.read_text(), self.state.read_text()), before)
+        self.assertEqual((failed.status, failed.counts), (1, (1, 2)), failed.errors)
+        records = json.loads(self.updated.read_text())["records"]
+        self.assertEqual([record["target"] for record in records], ["a"])
+        self.write({"makefile": "b: a\n\tcp a b\na: s\n\tcp s a\n"})
+        self.assertEqual(self.count(self.update()), 0)
+        self.assert_as_full()
+
+    def test_where_nothing_can_be_recorded_all_stays_as_it_was(self) -> None:
+        before = self.updated.read_text()
+        self.write({"makefile": "b: a\n\tcp a b\na: s\n\tcp s a; false\n"})
+        failed = self.update()
+        self.assertEqual((failed.status, failed.counts), (1, (0, 2)), failed.errors)
+        self.assertEqual(failed.behind, (f"{self.updated} is still that of the recording before",))
+        self.assertEqual(self.updated.read_text(), before)
         self.write({"makefile": "b: a\n\tcp a b\na: s\n\tcp s a\n"})
         self.assertEqual(self.count(self.update()), 0)
 
@@ -536,7 +550,8 @@ class ReplayedTest(UpdateTest):
         second = self.update("--trust", "a")
         self.assertEqual(self.count(second), 1)
         self.assertIn("trusted, and not shown to be right: the recipe of a, ", second.errors)
-        self.assertEqual(self.update().status, 1)
+        third = self.update()
+        self.assertEqual((self.told(third)[0], self.count(third)), ("as before: --trust a", 1))
 
     def test_what_was_not_replayed_is_recorded_again(self) -> None:
         self.write({"makefile": "a: s\n\tcat s > a\n", "s": ""})
@@ -558,6 +573,60 @@ class ReplayedTest(UpdateTest):
         self.assertEqual(self.count(self.update()), 3)
         self.write({"t": "2\n"})
         self.assertEqual(self.count(self.update()), 1)
+
+
+@traced
+class StoppedTest(UpdateTest):
+    """Recordings that a signal ends: what was recorded is kept."""
+
+    replays = True
+    makefile = "c: a b\n\tcat a b > c; @WAIT@\na: s\n\tcp s a\nb: a\n\tcp a b; echo > x\n"
+
+    def stop(self, number: signal.Signals, option: str) -> str:
+        """Starts a recording whose last recipe waits, and sends it a signal; it has to end soon.
+        Returns what it said."""
+        self.write({"makefile": self.makefile.replace("@WAIT@", "touch wait; sleep 60")})
+        self.write({"s": "1\n"})
+        words = [sys.executable, str(RECORDER), "-C", str(self.folder), option, str(self.updated)]
+        environment = {**os.environ, "MKCHECK": MKCHECK, "TMPDIR": str(self.scratch)}
+        with subprocess.Popen(words, env=environment, stderr=subprocess.PIPE, text=True) as run:
+            until = time.monotonic() + 120
+            while not list(self.scratch.glob("mkcheck-record-*/copy/project/wait")):
+                self.assertLess(time.monotonic(), until)
+                time.sleep(0.05)
+            run.send_signal(number)
+            _, errors = run.communicate(timeout=60)
+        self.assertEqual(run.returncode, 128 + number)
+        return errors
+
+    def test_the_next_update_goes_on(self) -> None:
+        for option in ("-o", "--update"):
+            errors = self.stop(signal.SIGINT, option)
+            self.assertTrue(
+                errors.endswith(
+                    "mkcheck-record: stopped by SIGINT, what was recorded is kept: mkcheck-record"
+                    f" --update {self.updated} goes on from there\n"
+                ),
+                errors,
+            )
+            self.assertFalse(self.updated.exists())
+            self.write({"makefile": self.makefile.replace("; @WAIT@", "")})
+            outcome = self.update(environment={"TMPDIR": str(self.scratch)})
+            self.assertEqual(self.count(outcome), 1)
+            full = self.record(environment={"TMPDIR": str(self.scratch)})
+            self.assertEqual(self.updated.read_text(), self.book.read_text())
+            self.assertEqual(outcome.warnings(), full.warnings())
+            for path in (self.updated, Path(f"{self.updated}.state")):
+                path.unlink()
+
+    @unittest.skipUnless(places.namespace(), "no mount namespace is allowed")
+    def test_what_was_kept_is_still_replayed(self) -> None:
+        self.makefile = self.makefile.replace("cp s a", "cp s a; date +%s%N >> a")
+        self.stop(signal.SIGTERM, "-o")
+        self.write({"makefile": self.makefile.replace("; @WAIT@", "")})
+        outcome = self.update(environment={"TMPDIR": str(self.scratch)})
+        self.assertEqual((outcome.status, outcome.counts), (1, (2, 3)), outcome.errors)
+        self.assertIn("the recipe of a, run in a folder that holds only what", outcome.errors)
 
 
 if __name__ == "__main__":

@@ -136,8 +136,13 @@ def measured(page: Path, widths: Sequence[int], dark: bool) -> dict[int, dict]:
 def main(words: list[str]) -> int:
     """Takes a picture of a page, as high as the page is."""
     page, width, scheme, picture = Path(words[0]), int(words[1]), words[2], words[3]
-    run(page, width, scheme == "dark", f"--screenshot={os.path.abspath(picture)}",
-        height=int(words[4]) if len(words) > 4 else 2400)
+    run(
+        page,
+        width,
+        scheme == "dark",
+        f"--screenshot={os.path.abspath(picture)}",
+        height=int(words[4]) if len(words) > 4 else 2400,
+    )
     return 0
 
 

@@ -13,7 +13,7 @@ from html.parser import HTMLParser
 from pathlib import Path
 
 ROOT = Path(__file__).resolve().parents[2]
-REPORT = ROOT / "tools" / "mkcheck-report"
+REPORT = ROOT / "bin" / "mkcheck-report"
 MKCHECK = os.path.abspath(os.environ.get("MKCHECK", ROOT / "bin" / "mkcheck"))
 VOID = frozenset({"meta", "input", "br", "link", "circle", "rect", "path", "polygon"})
 
@@ -26,8 +26,12 @@ main.o: main.c
 \tcc -c main.c
 """
 RACE_BOOK = [
-    ("version.h", ["""sed 's/.*/#define VERSION "&"/' version.txt > version.h"""],
-     ["/usr/bin/sed", "version.txt"], ["version.h"]),
+    (
+        "version.h",
+        ["""sed 's/.*/#define VERSION "&"/' version.txt > version.h"""],
+        ["/usr/bin/sed", "version.txt"],
+        ["version.h"],
+    ),
     ("main.o", ["cc -c main.c"], ["/usr/bin/cc", "main.c", "version.h"], ["main.o"]),
     ("prog", ["cc -o prog main.o"], ["/usr/bin/cc", "main.o"], ["prog"]),
 ]
@@ -134,8 +138,10 @@ class ReportTest(unittest.TestCase):
         objects = [f"o{one}.o" for one in number]
         rules = [f"o{one}.o: c{one}.c\n\tcc -c c{one}.c\n" for one in number]
         makefile = f"prog: {' '.join(objects)}\n\tcc -o prog\n{''.join(rules)}"
-        records = [(f"o{one}.o", [f"cc -c c{one}.c"], [f"c{one}.c", *headers], [f"o{one}.o"])
-                   for one in number]
+        records = [
+            (f"o{one}.o", [f"cc -c c{one}.c"], [f"c{one}.c", *headers], [f"o{one}.o"])
+            for one in number
+        ]
         records.append(("prog", ["cc -o prog"], [*objects, *headers[:96]], ["prog"]))
         self.build(makefile, records, [*headers, *(f"c{one}.c" for one in number)])
 

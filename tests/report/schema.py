@@ -22,6 +22,7 @@ OBJECTS: dict[str, tuple[dict, tuple[str, ...]]] = {
             "originalUriBaseIds": {"": "artifactLocation"},
             "invocations": ["invocation"],
             "results": ["result"],
+            "properties": {"": int},
         },
         ("tool",),
     ),
@@ -60,6 +61,8 @@ OBJECTS: dict[str, tuple[dict, tuple[str, ...]]] = {
             "relatedLocations": ["location"],
             "partialFingerprints": {"": str},
             "fixes": ["fix"],
+            # Each object may have a bag of properties; here its values are of one type.
+            "properties": {"": str},
         },
         ("message",),
     ),
@@ -101,8 +104,11 @@ def wrong_parts(value: object, kind: object = "sarifLog", place: str = "log") ->
     if isinstance(kind, list):
         if not isinstance(value, list):
             return [f"{place} is no list"]
-        found = [wrong for number, one in enumerate(value)
-                 for wrong in wrong_parts(one, kind[0], f"{place}[{number}]")]
+        found = [
+            wrong
+            for number, one in enumerate(value)
+            for wrong in wrong_parts(one, kind[0], f"{place}[{number}]")
+        ]
         name = place.rpartition(".")[2]
         if name in FILLED and not value:
             found.append(f"{place} is empty")
@@ -112,8 +118,11 @@ def wrong_parts(value: object, kind: object = "sarifLog", place: str = "log") ->
     if isinstance(kind, dict):
         if not isinstance(value, dict):
             return [f"{place} is no object"]
-        return [wrong for name, one in value.items()
-                for wrong in wrong_parts(one, kind[""], f"{place}.{name}")]
+        return [
+            wrong
+            for name, one in value.items()
+            for wrong in wrong_parts(one, kind[""], f"{place}.{name}")
+        ]
     assert isinstance(kind, type)
     fits = isinstance(value, kind) and (kind is bool or not isinstance(value, bool))
     return [] if fits else [f"{place} is no {kind.__name__}"]

@@ -7,7 +7,7 @@ import os
 import subprocess
 import sys
 
-from project import MKCHECK, REPORT, ReportTest
+from report.project import MKCHECK, REPORT, ReportTest
 
 MARKUP = "x<script>alert(1)</script>&\"'.h"
 TURNED = "a\u202eb\u2028.h"
@@ -29,8 +29,11 @@ class NamesTest(ReportTest):
     def setUp(self) -> None:
         super().setUp()
         names = [MARKUP, TURNED, LONG]
-        self.build("a.o: a.c\n\tcc -c a.c\n", [("a.o", ["cc -c a.c"], ["a.c", *names], ["a.o"])],
-                   ["a.c", *names])
+        self.build(
+            "a.o: a.c\n\tcc -c a.c\n",
+            [("a.o", ["cc -c a.c"], ["a.c", *names], ["a.o"])],
+            ["a.c", *names],
+        )
 
     def test_page(self) -> None:
         """No name is markup, none turns the text, and all show."""
@@ -116,7 +119,10 @@ class MissingTest(ReportTest):
             ("echo nonsense; exit 1", "mkcheck graph: nonsense"),
             ("echo goals; exit 0", "mkcheck graph printed no goals"),
             ("echo refused 1; exit 2", "check -w gives another answer than check"),
-            ('[ "$4" = -w ] && exit 0; echo no; exit 1', "check -w gives another answer than check"),
+            (
+                '[ "$4" = -w ] && exit 0; echo no; exit 1',
+                "check -w gives another answer than check",
+            ),
         ):
             self.assertIn(said, self.fault(program=self.stand_in(then)), then)
 
@@ -137,10 +143,14 @@ class MissingTest(ReportTest):
         """Standard output can't be written."""
         if not os.path.exists("/dev/full"):
             self.skipTest("no /dev/full")
-        script = f'exec {sys.executable} -B {REPORT} -b B --dot > /dev/full'
+        script = f"exec {sys.executable} -B {REPORT} -b B --dot > /dev/full"
         done = subprocess.run(
-            ["/bin/sh", "-c", script], cwd=self.folder, env={**os.environ, "MKCHECK": MKCHECK},
-            capture_output=True, text=True, check=False,
+            ["/bin/sh", "-c", script],
+            cwd=self.folder,
+            env={**os.environ, "MKCHECK": MKCHECK},
+            capture_output=True,
+            text=True,
+            check=False,
         )
         self.assertEqual(done.returncode, 2)
         self.assertEqual(

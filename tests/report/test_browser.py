@@ -5,13 +5,13 @@ from __future__ import annotations
 import shutil
 import unittest
 
-import browser
-from project import ReportTest
+from report import browser
+from report.project import ReportTest
 
 WIDTHS = (1280, 390)
 # A deep build, with long names, a race, and stale reads of a source and of a written file.
 LONG = "a_directory_with_a_long_name/and_another_one_in_it/a_header_with_a_long_name_too.h"
-MAKEFILE = f"""\
+MAKEFILE = """\
 .PHONY: all
 all: lib/gen.h prog
 prog: obj/main.o obj/util.o obj/a_module_with_quite_a_long_name.o
@@ -32,8 +32,10 @@ OBJECTS = ["obj/main.o", "obj/util.o", "obj/a_module_with_quite_a_long_name.o"]
 def records() -> list:
     """What the recipes read and write."""
     link = f"cc -o prog {' '.join(OBJECTS)}"
-    found = [("prog", [link], OBJECTS, ["prog"]),
-             ("lib/gen.h", ["sed s/a/b/ gen.in > lib/gen.h"], ["gen.in"], ["lib/gen.h"])]
+    found = [
+        ("prog", [link], OBJECTS, ["prog"]),
+        ("lib/gen.h", ["sed s/a/b/ gen.in > lib/gen.h"], ["gen.in"], ["lib/gen.h"]),
+    ]
     for one, source in zip(OBJECTS, SOURCES):
         found.append((one, [f"cc -o {one} -c {source}"], [source, LONG, "lib/gen.h"], [one]))
     return found

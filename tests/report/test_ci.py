@@ -8,7 +8,7 @@ import shutil
 import subprocess
 import unittest
 
-from project import MKCHECK, ROOT, ReportTest
+from report.project import MKCHECK, ROOT, ReportTest
 
 PAGE = ROOT / "docs" / "CI.md"
 SCRIPT = re.compile(r"^```sh\n(.*?)^```$", re.MULTILINE | re.DOTALL)
@@ -35,7 +35,7 @@ class ScriptTest(ReportTest):
         tools.mkdir()
         (tools / "mkcheck").symlink_to(MKCHECK)
         for name in ("mkcheck-record", "mkcheck-report"):
-            (tools / name).symlink_to(ROOT / "tools" / name)
+            (tools / name).symlink_to(ROOT / "bin" / name)
         self.tools, self.folder = tools, self.folder / "project"
         self.folder.mkdir()
         (script,) = SCRIPT.findall(PAGE.read_text(encoding="utf-8"))

@@ -7,7 +7,7 @@ import shutil
 import subprocess
 import unittest
 
-from project import ReportTest
+from report.project import ReportTest
 
 MAKEFILE = """\
 .PHONY: all
@@ -33,8 +33,12 @@ class DotTest(ReportTest):
         outcome = self.report("--dot", *words)
         self.assertEqual((outcome.status, outcome.errors), (0, ""))
         self.text = outcome.output
-        nodes = {number: (label, look) for number, label, look in
-                 re.findall(r'^  (n\d+) \[label="(.*?)", class="(\w+)"', self.text, re.MULTILINE)}
+        nodes = {
+            number: (label, look)
+            for number, label, look in re.findall(
+                r'^  (n\d+) \[label="(.*?)", class="(\w+)"', self.text, re.MULTILINE
+            )
+        }
         names = {number: label for number, (label, _) in nodes.items()}
         edges, red = set(), set()
         for one, other, said in re.findall(r"^  (n\d+) -> (n\d+)(.*);$", self.text, re.MULTILINE):
@@ -52,13 +56,24 @@ class DotTest(ReportTest):
         nodes, edges, red = self.graph()
         self.assertEqual(
             nodes,
-            {"all": "phony", "gen": "recipe", "x": "recipe", "y": "recipe", "a": "plain",
-             "b": "file"},
+            {
+                "all": "phony",
+                "gen": "recipe",
+                "x": "recipe",
+                "y": "recipe",
+                "a": "plain",
+                "b": "file",
+            },
         )
         self.assertEqual(
             edges,
-            {("all", "gen", "1"), ("all", "x", "2"), ("all", "y", "2"), ("x", "a", ""),
-             ("y", "a", "")},
+            {
+                ("all", "gen", "1"),
+                ("all", "x", "2"),
+                ("all", "y", "2"),
+                ("x", "a", ""),
+                ("y", "a", ""),
+            },
         )
         self.assertEqual(red, {("y", "b"), ("y", "gen")})
 

@@ -6,7 +6,7 @@ import re
 import shutil
 import unittest
 
-from project import HIDING, ROOT, ReportTest
+from report.project import HIDING, ROOT, ReportTest
 
 drawn = unittest.skipUnless(shutil.which("dot"), "no Graphviz (dot)")
 
@@ -249,8 +249,11 @@ class KindsTest(ReportTest):
     def test_continued_rule(self) -> None:
         """The missing word goes to the last of the lines that are joined, before the comment."""
         makefile = "a.o: a.c \\\n  b.h # all\n\tcc -c a.c\n"
-        self.build(makefile, [("a.o", ["cc -c a.c"], ["a.c", "b.h", "c.h"], ["a.o"])],
-                   ["a.c", "b.h", "c.h"])
+        self.build(
+            makefile,
+            [("a.o", ["cc -c a.c"], ["a.c", "b.h", "c.h"], ["a.o"])],
+            ["a.c", "b.h", "c.h"],
+        )
         self.page(1)
         self.assertIn("  b.h <ins>c.h</ins> # all", self.raw)
 
@@ -265,8 +268,10 @@ class KindsTest(ReportTest):
     def test_two_races(self) -> None:
         """Each race has a schedule."""
         makefile = "all: g h a b\n.PHONY: all\ng: ; mk g\nh: ; mk h\na: ; mk a\nb: ; mk b\n"
-        records = [(name, [f"mk {name}"], reads, [name])
-                   for name, reads in (("g", []), ("h", []), ("a", ["g"]), ("b", ["h"]))]
+        records = [
+            (name, [f"mk {name}"], reads, [name])
+            for name, reads in (("g", []), ("h", []), ("a", ["g"]), ("b", ["h"]))
+        ]
         self.build(makefile, records, [])
         page = self.page(1)
         self.assertIn("no race a g g", page.text)
@@ -278,8 +283,10 @@ class KindsTest(ReportTest):
         """Both files come of the recipe of p.c, and p.h is no target: the line to add names p.c.
         The reads of p.c and of p.h are groups of their own, each as a race and as a stale read."""
         makefile = "all: p.c m.o\n.PHONY: all\np.c: p.y\n\tbison p.y\nm.o: m.c\n\tcc -c m.c\n"
-        records = [("p.c", ["bison p.y"], ["p.y"], ["p.c", "p.h"]),
-                   ("m.o", ["cc -c m.c"], ["m.c", "p.c", "p.h"], ["m.o"])]
+        records = [
+            ("p.c", ["bison p.y"], ["p.y"], ["p.c", "p.h"]),
+            ("m.o", ["cc -c m.c"], ["m.c", "p.c", "p.h"], ["m.o"]),
+        ]
         self.build(makefile, records, ["p.y", "m.c"])
         text = self.page(1).text
         self.assertIn("4 findings in 4 groups", text)

@@ -5,8 +5,8 @@ from __future__ import annotations
 import json
 import subprocess
 
-from project import HIDING, MKCHECK, RACE, ReportTest
-from schema import wrong_parts
+from report.project import HIDING, MKCHECK, RACE, ReportTest
+from report.schema import wrong_parts
 
 
 class SarifTest(ReportTest):

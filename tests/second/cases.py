@@ -6,13 +6,13 @@ import os
 from book import read_book
 from certificates import certificate_of
 from footprints import Model, book_of, format_one
+from graph import Graph, There
 from judge import Subject
 from lacking import book_of as true_book
 from lacking import lacking
 from lines import Refused
 from makefiles import mutated, structural
 from plans import WRONG, plan_of
-from graph import Graph, There
 from request import Request, Usage
 from shapes import inferences, jungle, orders
 

@@ -113,8 +113,10 @@ def sort_of(told):
     """A short name for what was told, to be counted."""
     text, status = told
     if status == 1 and IN_WORDS.search(text):
-        found = [sorted({b" ".join(kind) for kind in IN_WORDS.findall(part)})
-                 for part in text.split(THEN)]
+        found = [
+            sorted({b" ".join(kind) for kind in IN_WORDS.findall(part)})
+            for part in text.split(THEN)
+        ]
         return "no " + b"; then ".join(b", ".join(kinds) for kinds in found).decode()
     if status == 2 and FAULT.match(text):
         return "refused " + FAULT.match(text)[1].decode()

@@ -9,7 +9,18 @@ from makefiles import Project, included, shuffled_blocks, written
 from reading import read_makefile
 from request import Request, Usage
 
-ODD_HEADERS = ["a%b.h", "q:y.h", "p(q).h", "é/ü.h", ".WAIT", ".PHONY", "-", "../up.h", "x=y", ".c.o"]
+ODD_HEADERS = [
+    "a%b.h",
+    "q:y.h",
+    "p(q).h",
+    "é/ü.h",
+    ".WAIT",
+    ".PHONY",
+    "-",
+    "../up.h",
+    "x=y",
+    ".c.o",
+]
 # How a makefile may end, which decides what becomes of lines that are appended.
 ENDS = [b"", b"", b"# end", b"# end \\", b"V = x \\", b"V = x \\\n", b"\\", b"\t", b" \t", b"#\\\\"]
 

@@ -71,7 +71,7 @@ def read_twice():
 
 def named():
     """Names that no makefile holds, and names that it reads in a way of their own."""
-    odd = "h:h h%h h(h h=h h#h h\\h h\"h h;h h*h é.h .WAIT .PHONY .SUFFIXES .c.o .c - .. ../h /h"
+    odd = 'h:h h%h h(h h=h h#h h\\h h"h h;h h*h é.h .WAIT .PHONY .SUFFIXES .c.o .c - .. ../h /h'
     for name in odd.split() + ["h$h", "h'h", "h&h", "~h"]:
         yield mended(LACKING, f"a.c {name}", LINKED, ("a.o", ["cc"], ["a.c", name], ["a.o"]))
         beside = ("g", ["mk"], ["a.c"], ["g", name])

@@ -60,6 +60,6 @@ def answered(arguments, files):
 
 
 if __name__ == "__main__":
-    printed, status = answered(sys.argv[1:], Disk())
-    sys.stdout.buffer.write(printed)
+    said, status = answered(sys.argv[1:], Disk())
+    sys.stdout.buffer.write(said)
     sys.exit(status)

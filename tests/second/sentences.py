@@ -101,9 +101,9 @@ def of_commands(group, names, _files):
 
 def of_varying(group, names, _files):
     holds = group.one(b"it holds", b"they hold")
-    return (
-        b"the commands of %s use $?, so what %s may depend on what was out of date"
-        % (names, holds)
+    return b"the commands of %s use $?, so what %s may depend on what was out of date" % (
+        names,
+        holds,
     )
 
 
@@ -219,9 +219,11 @@ SENTENCES = {
 
 def one_recipe(group):
     """What to do where the first of two recipes makes all that the second one makes."""
-    return (b"; if the recipe of %s makes all that the recipe of %s makes, write `%s: %s ;` in "
-            b"place of the rule of %s"
-            % (group.first, group.second, group.second, group.first, group.second))
+    return (
+        b"; if the recipe of %s makes all that the recipe of %s makes, write `%s: %s ;` in "
+        b"place of the rule of %s"
+        % (group.first, group.second, group.second, group.first, group.second)
+    )
 
 
 def advice(group):

@@ -1,0 +1,1 @@
+"""Tests of mkcheck-record, and of the rooms below it."""

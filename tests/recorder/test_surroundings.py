@@ -1,0 +1,364 @@
+"""Builds that GNU make breaks though each recipe names all its files: what a recipe finds besides
+its files. The recorder refuses them, or has a doubt."""
+
+from __future__ import annotations
+
+import os
+import shutil
+import socket
+import subprocess
+import unittest
+from pathlib import Path
+
+from mkcheck_tools.replay.surroundings import library
+from mkcheck_tools.run import places
+from mkcheck_tools.run.memory import memory
+from recorder.project import OF_MAKE, ProjectTest, traced
+
+namespaces = unittest.skipUnless(places.namespace(), "no mount namespace is allowed")
+faked = unittest.skipUnless(library(), "no library that sets clocks forward")
+PYTHON = "/usr/bin/python3"
+MANY = {"a": "1\n", "b": "2\n"}
+
+
+class SurroundingsTest(ProjectTest):
+    """A project that is recorded with replays, and made by GNU make where it is there."""
+
+    replays = True
+
+    def made(self, *words: str, given: str = "", name: str = "out") -> str:
+        """What GNU make leaves in a file, made from nothing with this standard input."""
+        if shutil.which("make") is None:
+            self.skipTest("no make")
+        (self.folder / name).unlink(missing_ok=True)
+        subprocess.run(
+            ["make", "-s", *words],
+            cwd=self.folder,
+            env={key: value for key, value in os.environ.items() if key not in OF_MAKE},
+            input=given,
+            text=True,
+            capture_output=True,
+            check=True,
+        )
+        text = (self.folder / name).read_text()
+        (self.folder / name).unlink()
+        return text
+
+    def doubt(self, makefile: str, *told: str, files: dict[str, str] | None = None) -> None:
+        """The recording has one warning, which says all this."""
+        self.write({"makefile": makefile, **(files or {"a": "1\n"})})
+        warnings = self.recorded().warnings()
+        self.assertEqual(len(warnings), 1, warnings)
+        for text in told:
+            self.assertIn(text, warnings[0])
+
+    def refused(self, makefile: str, *told: str, files: dict[str, str] | None = None) -> None:
+        """The recipe of `out` has no record, for a reason that says all this."""
+        self.write({"makefile": makefile, **(files or {"a": "1\n"})})
+        outcome = self.record()
+        self.assertEqual(outcome.status, 1, outcome.errors)
+        records = [] if outcome.book is None else outcome.book["records"]
+        self.assertNotIn("out", [record["target"] for record in records])
+        for text in told:
+            self.assertIn(text, outcome.errors)
+
+    def passes(self, makefile: str, files: dict[str, str] | None = None) -> None:
+        """The recording has nothing to say."""
+        self.write({"makefile": makefile, **(files or {"a": "1\n"})})
+        self.assertEqual(self.recorded().errors, "")
+
+
+@traced
+@namespaces
+class ShellTest(SurroundingsTest):
+    """The shell is started as make starts it."""
+
+    makefile = 'out: a b\n\techo "`grep -c TODO a; cat b`" > out\n'
+
+    def test_a_part_that_fails_doesnt_end_a_command(self) -> None:
+        self.doubt(self.makefile, "(sh -e", "writes out with other contents", files=MANY)
+        self.assertEqual(self.recorded().own("out"), ({"a", "b"}, {"out"}))
+        self.assertEqual(self.made(), "0\n2\n")
+
+    def test_a_command_that_fails_under_posix_alone(self) -> None:
+        self.doubt("out: a\n\tgrep -q x a; echo $$? > out\n", "(sh -e", ", fails: ")
+        self.assertEqual(self.made(), "1\n")
+
+    def test_posix_ends_a_command_early(self) -> None:
+        for front in (".POSIX:\n", "P = .POSIX\n$(P):\n", "include posix.mk\n"):
+            self.write({"makefile": front + self.makefile, "posix.mk": ".POSIX:\n", **MANY})
+            outcome = self.recorded()
+            self.assertEqual(outcome.errors, "")
+            self.assertEqual(outcome.own("out"), ({"a"}, {"out"}), front)
+            self.assertEqual(self.made(), "0\n")
+
+    def test_posix_in_a_comment_or_a_command_is_none(self) -> None:
+        text = "# .POSIX:\nX = .POSIX:\n" + self.makefile + "b: c\n\techo .POSIX: > b\n"
+        self.write({"makefile": text, "a": "1\n", "c": ""})
+        self.assertEqual(self.recorded().own("out"), ({"a", "b"}, {"out"}))
+
+    def test_shell_flags(self) -> None:
+        self.write({"makefile": ".SHELLFLAGS = -ec\n" + self.makefile, **MANY})
+        self.assertEqual(self.recorded().own("out"), ({"a"}, {"out"}))
+        self.assertEqual(self.made(), "0\n")
+
+    def test_commands_that_end_well(self) -> None:
+        self.passes("out: a\n\tif grep -q x a; then echo x; fi > out; cat a >> out\n")
+
+
+@traced
+@namespaces
+class AmidTest(SurroundingsTest):
+    """What make hands down, the time, standard input, second names of files."""
+
+    def test_a_recipe_that_asks_for_jobs(self) -> None:
+        text = 'out: a\n\tcase "$$MAKEFLAGS" in *-j*) echo many;; *) echo one;; esac > out\n'
+        self.refused(text, "with MAKEFLAGS and MAKELEVEL as make -j2 sets them, writes out")
+        self.assertEqual((self.made(), self.made("-j2")), ("one\n", "many\n"))
+
+    def test_a_recipe_that_asks_for_the_level(self) -> None:
+        self.refused('out: a\n\techo "$$MAKELEVEL" > out\n', "with MAKEFLAGS and MAKELEVEL")
+        self.assertEqual(self.made(), "1\n")
+
+    @faked
+    def test_clocks_that_are_coarser_than_the_replay(self) -> None:
+        for command in ("date +%H", "date +%A", "echo $$((`date +%s` / 86400))"):
+            self.doubt(f"out: a\n\t{command} > out\n", "at another time of another day, writes out")
+
+    @faked
+    def test_nothing_is_left_of_the_clock(self) -> None:
+        before = {*os.listdir("/dev/shm")}
+        self.write({"makefile": "out: a\n\tcat a > out\n", "a": ""})
+        self.recorded()
+        left = {*os.listdir("/dev/shm")} - before
+        gone = [name for name in left if not os.path.exists(f"/proc/{name.rpartition('_')[2]}")]
+        self.assertEqual(gone, [])
+
+    @faked
+    def test_a_date_is_told_once(self) -> None:
+        self.doubt("out: a\n\tdate +%Y-%m-%d > out\n", "writes today's date")
+
+    def test_standard_input(self) -> None:
+        self.doubt("out: a\n\tcat a - > out\n", "with other standard input, writes out")
+        self.assertEqual(self.made(given="2\n"), "1\n2\n")
+
+    def test_numbers_of_links(self) -> None:
+        self.doubt("out: a\n\tstat -c %h a > out; cat a >> out\n", "have second names")
+        self.assertEqual(self.made(), "1\n1\n")
+        os.link(self.folder / "a", self.folder / "b")
+        self.assertEqual(self.made(), "2\n1\n")
+
+    def test_stamps_of_folders(self) -> None:
+        for command in ("stat -c %Y d > out; cat d/a >> out", "tar cf out d"):
+            self.doubt(
+                f"out: d/a\n\t{command}\n", "folders have other stamps", files={"d/a": "1\n"}
+            )
+
+    def test_two_doubts_of_one_recipe(self) -> None:
+        self.write({"makefile": "out: a\n\tcat - > out; stat -c %h a >> out; cat a\n", "a": ""})
+        told = self.recorded().warnings()
+        self.assertEqual(len(told), 2, told)
+
+    def test_a_recipe_that_goes_by_nothing(self) -> None:
+        self.passes("out: a\n\tcat a > out\n")
+
+
+@traced
+@namespaces
+class SizesTest(SurroundingsTest):
+    """Files at which a recipe only looks are very large, empty, and as they are."""
+
+    def test_a_file_that_is_large(self) -> None:
+        text = 'out: a\n\tif test "`find b -size +100k`"; then echo large; fi > out; cat a >> out\n'
+        self.refused(text, "have other sizes and stamps", "it looks at b", files=MANY)
+        self.assertEqual(self.made(), "1\n")
+        os.truncate(self.folder / "b", 1 << 20)
+        self.assertEqual(self.made(), "large\n1\n")
+
+    def test_a_small_file_that_is_new(self) -> None:
+        text = (
+            'out: a\n\tif test "`find b -size -100k -newer a`"; then echo new; fi > out;'
+            " cat a >> out\n"
+        )
+        self.write({"makefile": text, **MANY})
+        os.utime(self.folder / "b", (1e9, 1e9))
+        outcome = self.record()
+        self.assertEqual(outcome.status, 1, outcome.errors)
+        self.assertIn("have other sizes and stamps", outcome.errors)
+
+    def test_a_late_file_that_is_large(self) -> None:
+        text = (
+            "all: out big\nout: a\n\tfind . -name 'b*' -size +10k > out; cat a >> out\n"
+            "big: a\n\thead -c 100000 /dev/zero > big; cat a >> big\n"
+        )
+        self.doubt(text, "does something else where big is there")
+        self.assertIn("no race out big big", self.check())
+
+
+@traced
+@namespaces
+class ListingTest(SurroundingsTest):
+    """Folders list their names in two orders, whatever the disk is."""
+
+    def setUp(self) -> None:
+        super().setUp()
+        with memory(str(self.scratch)) as found:
+            if found is None:
+                self.skipTest("no file system in memory is allowed")
+
+    rules = "".join(f"d/{name}: {name}\n\tmkdir -p d; cp {name} d/{name}\n" for name in "ab")
+
+    def test_the_order_in_which_recipes_made_files(self) -> None:
+        text = "out: d/a d/b\n\tcat `find d -type f` > out\n" + self.rules
+        self.refused(text, "writes out with other contents", "it lists d", files=MANY)
+
+    def test_the_order_of_sources(self) -> None:
+        text = "out: s/a s/b\n\tcat `find s -type f` > out\n"
+        told = "where folders list their names the other way round"
+        self.doubt(text, told, files={"s/a": "1\n", "s/b": "2\n"})
+
+    def test_names_that_are_sorted(self) -> None:
+        text = "out: d/a d/b\n\tcat `find d -type f | sort` d/* > out\n" + self.rules
+        self.passes(text, MANY)
+
+    def test_files_of_one_recipe(self) -> None:
+        text = "out: d/a\n\tls -U d > /dev/null; cp d/a out\nd/a: a\n\tmkdir -p d; cp a d/a\n"
+        self.passes(text)
+
+
+@traced
+class ChannelsTest(SurroundingsTest):
+    """What a recipe hands on or asks for that is no file."""
+
+    replays = False
+
+    def python(self, *lines: str) -> str:
+        """A makefile whose recipe runs these lines of Python."""
+        self.write({"do.py": "\n".join(["import ctypes, os, socket", *lines, ""])})
+        return f"out: a do.py\n\t{PYTHON} do.py; cp a out\n"
+
+    def setUp(self) -> None:
+        super().setUp()
+        if not os.path.exists(PYTHON):
+            self.skipTest(f"no {PYTHON}")
+
+    def test_system_v(self) -> None:
+        for call, name in (
+            ("shmget(77, 4096, 0o1600)", "the shared memory 0x4d"),
+            ("semget(77, 1, 0o1600)", "the semaphores 0x4d"),
+            ("msgget(77, 0o1600)", "the message queue 0x4d"),
+        ):
+            text = self.python(f"ctypes.CDLL(None).{call}")
+            self.doubt(text, f"the recipe of out uses {name}, which is no file")
+
+    def test_what_a_recipe_makes_and_takes_away(self) -> None:
+        lines = ["libc = ctypes.CDLL(None)", "one = libc.msgget(77, 0o1600)"]
+        self.passes(self.python(*lines, "libc.msgctl(one, 0, None)"))
+
+    def test_what_two_recipes_make_and_take_away(self) -> None:
+        lines = ["libc = ctypes.CDLL(None)", "one = libc.msgget(77, 0o1600)"]
+        text = self.python(*lines, "libc.msgctl(one, 0, None)")
+        self.write({"makefile": "all: out two\n" + text + text.replace("out", "two"), "a": ""})
+        told = "the recipes of out and two both use the message queue 0x4d: with several jobs"
+        self.assertTrue(any(one.startswith(told) for one in self.recorded().warnings()))
+
+    def test_memory_that_is_shared_by_name(self) -> None:
+        name = f"mkcheck-test-{os.getpid()}"
+        Path("/dev/shm", name).touch()
+        self.addCleanup(Path("/dev/shm", name).unlink, missing_ok=True)
+        lines = ["libc = ctypes.CDLL('librt.so.1')", f"libc.shm_open(b'/{name}', 2, 0o600)"]
+        text = self.python(*lines, f"libc.shm_unlink(b'/{name}')")
+        self.doubt(text, f"uses the shared memory /dev/shm/{name}")
+
+    def test_queues_and_keys(self) -> None:
+        name = f"mkcheck-test-{os.getpid()}"
+        queue = f"ctypes.CDLL('librt.so.1').mq_open(b'/{name}', 0o102, 0o600, None)"
+        self.doubt(self.python(queue), f"uses the message queue /{name}")
+        key = "ctypes.CDLL(None).syscall(248, b'user', b'mkcheck-test', b'x', 1, -2)"
+        if os.uname().machine == "x86_64":
+            self.doubt(self.python(key), "uses keys that the kernel keeps")
+
+    def test_a_datagram_with_an_address(self) -> None:
+        lines = ["one = socket.socket(socket.AF_INET, socket.SOCK_DGRAM)"]
+        text = self.python(*lines, "one.sendto(b'x', ('127.0.0.1', 9))")
+        self.doubt(text, "the recipe of out asks 127.0.0.1, port 9: what that does or answers")
+
+    def test_a_connection_that_is_refused_or_in_progress(self) -> None:
+        with socket.socket() as free:
+            free.bind(("127.0.0.1", 0))
+            port = free.getsockname()[1]
+        for waits in (True, False):
+            text = self.python(
+                "one = socket.socket()",
+                f"one.setblocking({waits})",
+                f"one.connect_ex(('127.0.0.1', {port}))",
+            )
+            self.doubt(text, f"the recipe of out asks 127.0.0.1, port {port}")
+
+    def test_a_server_of_its_own(self) -> None:
+        with socket.socket() as free:
+            free.bind(("127.0.0.1", 0))
+            port = free.getsockname()[1]
+        text = self.python(
+            "server = socket.socket()",
+            f"server.bind(('127.0.0.1', {port}))",
+            "server.listen()",
+            f"socket.create_connection(('127.0.0.1', {port})).close()",
+        )
+        self.passes(text)
+
+    def test_what_the_kernel_counts(self) -> None:
+        for name in ("loadavg", "uptime", "meminfo"):
+            text = f"out: a\n\tcat /proc/{name} > /dev/null; cp a out\n"
+            self.doubt(text, f"the recipe of out reads /proc/{name}, which the kernel counts")
+
+    def test_random_numbers(self) -> None:
+        for command in (
+            "awk 'BEGIN { srand(); print rand() < 2 }' > out",
+            "sort -R a > out",
+            "shuf -n 1 a > out",
+        ):
+            self.doubt(f"out: a\n\t{command}\n", "the recipe of out draws random numbers")
+        self.passes("out: a\n\tshuf --random-source=a a > out\n")
+
+
+@traced
+class TextsTest(SurroundingsTest):
+    """What the texts of the makefile say to GNU make."""
+
+    replays = False
+
+    def test_a_byte_order_mark(self) -> None:
+        (self.folder / "makefile").write_bytes(b"\xef\xbb\xbfout: a\n\tcp a out\n")
+        self.write({"a": "1\n"})
+        outcome = self.record()
+        self.assertEqual((outcome.status, outcome.book), (2, None))
+        self.assertIn("makefile begins with a byte order mark, which GNU make", outcome.errors)
+        self.assertEqual(self.made(), "1\n")
+        self.write({"makefile": "include b\nout: a\n\tcp a out\n"})
+        (self.folder / "b").write_bytes(b"\xef\xbb\xbfX = 1\n")
+        self.assertIn("b begins with a byte order mark", self.record().errors)
+
+    def test_the_stem_in_a_rule_for_a_target(self) -> None:
+        told = "the commands of p.xyz use $*, which is empty in GNU make and p.xyz here"
+        for text in (
+            "p.xyz: a\n\techo '$*' > $@\n",
+            "p.xyz: a\n\techo '$(*F)' > $@\n",
+            "SAY = echo '$*'\nSAYS = $(SAY)\np.xyz: a\n\t${SAYS} > $@\n",
+        ):
+            self.doubt(text, told)
+            self.assertEqual(self.made(name="p.xyz"), "\n")
+
+    def test_a_stem_that_is_the_same(self) -> None:
+        for text in (
+            "p.o: a\n\techo '$*' > $@\n",
+            ".SUFFIXES: .xyz\np.xyz: a\n\techo '$*' > $@\n",
+            "p: p.a1\n\tcp p.a1 p\n.SUFFIXES: .a1 .b1\n.b1.a1:\n\techo '$*' > $@\n",
+            "p.xyz: a\n\techo '$$*' > $@\n",
+        ):
+            self.write({"makefile": text, "a": "", "p.b1": ""})
+            self.assertEqual(self.recorded().warnings(), [], text)
+
+
+if __name__ == "__main__":
+    unittest.main()

@@ -1,1 +1,0 @@
-"""Reads a build of GNU make or ninja, and has it recorded and judged as a plain POSIX makefile."""

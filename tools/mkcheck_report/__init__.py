@@ -1,1 +1,0 @@
-"""Shows what mkcheck answers: a page, SARIF, and the graph for Graphviz."""

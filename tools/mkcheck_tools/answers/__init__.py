@@ -1,0 +1,1 @@
+"""Asks the program mkcheck, and reads its answers."""

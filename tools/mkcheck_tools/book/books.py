@@ -1,0 +1,129 @@
+"""Recorded footprints with what they presume: the sources and the fixed prefixes."""
+
+from __future__ import annotations
+
+from collections.abc import Callable
+from dataclasses import dataclass
+from functools import partial
+
+from mkcheck_tools.answers.graphs import Checker, Graph
+from mkcheck_tools.book import formats
+from mkcheck_tools.faults import Fault, RecipeFault
+from mkcheck_tools.judge.footprints import Footprint
+from mkcheck_tools.judge.late import Late
+from mkcheck_tools.judge.notes import Warn
+from mkcheck_tools.judge.sharing import with_shared
+from mkcheck_tools.run.folders import SYSTEM, is_of_versions
+
+BUILT_BEFORE = (
+    "the folder holds files that recipes write, and without them the makefile means something else."
+    " They were built before, so remove them, and record again:"
+)
+
+
+@dataclass(frozen=True)
+class Book:
+    """Footprints, the fixed prefixes and sources that they presume, and the recorded goals."""
+
+    fixed: list[str]
+    sources: list[str]
+    footprints: list[Footprint]
+    goals: list[str]
+
+    def text(self) -> str:
+        """The file."""
+        records = [footprint.record() for footprint in self.footprints]
+        return formats.text_of(self.fixed, self.sources, self.goals, records)
+
+
+def used(asked: list[str], names: set[str]) -> list[str]:
+    """The prefixes that were asked for, and those of the system under which a name is."""
+    own = [prefix for prefix in SYSTEM if any(name.startswith(prefix) for name in names)]
+    return list(dict.fromkeys([*own, *asked]))
+
+
+def make_book(
+    checker: Checker,
+    graph: Graph,
+    files: list[str],
+    asked: list[str],
+    footprints: list[Footprint],
+    scratch: str,
+    warn: Warn,
+    late: Late | None = None,
+) -> Book:
+    """The book.
+
+    Its sources are the files that the graph names and that recipes read, and none that recipes
+    write. `late` has the late files of recipes, where it is to be told which weren't tested.
+    """
+    footprints = with_shared(footprints, graph, warn, late)
+    refuse_phony_reads(graph, files, footprints)
+    written = {name for footprint in footprints for name in footprint.writes}
+    names = {
+        *graph.names,
+        *written,
+        *(name for footprint in footprints for name in footprint.reads),
+    }
+    made = {*graph.targets, *graph.phony}
+    fixed = used(asked, names)
+    sources = [name for name in files if name in names and name not in written and name not in made]
+    if not is_same(checker, graph, fixed, sources, scratch):
+        ask = partial(checker.graph, fixed, scratch=scratch)
+        raise meaning_fault(ask, graph, files, footprints)
+    return Book(fixed, sources, footprints, graph.goals)
+
+
+def is_same(
+    checker: Checker, graph: Graph, fixed: list[str], sources: list[str], scratch: str
+) -> bool:
+    """Whether the makefile means the same over these sources."""
+    try:
+        return checker.graph(fixed, sources, scratch).text == graph.text
+    except Fault:
+        return False
+
+
+def refuse_phony_reads(graph: Graph, files: list[str], footprints: list[Footprint]) -> None:
+    """Refuses reads of a file that has a phony target's name and that no recipe made."""
+    there = graph.phony.intersection(files)
+    for footprint in footprints:
+        for name in footprint.reads:
+            if name in there:
+                raise RecipeFault(
+                    f"the recipe of {footprint.recipe.target} reads the file {name}, but {name} is"
+                    " a phony target, and make doesn't look at a file of that name; give one of"
+                    " the two another name",
+                    [footprint.recipe.target],
+                )
+        there = there.difference(footprint.writes)
+
+
+def meaning_fault(
+    ask: Callable[[list[str]], Graph],
+    graph: Graph,
+    files: list[str],
+    footprints: list[Footprint],
+) -> RecipeFault:
+    """The fault where the makefile means something else without the files that recipes write; of
+    the recipes that write a source, if that is the cause. `ask` gives the graph over sources."""
+    writers = {
+        name: footprint.recipe.target for footprint in footprints for name in footprint.writes
+    }
+    named = [
+        name
+        for name in files
+        if name in writers and name in graph.names and name not in graph.targets
+    ]
+    try:
+        ask([name for name in files if name not in writers])
+    except Fault:
+        text = "\n".join(
+            f"the recipe of {writers[name]} writes {name}, which the makefile takes for a source,"
+            f" since no rule makes it; give {name} a rule, or let the recipe write a file of"
+            " another name"
+            for name in named
+        )
+        return RecipeFault(text, [writers[name] for name in named])
+    built = [name for name in files if name in writers and not is_of_versions(name)]
+    return RecipeFault("\n\t".join([BUILT_BEFORE, *built]))

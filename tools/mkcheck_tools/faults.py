@@ -1,0 +1,62 @@
+"""What ends a recording: each fault has its message and the status of the program."""
+
+from __future__ import annotations
+
+import errno
+import os
+import traceback
+from collections.abc import Sequence
+from dataclasses import dataclass
+
+# The errors of a disk that is full, or of which a user may have no more.
+FULL = (errno.ENOSPC, errno.EDQUOT)
+
+
+class Fault(Exception):
+    """Something is missing, or is not as it has to be: nothing can be recorded."""
+
+    status = 2
+
+
+class RecipeFault(Fault):
+    """A recipe failed, or did what no footprint can say. `targets` names the recipes that have no
+    record for that, if the fault is that of a whole footprint file."""
+
+    status = 1
+
+    def __init__(self, text: str, targets: Sequence[str] = ()) -> None:
+        super().__init__(text)
+        self.targets = tuple(targets)
+
+
+@dataclass(frozen=True)
+class Failure:
+    """Why the recipe of a target has no record."""
+
+    target: str
+    text: str
+
+
+def failure_of(error: Exception, target: str) -> Failure:
+    """That a recipe can't be recorded for an error, which may be the recorder's mistake."""
+    if isinstance(error, RecipeFault):
+        return Failure(target, str(error))
+    text = f"the recipe of {target} can't be recorded: {mistake_of(error, 'recorder')}"
+    return Failure(target, text)
+
+
+def sentence_of(error: Exception, program: str) -> str:
+    """What is said of an error; one that nobody thought of is a mistake of the program itself."""
+    return mistake_of(error, program, ", and nothing is written")
+
+
+def mistake_of(error: Exception, program: str, more: str = "") -> str:
+    """The same, with what it means besides where it is the program's mistake."""
+    if isinstance(error, (Fault, OSError)):
+        return str(error)
+    last = traceback.extract_tb(error.__traceback__)[-1]
+    where = f"{os.path.basename(last.filename)}, line {last.lineno}"
+    return (
+        f"this is a mistake of the {program} itself{more}:"
+        f" {type(error).__name__} in {where}: {error}"
+    )

@@ -1,0 +1,1 @@
+"""Where GNU make reads a makefile otherwise than POSIX defines it."""

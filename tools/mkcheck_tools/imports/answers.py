@@ -1,0 +1,99 @@
+"""The lines of an answer."""
+
+from __future__ import annotations
+
+from itertools import takewhile
+
+from mkcheck_tools.imports.builds import Build
+from mkcheck_tools.imports.judging import Verdict
+
+SHOWN_AT_MOST = 8
+# The status of a yes beside which something couldn't be judged.
+AS_FAR_AS_JUDGED = 4
+
+
+def answer_of(build: Build, verdict: Verdict, sentences: list[str]) -> list[str]:
+    """What is printed: the answer, the findings as sentences, and all on which the answer rests."""
+    lines = [headline(build, verdict, sentences)]
+    lines += ["", *sentences] if sentences else []
+    if build.problems:
+        lines += ["", "Not judged:", *(f"    {text}" for text in build.problems)]
+    if build.unjudged:
+        lines += [
+            "",
+            "Of a recipe that isn't judged it is presumed that it writes its targets alone.",
+        ]
+    if build.warnings:
+        lines += ["", "What the recorder says:"]
+        lines += [f"    {text}" for text in shown(build.warnings)]
+    if build.given:
+        lines += [
+            "",
+            "There already, so the rules that the build has for them aren't judged"
+            f" ({counted(len(build.given), 'file')}): {', '.join(shown(list(build.given)))}",
+        ]
+    if build.unwritten:
+        lines += [
+            "",
+            "Not written by their recipes, which therefore run in each build"
+            f" ({counted(len(build.unwritten), 'target')}): {', '.join(shown(build.unwritten))}",
+        ]
+    if build.notes:
+        lines += ["", "Of the translation:", *(f"    {text}" for text in shown(build.notes))]
+    return lines
+
+
+def headline(build: Build, verdict: Verdict, sentences: list[str]) -> str:
+    """The first line. One sentence may tell of several findings."""
+    counts = judged(build, verdict)
+    if verdict.refused:
+        return f"no answer: {verdict.refused}"
+    if verdict.findings:
+        told = len(list(takewhile(bool, sentences)))
+        among = f" in {counted(told, 'sentence')}" if told != len(verdict.findings) else ""
+        return f"no: {counted(len(verdict.findings), 'finding')}{among} ({counts})"
+    if is_nothing_judged(build, verdict):
+        return f"no answer: no recipe could be judged, of {verdict.recipes}"
+    doubts = f", with {counted(build.doubts, 'doubt')}" if build.doubts else ""
+    if build.problems:
+        return f"yes as far as judged ({counts}{doubts})"
+    tool = build.tool or "the build tool"
+    return f"yes: {counts}{doubts}, for the build as {tool} reads it in this configuration"
+
+
+def judged(build: Build, verdict: Verdict) -> str:
+    """How much was judged."""
+    left_out = len(build.unjudged & verdict.targets)
+    if left_out:
+        return f"{verdict.recipes - left_out} of {counted(verdict.recipes, 'recipe')} judged"
+    text = f"{counted(verdict.recipes, 'recipe')}, {counted(verdict.reads, 'read')}"
+    if not build.problems:
+        return text
+    return f"{text}; {counted(len(build.problems), 'question')} not judged"
+
+
+def is_nothing_judged(build: Build, verdict: Verdict) -> bool:
+    """Whether no recipe was judged, and nothing was found."""
+    return bool(verdict.targets) and verdict.targets <= build.unjudged and not verdict.findings
+
+
+def status_of(build: Build, verdict: Verdict) -> int:
+    """The status of an answer."""
+    if verdict.refused or is_nothing_judged(build, verdict):
+        return 2
+    if verdict.findings:
+        return 1
+    return AS_FAR_AS_JUDGED if build.problems else 0
+
+
+def shown(texts: list[str]) -> list[str]:
+    """Texts, or the first of many and how many more there are."""
+    if len(texts) <= SHOWN_AT_MOST:
+        return texts
+    more = len(texts) - SHOWN_AT_MOST + 1
+    return [*texts[: SHOWN_AT_MOST - 1], f"and {more} more, in import.log"]
+
+
+def counted(number: int, word: str) -> str:
+    """A number and a word, which is one or several."""
+    return f"{number} {word}" if number == 1 else f"{number} {word}s"

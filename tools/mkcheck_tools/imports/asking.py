@@ -1,0 +1,118 @@
+"""Asks GNU make for other goals: whether they give a file other commands.
+
+A file that several goals make, or that several targets with macros of their own need, is made by
+the commands of the one that comes first, and the others take it as it is.
+"""
+
+from __future__ import annotations
+
+from collections.abc import Callable
+from dataclasses import dataclass, field
+
+from mkcheck_tools.imports.gnumake import Make, option_words, own_environment
+from mkcheck_tools.imports.inherited import Inherited, inherited_in
+from mkcheck_tools.imports.rereading import changed, difference, place_of
+
+# At most this many goals, and this many targets with macros of their own, are asked for, each by
+# itself.
+ASKED_AT_MOST = 24
+
+
+@dataclass
+class Asking:
+    """Asks for other goals in a copy of the project at `root`.
+
+    `shown` are the makes for all goals, and `words` those of the first one. `wrapper` stands for
+    make in commands. `exported` has, for each folder, the macros that single targets export. `run`
+    asks make by words, and for a make below the first one also by its folder and its environment.
+    """
+
+    root: str
+    shown: list[Make]
+    words: list[str]
+    wrapper: str
+    exported: dict[str, set[str]]
+    run: Callable[..., list[Make]]
+    sentences: list[str] = field(default_factory=list)
+    """What isn't the same for all goals."""
+
+    def ask(self) -> None:
+        """Asks for all that may differ."""
+        self.ask_goals()
+        for make in self.shown:
+            self.ask_owners(make)
+
+    def ask_goals(self) -> None:
+        """Asks for each of several goals alone."""
+        goals = list(dict.fromkeys(self.shown[0].base.values.get("MAKECMDGOALS", "").split()))
+        if len(goals) < 2:
+            return
+        if len(goals) > ASKED_AT_MOST:
+            self.sentences.append(
+                f"there are {len(goals)} goals, and whether make has the same commands for each of"
+                f" them alone was asked for {ASKED_AT_MOST}: import fewer at a time"
+            )
+        together = " ".join(["make", *goals])
+        options = [word for option in option_words(self.words) for word in option]
+        for goal in goals[:ASKED_AT_MOST]:
+            for make, rule, what in changed(self.shown, self.run([*options, goal])):
+                where, name = place_of(self.root, make, rule)
+                self.sentences.append(
+                    f"{where}: `make {goal}` has other commands for {name} than `{together}`:"
+                    f" {self.plain(what)}; import each goal by itself, and let no two goals make"
+                    " one file in two ways"
+                )
+
+    def ask_owners(self, make: Make) -> None:
+        """Asks for the targets whose macros may change the commands of what they need."""
+        found = inherited_in(make, self.exported.get(make.folder, set()))
+        free = [one.name for one in found if one.is_free]
+        owners = list(dict.fromkeys(name for one in found for name in one.owners))
+        if len(owners) > ASKED_AT_MOST:
+            some = ", ".join(one.name for one in found[:5])
+            self.sentences.append(
+                f"{len(owners)} targets have macros of their own, which may change the commands of"
+                f" what they need ({some}), and {ASKED_AT_MOST} of them were asked for; make these"
+                " macros private"
+            )
+        for goals in [free, *([owner] for owner in owners[:ASKED_AT_MOST])]:
+            if goals:
+                self.compare(make, found, goals)
+
+    def name_unseen(self, make: Make, exported: set[str]) -> None:
+        """Names files of a make that `make -n` doesn't start, where such macros may change their
+        commands."""
+        for one in inherited_in(make, exported)[:1]:
+            where, name = place_of(self.root, make, make.base.rules[one.name][0])
+            self.sentences.append(
+                f"{where}: whether the commands of {name} depend on the target for which it is made"
+                f" first ({', '.join(one.owners[:5])}) can't be asked, since a recipe starts this"
+                " make by its name: start it by $(MAKE)"
+            )
+
+    def compare(self, make: Make, found: list[Inherited], goals: list[str]) -> None:
+        """Compares the commands of files with those that a make has for other goals."""
+        words = [*make.words, *(word for word in self.words if "=" in word)]
+        options = [option for option in option_words(words) if not is_of_folder(option[0])]
+        words = [word for option in options for word in option]
+        asked = self.run([*words, *goals], make.folder, own_environment(make.environment))[0]
+        for one in found:
+            rule = make.base.rules[one.name][0]
+            what = difference(make.base.rules[one.name], asked.base.rules.get(one.name, []))
+            if what:
+                where, name = place_of(self.root, make, rule)
+                self.sentences.append(
+                    f"{where}: the commands of {name} depend on the target for which it is made"
+                    f" first ({', '.join(one.owners[:5])}), by the macros of that target:"
+                    f" {self.plain(what)}; that isn't judged; let each of them have a file of its"
+                    " own, or make the macros private"
+                )
+
+    def plain(self, text: str) -> str:
+        """A text in which make goes by its own name."""
+        return text.replace(self.wrapper, "make")
+
+
+def is_of_folder(option: str) -> bool:
+    """Whether an option of make names the folder in which it works."""
+    return option.startswith(("-C", "--directory"))

@@ -1,0 +1,305 @@
+"""Runs GNU make, and reads what it and all makes that it starts say of a build.
+
+Three handles, none of which changes a makefile:
+
+- The macro `IFS`, which GNU make expands before each command: it prints a mark with the target and
+  the shell.
+- `MAKE=WRAPPER`: each recursive make goes through a script that keeps its words, folder,
+  environment and output apart.
+- `-p`: the data base, with joined prerequisites, implicit rules that were found, order-only and
+  phony ones.
+"""
+
+from __future__ import annotations
+
+import functools
+import os
+import re
+import shlex
+import shutil
+import subprocess
+from dataclasses import dataclass
+from pathlib import Path
+
+from mkcheck_tools.faults import Fault
+from mkcheck_tools.imports.database import OWN, Database, Shown, joined
+from mkcheck_tools.imports.transcripts import MARK, Transcript, marking, read_transcript
+from mkcheck_tools.run.places import Place, run
+
+# Variables that make and the shell set for each process, and those of this program.
+OF_THE_TOOL = re.compile(
+    r"(MAKE|MAKEFLAGS|MAKELEVEL|MAKEOVERRIDES|MAKEFILES|MAKE_(COMMAND|RESTARTS|TERMOUT|TERMERR)"
+    r"|MFLAGS|GNUMAKEFLAGS|MKIMPORT_\w+|PWD|OLDPWD|SHLVL|_|IFS)$"
+)
+# Options of make with a value, by their letters and their long names.
+WITH_VALUE = "CfIoWE"
+LONG_WITH_VALUE = (
+    "--directory", "--file", "--makefile", "--include-dir", "--old-file", "--assume-old",
+    "--what-if", "--new-file", "--assume-new", "--eval",
+)  # fmt: skip
+# Options that change neither which rules a make knows nor what they do.
+HARMLESS = re.compile(
+    r"-C.*|--directory.*|-[bmknpstwS]*(j\s*\d*)?|--(no-)?print-directory|--silent|--quiet"
+    r"|--keep-going|--(jobs|output-sync|trace|debug)\S*|-[jlO]\S*|MAKE=.*|IFS=.*",
+    re.DOTALL,
+)
+# Options by which a make runs nothing, or takes files for up to date or for new.
+PASSING = re.compile(
+    r"-[BbdeikmprRsSvw]*[tqnoW].*|--(touch|question|just-print|dry-run|recon|old-file|assume-old"
+    r"|what-if|new-file|assume-new)\b.*",
+    re.DOTALL,
+)
+# The name of a makefile that is never there. Make tries to make it before the goals, and so writes
+# down the environment of recipes.
+ENVIRONMENT = f"{OWN}environment"
+EVAL = f"""unexport IFS
+-include {ENVIRONMENT}
+{ENVIRONMENT}: ; +@env -0 > "$$MKIMPORT_ENV"
+.DEFAULT_GOAL :="""
+
+WRAPPER = r"""#!/bin/sh
+# One line of arguments a make; each has files of its own.
+D=@SCRATCH@
+if mkdir "$D/lock" 2>/dev/null; then :; else
+    while ! mkdir "$D/lock" 2>/dev/null; do sleep 0.01; done
+fi
+n=$(cat "$D/count"); n=$((n + 1)); echo $n > "$D/count"
+rmdir "$D/lock"
+at=$(stat -c %s "$MKIMPORT_OUT" 2>/dev/null || stat -f %z "$MKIMPORT_OUT")
+up=$MKIMPORT_OUT
+MKIMPORT_OUT=$D/$n.out MKIMPORT_ERR=$D/$n.err MKIMPORT_ENV=$D/$n.env
+export MKIMPORT_OUT MKIMPORT_ERR MKIMPORT_ENV
+printf '%s\0' "$PWD" "$up" "$at" "$@" > "$D/$n.args"
+@MAKE@ --no-print-directory "$@" > "$D/$n.out" 2>> "$MKIMPORT_ERR"
+s=$?
+echo $s > "$D/$n.status"
+sed -z 's/@MARK@//g' "$D/$n.err" >&2
+exit $s
+"""
+
+
+@dataclass
+class Make:
+    """One make that ran: where, with which words, and what it said."""
+
+    number: int
+    words: list[str]
+    folder: str
+    environment: dict[str, str]
+    transcript: Transcript
+    status: int
+    errors: str
+    parent: "Make | None" = None
+    started_by: Shown | None = None
+    """The command of the parent that started it."""
+
+    last_errors: str = ""
+    """What stands in `errors` behind the output of all but the last command."""
+
+    @property
+    def base(self) -> Database:
+        """Its data base."""
+        return self.transcript.base
+
+    @property
+    def goals(self) -> list[str]:
+        """Its goals, as its makefile names them."""
+        values = self.base.values
+        words = values.get("MAKECMDGOALS", "").split() or values.get(".DEFAULT_GOAL", "").split()
+        return joined(words, self.base)
+
+    @property
+    def makefiles(self) -> list[str]:
+        """The makefiles that it read, as it names them."""
+        return self.base.values.get("MAKEFILE_LIST", "").split()
+
+    @property
+    def ignores_failures(self) -> bool:
+        """Whether it was told to go on whatever fails, by `-i`."""
+        flags = re.match(r"[A-Za-z]*", self.environment.get("MAKEFLAGS", ""))
+        return flags is not None and "i" in flags.group()
+
+    @functools.cached_property
+    def key(self) -> tuple[object, ...]:
+        """Makes with one key know the same rules and macros."""
+        options = tuple(word for word in options_of(self.words) if not is_harmless(word))
+        return (self.folder, options, tuple(sorted(own_environment(self.environment).items())))
+
+
+def own_environment(environment: dict[str, str]) -> dict[str, str]:
+    """The environment without what make and the shell set for each process."""
+    return {name: value for name, value in environment.items() if not OF_THE_TOOL.match(name)}
+
+
+def options_of(words: list[str]) -> list[str]:
+    """The words of a make that aren't goals; an option and its value are one."""
+    return [" ".join(option) for option in option_words(words)]
+
+
+def option_words(words: list[str]) -> list[list[str]]:
+    """The options and macros among the words of a make, each with its value, where that is a word
+    of its own."""
+    found: list[list[str]] = []
+    at = 0
+    while at < len(words):
+        option = [words[at]]
+        at += 1
+        if option[0] == "--":
+            break
+        is_short = re.fullmatch(rf"-[^-]*[{WITH_VALUE}]", option[0]) is not None
+        if (is_short or option[0] in LONG_WITH_VALUE) and at < len(words):
+            option.append(words[at])
+            at += 1
+        if option[0].startswith("-") or "=" in option[0]:
+            found.append(option)
+    return found
+
+
+def is_harmless(option: str) -> bool:
+    """Whether an option changes neither which rules a make knows nor what they do."""
+    return HARMLESS.fullmatch(option) is not None
+
+
+def passing(make: Make) -> str:
+    """The option by which a make doesn't do what its makefile says; empty if there is none."""
+    return next((word for word in options_of(make.words) if PASSING.fullmatch(word)), "")
+
+
+def find_make() -> str:
+    """The program of GNU make: what GNUMAKE names, else `gmake` or `make`."""
+    named = os.environ.get("GNUMAKE")
+    for name in [named] if named else ["make", "gmake"]:
+        found = shutil.which(name)
+        if found and "GNU Make" in version_of(found):
+            return found
+    if named:
+        raise Fault(f"GNUMAKE names {named}, which isn't GNU make: set it to the path of GNU make")
+    raise Fault(
+        "GNU make isn't there: install it (Debian: apt-get install make), or set GNUMAKE to its"
+        " path"
+    )
+
+
+def version_of(program: str) -> str:
+    """The first line of what `--version` prints."""
+    words = [program, "--version"]
+    done = subprocess.run(words, stdin=subprocess.DEVNULL, capture_output=True, check=False)
+    return done.stdout.decode("utf-8", "replace").partition("\n")[0]
+
+
+def outer_environment() -> dict[str, str]:
+    """The environment in which the build tool is started."""
+    return {
+        name: value
+        for name, value in os.environ.items()
+        if name not in ("MAKEFLAGS", "MAKELEVEL", "MFLAGS", "MAKEOVERRIDES", "GNUMAKEFLAGS", "IFS")
+    }
+
+
+def run_make(
+    program: str,
+    place: Place,
+    folder: str,
+    words: list[str],
+    scratch: str,
+    is_real: bool,
+    watched: list[str],
+    more: dict[str, str] | None = None,
+    seconds: float | None = None,
+) -> list[Make]:
+    """Runs make in a folder of the place, and gives it and all makes that it started, in the order
+    of their starts.
+
+    With `is_real` make builds, else it only shows commands (`-n`). `scratch` is a folder that this
+    function empties and uses. The commands of each target come with the values that the macros
+    `watched` have for it. `more` are further variables of the environment. Raises `Fault` where
+    make can't be started, or doesn't end in `seconds`.
+    """
+    shutil.rmtree(scratch, ignore_errors=True)
+    os.makedirs(scratch)
+    wrapper = wrapper_in(scratch)
+    os.makedirs(os.path.dirname(wrapper))
+    text = WRAPPER.replace("@SCRATCH@", shlex.quote(scratch)).replace("@MARK@", f"\\n{MARK}\\n")
+    Path(wrapper).write_text(text.replace("@MAKE@", shlex.quote(program)))
+    os.chmod(wrapper, 0o755)
+    os.symlink(wrapper, os.path.join(os.path.dirname(wrapper), "gmake"))
+    Path(scratch, "count").write_text("0")
+    Path(scratch, "top.out").touch()
+    outer = {**outer_environment(), **(more or {})}
+    search = f"{os.path.dirname(wrapper)}:{outer.get('PATH', os.defpath)}"
+    environment = {**outer, "PATH": search, "MKIMPORT_OUT": os.path.join(scratch, "top.out")}
+    how = ["--trace"] if is_real else ["-n", "-k", "--trace"]
+    own = [*how, "-p", "-j1", f"MAKE={wrapper}", marking(watched, is_real), f"--eval={EVAL}"]
+    enter = 'cd "$1" && shift && exec "$@"'
+    command = ["/bin/sh", "-c", enter, "sh", folder, wrapper, *own, *words]
+    ended = run(command, place, environment, seconds)
+    if ended.timed_out:
+        raise Fault(f"GNU make didn't end in {seconds:g} seconds")
+    count = int(Path(scratch, "count").read_text() or 0)
+    if count == 0:
+        raise Fault(f"GNU make could not be started: {last_words(ended.output)}")
+    makes = [read_make(scratch, number, set(own), watched) for number in range(1, count + 1)]
+    attach(makes, scratch)
+    return makes
+
+
+def wrapper_in(scratch: str) -> str:
+    """The script that stands for make, in a folder of its own, which is the first on the search
+    path."""
+    return os.path.join(scratch, "bin", "make")
+
+
+def content(path: str) -> bytes:
+    """What a file holds; nothing where it isn't there."""
+    try:
+        return Path(path).read_bytes()
+    except OSError:
+        return b""
+
+
+def texts_in(path: str) -> list[str]:
+    """The texts that a file holds, each with a zero after it."""
+    return content(path).decode("utf-8", "surrogateescape").split("\0")[:-1]
+
+
+def read_make(scratch: str, number: int, own: set[str], watched: list[str]) -> Make:
+    """What the wrapper kept of one make."""
+    front = os.path.join(scratch, str(number))
+    folder, _, _, *words = texts_in(front + ".args")
+    environment = dict(pair.partition("=")[::2] for pair in texts_in(front + ".env"))
+    own_place = os.path.dirname(wrapper_in(scratch)) + ":"
+    if "PATH" in environment:
+        environment["PATH"] = environment["PATH"].replace(own_place, "")
+    transcript = read_transcript(content(front + ".out"), watched)
+    status = content(front + ".status").decode().strip()
+    errors = content(front + ".err").decode("utf-8", "replace").split(f"\n{MARK}\n")
+    return Make(
+        number,
+        [word for word in words if word not in own],
+        os.path.realpath(transcript.base.values.get("CURDIR", folder)),
+        environment,
+        transcript,
+        int(status) if status else 2,
+        "".join(errors),
+        last_errors=errors[-1],
+    )
+
+
+def attach(makes: list[Make], scratch: str) -> None:
+    """Hands each make to the command that started it: the last one that its parent had shown by
+    then."""
+    by_output = {os.path.join(scratch, f"{make.number}.out"): make for make in makes}
+    for make in makes[1:]:
+        _, up, offset, *_ = texts_in(os.path.join(scratch, f"{make.number}.args"))
+        parent = by_output.get(up)
+        if parent is None:
+            continue
+        make.parent = parent
+        before = [spot for spot in parent.transcript.spots if spot.offset < int(offset)]
+        make.started_by = before[-1].command if before else None
+
+
+def last_words(errors: str) -> str:
+    """The last lines of what a make said, on one line."""
+    lines = [line.strip() for line in errors.splitlines() if line.strip()]
+    return "; ".join(lines[-3:])[-400:] or "it said nothing"

@@ -1,0 +1,484 @@
+"""Writes the makefiles of a build, has them recorded and checked, and gives the findings."""
+
+from __future__ import annotations
+
+import json
+import os
+import re
+from dataclasses import dataclass, field, replace
+from pathlib import Path
+
+from mkcheck_tools.answers.graphs import read_graph
+from mkcheck_tools.book.note_files import Noted, path_of_notes, read_notes, text_of_notes
+from mkcheck_tools.book.states import Unusable, path_of_state
+from mkcheck_tools.book.states import read as read_state
+from mkcheck_tools.book.updating import FIRST_TIME
+from mkcheck_tools.faults import Fault
+from mkcheck_tools.imports.alike import HANDING_ON, passing_through
+from mkcheck_tools.imports.builds import Build, Kind, Node
+from mkcheck_tools.imports.copies import Tail, run_here
+from mkcheck_tools.imports.footprints import Footprints, Record, read_footprints, text_of
+from mkcheck_tools.imports.plain import Names, goal_of, makefile, names_of, order_name
+from mkcheck_tools.judge.notes import Kind as NoteKind
+from mkcheck_tools.judge.notes import Note
+from mkcheck_tools.run.places import Place
+
+FIRST = "makefile.first"
+LATER = "makefile"
+# A makefile with the prerequisites that both the first build and later ones have. Only races count.
+BETWEEN = "makefile.between"
+NODES_AT_MOST = 4096
+# What the recorder advises where a recipe starts a make, by options that the importer lacks.
+OWN_ADVICE = re.compile(
+    r"(?:name its goals on the command line of mkcheck-record|record that folder by itself"
+    r" \(mkcheck-record -C (.*)\)), or give --opaque \S+ to take it as one recipe"
+)
+# A makefile in which files change that recipes leave alike. Only stale reads count.
+THROUGH = "makefile.through"
+# The kind of a finding that `check` doesn't have: commands depend on a file that make reads.
+UNAWARE = "unaware"
+# The line of `check -w` before races and stale reads that other findings hide.
+HIDDEN = "once these are mended, as far as can be seen now:"
+# The target of which the recorder tells.
+OF_RECIPE = re.compile(r"the recipe of (\S+)")
+# The front of the recorder's lines of progress.
+PROGRESS = re.compile(r"\[(?:\w+ )?\d+/\d+(?: [\d:]+ left)?\] ")
+
+
+@dataclass(frozen=True)
+class Finding:
+    """A finding of `check`, its names those of nodes and files."""
+
+    kind: str
+    words: tuple[str, ...]
+    in_first: bool
+    """Whether the first build has it, and not only later ones."""
+
+    in_later: bool
+
+
+@dataclass
+class Verdict:
+    """What was found of a build."""
+
+    recipes: int = 0
+    reads: int = 0
+    findings: list[Finding] = field(default_factory=list)
+    ways: list[tuple[str, ...]] = field(default_factory=list)
+    targets: set[str] = field(default_factory=set)
+    """The targets whose recipes it is about."""
+
+    refused: str = ""
+    hides: bool = False
+    """Whether `check -w` sees races and stale reads that these findings hide."""
+
+    @property
+    def is_yes(self) -> bool:
+        """Whether nothing was found."""
+        return not self.findings and not self.refused
+
+
+@dataclass
+class Judge:
+    """Writes, records and checks a build in a folder for what is left of it."""
+
+    build: Build
+    place: Place
+    """The copy of the project from which recordings begin."""
+
+    output: str
+    """The folder for the makefiles and the footprints."""
+
+    mkcheck: str
+    environment: dict[str, str]
+    tail: Tail = field(default_factory=Tail)
+    """What the recorder prints while it runs."""
+
+    def names(self) -> Names:
+        """The names of the nodes in the makefiles."""
+        return names_of(self.build)
+
+    def path(self, name: str) -> str:
+        """A file of the output."""
+        return os.path.join(self.output, name)
+
+    def write_makefiles(self) -> bool:
+        """Writes the makefile, and that of the first build where it is another one; says whether it
+        is."""
+        names = self.names()
+        texts = {later: makefile(self.build, later, names) for later in (False, True)}
+        for text in texts.values():
+            test_text(text)
+        write(self.path(LATER), texts[True])
+        if texts[False] == texts[True]:
+            Path(self.path(FIRST)).unlink(missing_ok=True)
+            return False
+        write(self.path(FIRST), texts[False])
+        return True
+
+    def write_map(self) -> None:
+        """Writes where each target comes from."""
+        names = self.names()
+        found = {}
+        for name in dict.fromkeys([*self.build.reached(False), *self.build.reached(True)]):
+            node = self.build.nodes.get(name)
+            if node is None:
+                continue
+            found[names[name]] = {
+                "makefile": node.origin.makefile if node.origin else None,
+                "line": node.origin.line if node.origin else None,
+                "folder": node.folder,
+                "name": node.known_as or name,
+                "stands_for": node.piece_of or name,
+                "kind": node.kind.value if node.has_rule else "source",
+            }
+        text = json.dumps({"tool": self.build.tool, "nodes": found}, indent=1, ensure_ascii=False)
+        write(self.path("map.json"), text + "\n")
+
+    def graph(self, first: bool) -> str:
+        """Asks `mkcheck graph` whether the makefile is read; gives a word on it."""
+        if not self.build.goals:
+            raise Fault("the build has no goal: name one, as in `mkcheck-import all`")
+        if not any(node.commands for node in self.build.nodes.values()):
+            raise Fault(self.nothing_to_do())
+        nodes = len(set(self.build.reached(False)) | set(self.build.reached(True)))
+        if nodes > NODES_AT_MOST:
+            raise Fault(self.too_many(nodes))
+        for name in [FIRST, LATER] if first else [LATER]:
+            status, said, errors = self.ask("graph", "-f", self.path(name))
+            if status != 0:
+                raise Fault(self.refusal(said.strip() or errors.strip(), name))
+        recipes = sum(bool(node.commands) for node in self.build.nodes.values())
+        return f"{nodes} nodes, {recipes} recipes"
+
+    def nothing_to_do(self) -> str:
+        """The sentence on a build that runs nothing."""
+        goals = ", ".join(self.build.goals)
+        if not self.build.given:
+            return (
+                f"the build of {goals} runs no command, so there is nothing to judge: name other"
+                " goals"
+            )
+        return (
+            f"make has nothing to do for {goals}, since all is there already: run `make clean`, or"
+            " import from a fresh copy of the sources"
+        )
+
+    def too_many(self, nodes: int) -> str:
+        """The sentence on a build with too many nodes, with goals that fit."""
+        fitting = []
+        top = [self.build.nodes[name] for name in self.build.goals if name in self.build.nodes]
+        for node in [node for goal in top for node in [goal, *self.children(goal)]]:
+            alone = Build(self.build.root, goals=[node.name], nodes=self.build.nodes)
+            size = len(alone.reached(True))
+            if node.known_as and node.name not in self.build.goals and 1 < size <= NODES_AT_MOST:
+                fitting.append((size, f"{node.name} ({size})"))
+        fitting.sort(key=lambda found: (-found[0], found[1]))
+        large = [word for size, word in fitting if size * 10 >= fitting[0][0]]
+        some = ", ".join(list(dict.fromkeys(large))[:5])
+        advice = f"goals that fit: {some}" if some else "name goals that need fewer files"
+        return f"the build has {nodes} nodes, and mkcheck takes at most {NODES_AT_MOST}: {advice}"
+
+    def children(self, node: Node) -> list[Node]:
+        """The nodes that a node needs, and those that these need."""
+        found = []
+        for name in node.prerequisites(True):
+            child = self.build.nodes.get(name)
+            if child is not None:
+                found += [child, *(self.build.node(word) for word in child.prerequisites(True))]
+        return found
+
+    def refusal(self, said: str, name: str) -> str:
+        """A refusal of mkcheck as a sentence."""
+        words = said.split()
+        if words[:2] == ["refused", "42"]:
+            return f"the prerequisites of the build form a cycle: {' '.join(words[2:])}"
+        if words[:2] == ["refused", "41"] and len(words) > 2:
+            return f"nothing makes {words[2]}, and it isn't there"
+        return f"mkcheck doesn't read {name}, the translated makefile: {said}"
+
+    def ask(self, *words: str) -> tuple[int, str, str]:
+        """Asks mkcheck, in the folder of the project."""
+        return run_here(self.place, [self.mkcheck, *words], self.environment)
+
+    def record(self, recorder: list[str], first: bool, looking: bool) -> str:
+        """Records the build, with the names at which recipes look where that is asked for; gives
+        what the recorder said."""
+        book = self.path("footprint.json")
+        for path in (book, path_of_state(book)):
+            Path(path).unlink(missing_ok=True)
+        name, how = FIRST if first else LATER, "--update" if looking else "-o"
+        words = [*recorder, "-f", self.path(name), "-C", self.place.seen, how, book]
+        status, said, errors = run_here(self.place, words, self.environment, self.tail)
+        is_written = os.path.exists(book)
+        if status not in (0, 1) or not is_written:
+            lines = (said + errors).splitlines(keepends=True)
+            lines = [line for line in lines if not line.rstrip().endswith(FIRST_TIME)]
+            text = "".join(line for line in lines if not PROGRESS.match(line))
+            raise RecordingFault(OWN_ADVICE.sub(advice, text))
+        lines = errors.splitlines(keepends=True)
+        return "".join(line for line in lines if not line.rstrip().endswith(FIRST_TIME))
+
+    def looks(self, folders: set[str]) -> dict[str, list[str]]:
+        """At which of these folders each recipe looked, where that was recorded; with a `/` behind
+        it one whose names it read."""
+        book = self.path("footprint.json")
+        try:
+            state = read_state(path_of_state(book))
+        except Unusable as why:
+            raise Fault(f"what recipes looked at {why}: import again") from None
+        back = {word: name for name, word in self.names().written.items() if "\0" not in name}
+        found = {}
+        for target, entry in state.entries.items():
+            looked = folders & {*entry.looks, *entry.lists}
+            listed = {f"{name}/" for name in folders & {*entry.lists}}
+            if looked:
+                found[back.get(target, target)] = sorted(looked | listed)
+        return found
+
+    def read_book(self) -> Footprints:
+        """The footprints, their targets and files named as nodes are."""
+        raw = read_footprints(self.path("footprint.json"))
+        back = {word: name for name, word in self.names().written.items() if "\0" not in name}
+        targets = {}
+        for record in raw.records.values():
+            target = back.get(record.target, record.target)
+            targets[target] = Record(target, record.commands, record.reads, record.writes)
+        return Footprints(raw.fixed, raw.sources, targets)
+
+    def notes(self, left_out: frozenset[NoteKind], trusted: frozenset[str]) -> Noted:
+        """The notes of the recorder, without those of some kinds, and on recipes that the importer
+        trusts by itself."""
+        noted = read_notes(self.path("footprint.json"))
+        kept = [note for note in noted.notes if note.kind not in left_out]
+        return Noted(tuple(one for one in kept if one.target not in trusted or not is_trust(one)))
+
+    def unrecorded(self, said: list[str]) -> dict[str, str]:
+        """Of each recipe that the recorder names in these lines the line."""
+        back = {word: name for name, word in self.names().written.items() if "\0" not in name}
+        found: dict[str, str] = {}
+        for line in said:
+            for word in OF_RECIPE.findall(line)[:1]:
+                name = back.get(word.rstrip(",:;"), word.rstrip(",:;"))
+                if name in self.build.nodes:
+                    found.setdefault(name, OWN_ADVICE.sub(advice, line))
+        return found
+
+    def complete(self, footprints: Footprints, first: bool) -> None:
+        """Gives recipes without a record one by which they write their targets alone, and names
+        them."""
+        names = self.names()
+        run_first = {*self.build.reached(False)}
+        lines = {}
+        for makefile_name in [FIRST, LATER] if first else [LATER]:
+            _, said, _ = self.ask("graph", "-c", "-f", self.path(makefile_name))
+            lines.update({one.target: one.lines for one in read_graph(said).recipes})
+        for name in {**dict.fromkeys(self.build.reached(True)), **dict.fromkeys(run_first)}:
+            node = self.build.nodes.get(name)
+            if node is None or not node.commands or name in footprints.records:
+                continue
+            if names[name] in lines:
+                own = [] if node.kind is Kind.PHONY else [name, *also_made(self.build, name)]
+                record = Record(name, lines[names[name]], [], own)
+                footprints.records[name] = record
+                self.build.problem(self.why_unrecorded(node, name in run_first), name)
+
+    def why_unrecorded(self, node: Node, in_first: bool) -> str:
+        """The sentence on a recipe without a record."""
+        where = str(node.origin) if node.origin else node.name
+        if node.name in self.build.unrecorded:
+            return f"{where}: {self.build.unrecorded[node.name]}"
+        if in_first:
+            return f"{where}: the recipe of {node.name} could not be recorded; see import.log"
+        return (
+            f"{where}: the recipe of {node.name} was not recorded, since the first build doesn't"
+            " run it; import the goals that need it"
+        )
+
+    def write_book(self, footprints: Footprints, noted: Noted) -> None:
+        """Writes the footprints, their names those of the makefiles, and their notes."""
+        written = self.names().written
+
+        def word(name: str) -> str:
+            return written.get(name, name)
+
+        records = {
+            word(record.target): Record(
+                word(record.target),
+                record.commands,
+                [word(name) for name in record.reads],
+                [word(name) for name in record.writes],
+            )
+            for record in footprints.records.values()
+        }
+        sources = [word(name) for name in footprints.sources]
+        book = Footprints(footprints.fixed, sources, records)
+        text = text_of(book)
+        write(self.path("footprint.json"), text)
+        write(path_of_notes(self.path("footprint.json")), text_of_notes(text, noted.notes))
+
+    def check(self, first: bool) -> Verdict:
+        """Checks later builds, and the first one where its makefile is another one. What recipes
+        read that aren't judged is no finding."""
+        verdict = self.check_all(first)
+        verdict.findings = [
+            found
+            for found in verdict.findings
+            if found.kind not in ("stale", "race") or found.words[0] not in self.build.unjudged
+        ]
+        return verdict
+
+    def check_all(self, first: bool) -> Verdict:
+        """All findings of later builds and of the first one."""
+        later = self.check_one(LATER)
+        later.findings += self.check_between(later)
+        later.findings += self.unaware(later)
+        later.findings += self.check_through(later)
+        if not first:
+            later.findings = [
+                Finding(found.kind, found.words, True, True) for found in later.findings
+            ]
+            return later
+        one = self.check_one(FIRST)
+        later.refused = later.refused or one.refused
+        kept = [found for found in one.findings if found.kind != "stale"]
+        both = {(found.kind, found.words) for found in later.findings}
+        verdict = Verdict(later.recipes, later.reads, ways=later.ways, refused=later.refused)
+        verdict.hides, verdict.targets = later.hides, later.targets
+        for found in kept:
+            in_later = (found.kind, found.words) in both
+            verdict.findings.append(Finding(found.kind, found.words, True, in_later))
+        seen = {(found.kind, found.words) for found in kept}
+        for found in later.findings:
+            if (found.kind, found.words) not in seen:
+                verdict.findings.append(Finding(found.kind, found.words, False, True))
+        return verdict
+
+    def unaware(self, later: Verdict) -> list[Finding]:
+        """The stale files that the tool itself showed: their commands depend on a file."""
+        known = {found.words for found in later.findings if found.kind == "stale"}
+        pairs = [(name, file) for name, file, _ in self.build.unaware.values()]
+        return [Finding(UNAWARE, words, False, True) for words in pairs if words not in known]
+
+    def check_between(self, later: Verdict) -> list[Finding]:
+        """Races of later builds that only prerequisites of the first one, or late ones, hide."""
+        gone = {name: node.first_only for name, node in self.build.nodes.items() if node.first_only}
+        if not gone:
+            return []
+        text = makefile(without_first_only(self.build), False, self.names())
+        write(self.path(BETWEEN), text)
+        known = {found.words for found in later.findings if found.kind == "race"}
+        races = [found for found in self.check_one(BETWEEN).findings if found.kind == "race"]
+        return [found for found in races if found.words not in known]
+
+    def check_through(self, later: Verdict) -> list[Finding]:
+        """Stale reads in builds in which files change that recipes leave alike where nothing did.
+
+        `alike` lets what needs such a file never run again by it. Here it runs again when what the
+        file is made from changes.
+        """
+        footprints = self.read_book()
+        build = passing_through(self.build, footprints)
+        if build is None:
+            return []
+        names = self.names().written
+        more = {name for node in build.nodes.values() for name in node.late} - names.keys()
+        written = {**names, **{name: name for name in more}}
+        written.update((order_name(name), f"{name}@order") for name in more)
+        write(self.path(THROUGH), makefile(build, True, Names(written)))
+        known = {found.words for found in later.findings if found.kind == "stale"}
+        stale = [found for found in self.check_one(THROUGH).findings if found.kind == "stale"]
+        return [found for found in stale if found.words not in known]
+
+    def check_one(self, name: str) -> Verdict:
+        """Checks one of the makefiles."""
+        words = ["check", "-f", self.path(name), "-b", self.path("footprint.json")]
+        status, said, errors = self.ask(*words)
+        verdict = Verdict()
+        names = self.names()
+        back = {word: node for node, word in names.written.items() if "\0" not in node}
+        if status not in (0, 1):
+            verdict.refused = self.refusal(said.strip() or errors.strip(), name)
+        for line in said.splitlines():
+            kind, *rest = line.split(" ")
+            if kind == "yes":
+                verdict.recipes, verdict.reads = int(rest[0]), int(rest[2])
+            elif kind == "way":
+                verdict.ways.append(tuple(back.get(word, word) for word in rest))
+            elif kind == "no":
+                found = tuple(back.get(word, word) for word in rest[1:])
+                verdict.findings.append(Finding(rest[0], found, False, True))
+        records = read_footprints(self.path("footprint.json")).records.values()
+        reached = {names[name] for name in self.build.reached(True)}
+        used = [record for record in records if record.target in reached]
+        verdict.targets = {back.get(record.target, record.target) for record in used}
+        if status == 1:
+            _, told, _ = self.ask("check", "-w", *words[1:])
+            verdict.hides = HIDDEN in told.splitlines()
+            verdict.recipes, verdict.reads = len(used), sum(len(record.reads) for record in used)
+        # What only hands a file on is no recipe of the project.
+        own = [
+            self.build.nodes[name] for name in self.build.reached(True) if name in self.build.nodes
+        ]
+        verdict.recipes -= sum(node.commands == [HANDING_ON] for node in own)
+        return verdict
+
+    @property
+    def goal(self) -> str:
+        """The goal of the makefiles."""
+        return goal_of(self.build, self.names())
+
+
+def is_trust(note: Note) -> bool:
+    """Whether a note is on a recipe that is taken as it is."""
+    return note.kind in (NoteKind.TRUSTED, NoteKind.TRUSTED_NEEDLESSLY)
+
+
+def also_made(build: Build, name: str) -> list[str]:
+    """The further targets of the recipe of a node."""
+    return [
+        other.name
+        for other in build.nodes.values()
+        if other.groups == [[name]] and other.rereads and not other.commands and other.has_rule
+    ]
+
+
+def without_first_only(build: Build) -> Build:
+    """A build with just those prerequisites that order recipes in each build."""
+    nodes = {}
+    for name, node in build.nodes.items():
+        groups = [[one for one in group if one not in node.first_only] for group in node.groups]
+        nodes[name] = replace(node, groups=groups, first_only=[])
+    return replace(build, nodes=nodes)
+
+
+def advice(found: re.Match[str]) -> str:
+    """What is advised instead."""
+    if found.group(1) is None:
+        return "import its goals by themselves, and here goals that don't need that recipe"
+    return (
+        f"import that folder by itself (mkcheck-import -C {found.group(1)}), and here goals that"
+        " don't need that recipe"
+    )
+
+
+class RecordingFault(Fault):
+    """The recording failed; the text is what the recorder said."""
+
+
+def write(path: str, text: str) -> None:
+    """Writes a text as it came from the build tool."""
+    Path(path).write_bytes(text.encode("utf-8", "surrogateescape"))
+
+
+def test_text(text: str) -> None:
+    """Raises `Fault` where mkcheck could not read a line, with a sentence that says which."""
+    if "\0" in text:
+        raise Fault("a command of the build holds a zero byte, which a makefile can't")
+    for line in re.split(r"(?<!\\)\n", text):
+        if len(line.encode("utf-8", "surrogateescape")) > 65536:
+            front = line.strip()[:60]
+            raise Fault(
+                f"a command of the build has over 65,536 bytes, more than mkcheck takes in a line"
+                f" ({front} ..): let it read a file with its words"
+            )

@@ -1,0 +1,233 @@
+"""What an earlier build left in the project's folder.
+
+Files that have a rule and are there are of two kinds. Some came with the project, or were written
+when it was configured: `configure`, a manual page, `parser.c`. A clean build has them too. The
+others are outputs of an earlier build, which a clean build makes anew: these are hidden.
+"""
+
+from __future__ import annotations
+
+import os
+import subprocess
+from collections.abc import Callable, Iterable
+from dataclasses import dataclass, field
+from pathlib import Path
+
+from mkcheck_tools.faults import Fault
+from mkcheck_tools.imports.answers import counted
+from mkcheck_tools.imports.builds import Build, path_name
+from mkcheck_tools.imports.copies import Copies, listing
+from mkcheck_tools.imports.gnumake import Make, last_words, option_words
+from mkcheck_tools.imports.inherited import reached
+from mkcheck_tools.imports.rereading import is_dependency_file
+from mkcheck_tools.run.places import namespace
+
+CLEAN = "clean"
+# How long it may take.
+CLEAN_SECONDS = 60
+# The files of a release are made within that time, in nanoseconds.
+A_DAY = 86_400 * 10**9
+
+
+@dataclass
+class Leftovers:
+    """What an earlier build left in a project, of which copies are made."""
+
+    copies: Copies
+    there: set[str] = field(default_factory=set)
+    """The files and folders of the project before make reads."""
+
+    tracked: set[str] | None = None
+    """The files that git tracks."""
+
+    is_cleaned: bool = False
+    """Whether `make clean` has told what an earlier build left."""
+
+    not_cleaned: str = ""
+    """Why it hasn't, where the makefile has such a rule."""
+
+    times: dict[str, int] = field(default_factory=dict)
+    """The times of the files before make reads."""
+
+    shown_again: list[str] = field(default_factory=list)
+    """Files without which a build fails, so that they are taken as they are."""
+
+    dependencies: set[str] = field(default_factory=set)
+    """Dependency files that say something before the build."""
+
+    def hide(
+        self,
+        shown: list[Make],
+        words: list[str],
+        run: Callable[..., list[Make]],
+        times: dict[str, int],
+    ) -> bool:
+        """Hides what an earlier build left; says whether there was something.
+
+        That is what `make clean` removes in a copy, by `run`, with the options among the words, but
+        for files of a release. Where there is no such rule, or it fails, it is each target that git
+        doesn't track. `times` are those of the files.
+        """
+        self.times = times
+        found = targets_there(self.copies.seen, shown, self.there)
+        if found:
+            self.tracked = tracked_files(self.copies.root)
+        found -= self.tracked or set()
+        if not found:
+            return False
+        if has_clean(shown[0]):
+            options = [word for option in option_words(words) for word in option]
+            self.not_cleaned = clean([*options, CLEAN], run)
+            self.is_cleaned = not self.not_cleaned
+        if self.is_cleaned:
+            left = listing(self.copies.place("clean").folder)
+            found = self.there - left - (self.tracked or set())
+            found -= self.of_release(found, times) if self.tracked is None else set()
+        elif self.tracked is None:
+            found = set()
+        self.copies.hide(found)
+        return bool(found)
+
+    def of_release(self, names: set[str], times: dict[str, int]) -> set[str]:
+        """Those of these files that came with a release, though `make clean` removes them: they
+        were there when it was configured, and are about as old as its other files."""
+        configured = [
+            stamp for name, stamp in times.items() if os.path.basename(name) == "config.status"
+        ]
+        if not configured:
+            return set()
+        others = (stamp for name, stamp in times.items() if name not in names)
+        newest = max((stamp for stamp in others if stamp < min(configured)), default=0)
+        limit = min(min(configured), newest + A_DAY)
+        return {name for name in names if times.get(name, limit) < limit}
+
+    def show(self, names: set[str]) -> None:
+        """Lets copies have files again, since a build without them fails. The copies that are there
+        are made anew."""
+        self.shown_again += sorted(names)
+        self.copies.hidden -= names
+        self.copies.forget()
+
+    def sentence(self) -> str:
+        """What is added to the sentence on a build that fails."""
+        if not self.copies.hidden:
+            return ""
+        return (
+            f" (it was built without {self.some(self.copies.hidden)}, which an earlier build left;"
+            " with --keep what is there is taken as it is)"
+        )
+
+    def some(self, names: Iterable[str]) -> str:
+        """How many files there are, and the first of them."""
+        files = sorted(name for name in names if f"{name}/" not in self.there and name[-1:] != "/")
+        return f"{counted(len(files), 'file')} ({', '.join(files[:5])}{', ..' * (len(files) > 5)})"
+
+    def find_dependencies(self, folder: str, makes: list[Make]) -> None:
+        """Finds dependency files in a folder that name prerequisites before any recipe has run."""
+        found: dict[str, None] = {}
+        for make in makes:
+            for text in make.makefiles:
+                name = path_name(self.copies.seen, make.folder, text)
+                is_made = any(rule.has_recipe for rule in make.base.rules.get(text, []))
+                if name in self.there and name not in self.copies.hidden and not is_made:
+                    found.setdefault(name)
+        paths = {name: os.path.join(folder, name) for name in found}
+        self.dependencies |= {
+            name for name, path in paths.items() if is_dependency_file(path) and has_rule(path)
+        }
+
+    def name(self, build: Build, times: dict[str, int], keep: bool) -> None:
+        """Names what was hidden, and targets of which it isn't known whose they are. With `keep`
+        all that is there is the project's. `times` are those of the files before the build."""
+        if self.copies.hidden:
+            some = self.some(self.copies.hidden)
+            left, taken = ("is", "it is") if some.startswith("1 ") else ("are", "they are")
+            build.note(
+                f"{some} of an earlier build {left} left out, so that the build begins from"
+                f" nothing; with --keep {taken} taken as {taken}"
+            )
+        if self.shown_again:
+            some = self.some(self.shown_again)
+            build.note(
+                f"{some} that `make clean` removes stayed as they are, since a build fails without"
+                " them"
+            )
+        build.old_dependencies = self.dependencies
+        if keep or self.is_cleaned:
+            return
+        why = ""
+        if self.not_cleaned:
+            why = (
+                "`make clean` tells nothing, since it fails in a copy, where it can change nothing"
+                f" else and has no network ({self.not_cleaned})"
+            )
+        given = self.there.intersection(build.given)
+        old = {name for name in given if not self.came_with_it(build, name, times)}
+        if old:
+            build.problem(
+                f"{self.some(old)} with rules are there already, and nothing tells whether they"
+                " came with the project or an earlier build left them: run `make clean`, or remove"
+                f" them; with --keep they are taken as they are{why and '; ' + why}"
+            )
+        elif why:
+            build.note(why)
+
+    def came_with_it(self, build: Build, name: str, times: dict[str, int]) -> bool:
+        """Whether a target came with the project: git tracks it, or it isn't newer than the
+        makefile with its rule."""
+        if self.tracked is not None:
+            return name in self.tracked
+        origin = build.nodes[name].origin if name in build.nodes else None
+        makefile = times.get(origin.makefile if origin is not None else "")
+        return makefile is not None and times.get(name, makefile + 1) <= makefile
+
+
+def clean(words: list[str], run: Callable[..., list[Make]]) -> str:
+    """Runs `make clean` in a copy, where it can change nothing else; says why it failed, and
+    nothing where it didn't."""
+    if namespace() is None:
+        return "this system allows no mount namespace"
+    try:
+        makes = run("clean", is_real=True, words=words, seconds=CLEAN_SECONDS)
+    except Fault as fault:
+        return str(fault)
+    return last_words(makes[0].errors) if makes[0].status != 0 else ""
+
+
+def has_clean(make: Make) -> bool:
+    """Whether a make has a rule to remove what it makes."""
+    return any(rule.is_target for rule in make.base.rules.get(CLEAN, []))
+
+
+def targets_there(root: str, makes: list[Make], there: set[str]) -> set[str]:
+    """The files that are there, though recipes of the goals make them."""
+    found = set()
+    for make in makes:
+        for name in reached(make.base, make.goals):
+            rules = make.base.rules.get(name, [])
+            if any(rule.has_recipe and not rule.is_phony for rule in rules):
+                found.add(path_name(root, make.folder, name))
+    return {name for name in found if name in there and f"{name}/" not in there}
+
+
+def tracked_files(folder: str) -> set[str] | None:
+    """The files of a folder that git tracks; None where it isn't one of git's, or where git isn't
+    there."""
+    words = ["git", "-C", folder, "ls-files", "-z", "--recurse-submodules"]
+    environment = {**os.environ, "GIT_OPTIONAL_LOCKS": "0"}
+    try:
+        done = subprocess.run(
+            words, env=environment, stdin=subprocess.DEVNULL, capture_output=True, check=False
+        )
+    except OSError:
+        return None
+    if done.returncode != 0:
+        return None
+    names = done.stdout.decode("utf-8", "surrogateescape").split("\0")
+    return set(filter(None, names)) or None
+
+
+def has_rule(path: str) -> bool:
+    """Whether a dependency file says anything."""
+    lines = Path(path).read_text(encoding="utf-8", errors="surrogateescape").split("\n")
+    return any(line.strip() and not line.startswith("#") for line in lines)

@@ -1,0 +1,279 @@
+"""Recipes that write something else if another recipe's folder is missing or has other names in it.
+
+Footprints name files and no folders. So `check` doesn't see it when the recipe that makes the
+folder runs again, and the one that looks at the folder doesn't and keeps its old outputs.
+"""
+
+from __future__ import annotations
+
+import contextlib
+import os
+import re
+import shutil
+from collections.abc import Iterable, Iterator
+
+from mkcheck_tools.imports.builds import Build, Node, path_name
+from mkcheck_tools.imports.copies import run_here
+from mkcheck_tools.imports.footprints import Footprints, Record
+from mkcheck_tools.imports.gnumake import content
+from mkcheck_tools.imports.plain import shell_text
+from mkcheck_tools.imports.readings import followed
+from mkcheck_tools.run.places import Place
+
+BETWEEN_WORDS = re.compile(r"[\s;&|()<>\"'`=:{}\[\]]+")
+SCRIPT_AT_MOST = 1 << 20
+# How many recipes are tried at most, each by two runs.
+TRIED_AT_MOST = 40
+ASIDE = "mkcheck-aside"
+# A word that may be the name of a file, or a pattern of the shell.
+NAME = re.compile(r"(?<![-\w])[\w.+*?][\w.+*?-]*")
+WORDS_AT_MOST = 2000
+
+
+class Probing:
+    """Finds such recipes, and tries them in a copy of the project that was built, where there is
+    one."""
+
+    def __init__(
+        self,
+        build: Build,
+        footprints: Footprints,
+        root: str,
+        built: Place | None,
+        environment: dict[str, str],
+    ) -> None:
+        self.build, self.footprints, self.root = build, footprints, root
+        self.built, self.environment = built, environment
+        made = [name for name in build.made if name.endswith("/")]
+        self.folders = sorted(name.rstrip("/") for name in made)
+        self.words: dict[str, set[str]] = {}
+
+    def probe(self) -> None:
+        """Adds a problem for each recipe to which such a folder matters."""
+        left = TRIED_AT_MOST
+        for record in list(self.footprints.records.values()) if self.folders else ():
+            node = self.build.nodes.get(record.target)
+            found = self.met(node, record) if node is not None else []
+            found = [name for name in found if f"{record.target} {name}" not in self.build.tried]
+            if node is None or not found:
+                continue
+            text = self.sentence(node, found[0])
+            if self.built is None:
+                self.build.problem(
+                    text + " isn't known without a build: import without --only", node.name
+                )
+            elif left == 0:
+                self.build.problem(
+                    text + f" wasn't tried, since {TRIED_AT_MOST} other recipes were; let it make"
+                    " the folder itself (mkdir -p), or need a file in it",
+                    node.name,
+                )
+            else:
+                left -= 1
+                self.tell(node, record, found, text)
+
+    def sentence(self, node: Node, folder: str) -> str:
+        """The beginning of what is said of a recipe."""
+        return (
+            f"{self.where(node)}: whether what the recipe of {node.name} writes depends on the"
+            f" folder {folder}"
+        )
+
+    def where(self, node: Node) -> str:
+        """Where a recipe stands."""
+        return str(node.origin) if node.origin else self.build.tool
+
+    def tell(self, node: Node, record: Record, folders: list[str], text: str) -> None:
+        """Tries a recipe with and without folders, and says what came of it."""
+        what = self.tried(node, record, folders)
+        if what == "":
+            self.build.tried.update(f"{record.target} {name}" for name in folders)
+            looked = self.build.looked.get(record.target, [])
+            for name in (name for name in folders if f"{name}/" in looked):
+                self.build.note(
+                    f"{self.where(node)}: the recipe of {node.name} reads the names in the folder"
+                    f" {name}, which another recipe makes, and isn't run again when they change: it"
+                    " wrote the same with all other names that were tried"
+                )
+        elif what == "fails":
+            self.build.problem(
+                f"{text} couldn't be tried, since that recipe fails when it runs again; let it"
+                " succeed then, or need a file in the folder",
+                node.name,
+            )
+        else:
+            self.build.problem(
+                f"{self.where(node)}: the recipe of {node.name} writes {what} otherwise where the"
+                f" folder {folders[0]}, which another recipe makes, isn't there or holds other"
+                f" names; {node.name} isn't made again when that changes; let it look at a file"
+                " that it needs",
+                node.name,
+            )
+
+    def met(self, node: Node, record: Record) -> list[str]:
+        """The folders that may matter to a recipe: it names them or looks at them, uses no file in
+        them, and doesn't always run when the recipes do that make them."""
+        used = [*record.reads, *record.writes]
+        words, looked = self.words_of(node, record), self.build.looked.get(record.target, [])
+        found = []
+        for name in self.folders:
+            if name == node.name:
+                continue
+            is_met = name in looked or is_named(name, words)
+            if is_met and not any(file.startswith(name + "/") for file in used):
+                makers = self.makers(name) - {record.target}
+                if not makers or not makers <= followed(self.build, node.name):
+                    found.append(name)
+        return found
+
+    def words_of(self, node: Node, record: Record) -> set[str]:
+        """The words of a recipe, and of the scripts of the project that it reads, as paths."""
+        if record.target not in self.words:
+            texts = [(node.setting.folder, command.text) for command in node.commands]
+            place = self.built.folder if self.built is not None else self.root
+            for name in record.reads:
+                path = os.path.join(place, name)
+                if not name.startswith("/") and os.access(path, os.X_OK) and is_short(path):
+                    text = content(path).decode("utf-8", "replace")
+                    texts += [(node.setting.folder, text)] if text.startswith("#!") else []
+            self.words[record.target] = {
+                path_name(self.root, os.path.join(self.root, folder), word)
+                for folder, text in texts
+                for word in BETWEEN_WORDS.split(text)
+                if word
+            }
+        return self.words[record.target]
+
+    def makers(self, folder: str) -> set[str]:
+        """The recipes that may make a folder: they name it, or write files in it."""
+        found = set()
+        for record in self.footprints.records.values():
+            node = self.build.nodes.get(record.target)
+            inside = any(name.startswith(folder + "/") for name in record.writes)
+            if node is not None and (inside or self.is_maker(node, record, folder)):
+                found.add(record.target)
+        return found
+
+    def is_maker(self, node: Node, record: Record, folder: str) -> bool:
+        """Whether a recipe names a folder, and a command by which one is made."""
+        texts = " ".join(command.text for command in node.commands)
+        return node.name == folder or (
+            re.search(r"\b(mkdir|install|mv|cp|ln|tar|unzip)\b|\./", texts) is not None
+            and is_named(folder, self.words_of(node, record))
+        )
+
+    def tried(self, node: Node, record: Record, folders: list[str]) -> str:
+        """Runs a recipe without these folders, and with more files in each: one for each ending,
+        and those that the recipe spells. Gives the first file that it then writes with other
+        contents; empty if there is none, or if the recipe fails then, since nobody overlooks that.
+
+        A recipe that can't run over its own outputs, as `ln -s`, is run without them.
+        """
+        assert self.built is not None
+        writes = [os.path.join(self.built.folder, name) for name in record.writes]
+        paths = [os.path.join(self.built.folder, name) for name in folders]
+        paths = [path for path in paths if os.path.isdir(path)]
+        gone: list[str] = []
+        if self.run(node):
+            gone = [path for path in writes if not os.path.isdir(path)]
+            if self.run_without(node, gone):
+                return "fails"
+        before = [content(path) for path in writes]
+        found = []
+        for change in (without_folder, with_file):
+            with contextlib.ExitStack() as stack:
+                for path in paths:
+                    stack.enter_context(change(path))
+                if self.run_without(node, gone) == 0:
+                    found += self.changed(record, before)
+        words = self.spelled(node, record)
+        for path in paths:
+            with with_empty([os.path.join(path, word) for word in words]):
+                if self.run_without(node, gone) == 0:
+                    found += self.changed(record, before)
+        self.run_without(node, gone)
+        return found[0] if found else ""
+
+    def changed(self, record: Record, before: list[bytes]) -> list[str]:
+        """The files that a recipe writes and that hold something else than before."""
+        assert self.built is not None
+        pairs = zip(record.writes, before)
+        folder = self.built.folder
+        return [name for name, old in pairs if content(os.path.join(folder, name)) != old]
+
+    def spelled(self, node: Node, record: Record) -> list[str]:
+        """The words of a recipe, and of the scripts of the project that it reads, as names of
+        files. A pattern of the shell becomes a name that it matches."""
+        assert self.built is not None
+        texts = [command.text for command in node.commands]
+        for name in record.reads:
+            path = os.path.join(self.built.folder, name)
+            if not name.startswith("/") and is_short(path):
+                text = content(path).decode("utf-8", "replace")
+                texts += [text] if text.startswith("#!") else []
+        words = dict.fromkeys(word for text in texts for word in NAME.findall(text))
+        names = [word.replace("*", ASIDE).replace("?", "m") for word in words]
+        return [name for name in names if name.strip(".") and len(name) < 256][:WORDS_AT_MOST]
+
+    def run_without(self, node: Node, paths: list[str]) -> int:
+        """Runs a recipe when these files are gone."""
+        for path in paths:
+            with contextlib.suppress(OSError):
+                os.unlink(path)
+        return self.run(node)
+
+    def run(self, node: Node) -> int:
+        """Runs a recipe in the copy that was built, and gives its status."""
+        assert self.built is not None
+        for command in node.commands:
+            words = ["/bin/sh", "-e", "-c", shell_text(command, node.setting)]
+            status, _, _ = run_here(self.built, words, self.environment)
+            if status != 0 and not command.ignored:
+                return status
+        return 0
+
+
+@contextlib.contextmanager
+def without_folder(path: str) -> Iterator[None]:
+    """Takes a folder away for a while. One that stands there then is taken away for good."""
+    aside = f"{path}.{ASIDE}"
+    if not os.path.isdir(path):  # The recipe itself takes it away.
+        yield
+        return
+    os.rename(path, aside)
+    yield
+    shutil.rmtree(path, ignore_errors=True)
+    os.rename(aside, path)
+
+
+@contextlib.contextmanager
+def with_file(path: str) -> Iterator[None]:
+    """Puts files into a folder for a while, one for each ending of the names in it."""
+    names = os.listdir(path) if os.path.isdir(path) else []
+    endings = {"", *(os.path.splitext(name)[1] for name in names)}
+    with with_empty([os.path.join(path, ASIDE + ending) for ending in endings]):
+        yield
+
+
+@contextlib.contextmanager
+def with_empty(paths: Iterable[str]) -> Iterator[None]:
+    """Makes empty files for a while, where nothing stands yet."""
+    added = [path for path in paths if not os.path.lexists(path)]
+    for path in added:
+        with contextlib.suppress(OSError), open(path, "xb"):
+            pass
+    yield
+    for path in added:
+        with contextlib.suppress(OSError):
+            os.unlink(path)
+
+
+def is_named(folder: str, words: set[str]) -> bool:
+    """Whether words name a folder: by its path, or by an end of it from another folder."""
+    parts = folder.split("/")
+    return any("/".join(parts[at:]) in words for at in range(len(parts)))
+
+
+def is_short(path: str) -> bool:
+    """Whether a file isn't too long to be a script that is read."""
+    return os.path.isfile(path) and os.path.getsize(path) <= SCRIPT_AT_MOST

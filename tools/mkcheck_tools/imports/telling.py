@@ -1,0 +1,88 @@
+"""Tells on standard error which step is under way, how far it is, and what time is left."""
+
+from __future__ import annotations
+
+import re
+import shutil
+import sys
+import threading
+import time
+from collections.abc import Callable
+from typing import TextIO
+
+from mkcheck_tools.run.progress import CLEAR, duration
+
+# How often a terminal and another file get a line, in seconds.
+SECONDS_ON_TERMINAL = 1.0
+SECONDS_ELSEWHERE = 60.0
+# A count in a line of another program, as `[replay 3/10 0:05 left] a.o` or `[3/10] `.
+COUNT = re.compile(r"\[(?:(\w+) )?(\d+)/(\d+)(?: ([\d:]+) left)?\]")
+DOING = {
+    "read": "reading",
+    "build": "building",
+    "translate": "translating",
+    "record": "recording",
+    "replay": "replaying",
+    "check": "checking",
+}
+
+
+class Telling:
+    """Tells a step every second on a terminal, on one line, else every minute."""
+
+    def __init__(self, stream: TextIO | None = None, apart: float = SECONDS_ELSEWHERE) -> None:
+        self.stream = stream or sys.stderr
+        self.terminal = self.stream.isatty()
+        self.apart = SECONDS_ON_TERMINAL if self.terminal else apart
+        self.lock = threading.Lock()
+
+    def line(self, text: str) -> None:
+        """A line that stays."""
+        with self.lock:
+            front = CLEAR if self.terminal else ""
+            print(f"{front}mkcheck-import: {text}", file=self.stream, flush=True)
+
+    def during(self, word: str, look: Callable[[], str], action: Callable[[], str]) -> str:
+        """Does a step, and tells meanwhile how far it is: `look` gives a text with counts."""
+        ended = threading.Event()
+        begun = time.monotonic()
+
+        def tell() -> None:
+            while not ended.wait(self.apart):
+                self.progress(word, look(), time.monotonic() - begun)
+
+        teller = threading.Thread(target=tell, daemon=True)
+        teller.start()
+        try:
+            return action()
+        finally:
+            ended.set()
+            teller.join()
+
+    def progress(self, word: str, text: str, seconds: float) -> None:
+        """A line on a step that is under way."""
+        shown = f"mkcheck-import: {doing(word, text)}, {duration(seconds)}{how_far(text, seconds)}"
+        with self.lock:
+            if self.terminal:
+                width = shutil.get_terminal_size().columns
+                self.stream.write(CLEAR + shown[: width - 1])
+                self.stream.flush()
+            else:
+                print(shown, file=self.stream, flush=True)
+
+
+def how_far(text: str, seconds: float) -> str:
+    """The last count in a text, and the time that is left; empty where there is none."""
+    counts = list(COUNT.finditer(text))
+    if not counts:
+        return ""
+    done, total, left = int(counts[-1].group(2)), int(counts[-1].group(3)), counts[-1].group(4)
+    if left is None and 0 < done < total:
+        left = duration(seconds / done * (total - done))
+    return f", {done} of {total}{f', {left} left' if left else ''}"
+
+
+def doing(word: str, text: str) -> str:
+    """What is done: a step, or a part of it that a program names in its counts."""
+    counts = list(COUNT.finditer(text))
+    return DOING.get(counts[-1].group(1) or word, word) if counts else DOING.get(word, word)

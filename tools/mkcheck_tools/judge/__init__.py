@@ -1,0 +1,1 @@
+"""What a recording gives: footprints of recipes, and what has to be said of them."""

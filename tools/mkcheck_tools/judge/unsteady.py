@@ -1,0 +1,79 @@
+"""What a recipe asks for that no file holds and that is another one another time: servers, what
+processes hand to each other without files, what the kernel counts, and random numbers."""
+
+from __future__ import annotations
+
+import os
+import re
+import shutil
+from collections.abc import Iterator
+
+from mkcheck_tools.answers.graphs import Recipe
+from mkcheck_tools.judge.notes import Kind, Note
+from mkcheck_tools.judge.refusals import listed
+from mkcheck_tools.trace.accesses import Accesses
+
+# What the kernel counts or draws anew, and no replay can find otherwise.
+COUNTED = re.compile(
+    r"/proc/(?:loadavg|uptime|meminfo|stat|vmstat|diskstats|interrupts|schedstat|zoneinfo"
+    r"|pressure/\w+|sys/kernel/random/\w+|sys/fs/file-nr|net/dev)"
+)
+LOOPBACK = re.compile(r"(?:127\.[0-9.]+|::1), port (\d+)")
+# Random numbers of few values, which two runs may have in common.
+RANDOM = re.compile(
+    r"(\bsrand\(\s*\)|\bshuf\b|\bsort\s+(?:-\S+\s+)*(?:-\w*R\w*|--random-sort)" r"|\$\{?S?RANDOM\b)"
+)
+SEED = "--random-source"
+# The shell that has no variable of that name.
+PLAIN_SHELL = "dash"
+
+
+def unsteady(recipe: Recipe, accesses: Accesses) -> Iterator[Note]:
+    """Notes on a recipe that asks for such things."""
+    target = recipe.target
+    front = f"the recipe of {target}"
+    for server in servers(accesses):
+        text = (
+            f"{front} asks {server}: what that does or answers isn't recorded, so no make notices"
+            " where it changes; let the recipe do without it"
+        )
+        yield Note(target, Kind.SERVER, text)
+    for channel in accesses.channels:
+        text = (
+            f"{front} uses {channel}, which is no file: what it finds or leaves there isn't"
+            " recorded, so no make notices where it changes; let recipes hand on files"
+        )
+        yield Note(target, Kind.CHANNEL, text)
+    counted = [path for path in accesses.reads if COUNTED.fullmatch(path)]
+    if counted:
+        text = (
+            f"{front} reads {listed(counted)}, which the kernel counts: if what it writes goes by"
+            " that, it is another one each time; let the recipe do without it"
+        )
+        yield Note(target, Kind.COUNTED, text)
+    drawn = drawing(recipe)
+    if drawn:
+        text = (
+            f"{front} draws random numbers ({drawn}): what it writes may be another one each time,"
+            " which two runs needn't show; let it begin with a fixed seed"
+        )
+        yield Note(target, Kind.RANDOM, text)
+
+
+def servers(accesses: Accesses) -> Iterator[str]:
+    """The servers that a recipe asked, but for those of its own processes."""
+    for server in accesses.servers:
+        found = LOOPBACK.fullmatch(server)
+        if found is None or f"the port {found[1]}" not in accesses.ports:
+            yield server
+
+
+def drawing(recipe: Recipe) -> str:
+    """The word of a recipe's commands by which it draws random numbers; nothing where none does."""
+    shell = os.path.basename(os.path.realpath(shutil.which(recipe.shell.split()[0]) or ""))
+    for command in recipe.commands:
+        for match in RANDOM.finditer(command.text):
+            known = "RANDOM" not in match[1] or shell != PLAIN_SHELL or "bash" in command.text
+            if known and SEED not in command.text:
+                return match[1]
+    return ""

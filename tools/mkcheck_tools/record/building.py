@@ -1,0 +1,137 @@
+"""The build that is to be recorded: its graph, its files, and how makes would read it."""
+
+from __future__ import annotations
+
+import os
+import re
+import sys
+from collections.abc import Mapping
+from dataclasses import dataclass
+from pathlib import Path
+
+from mkcheck_tools.answers.graphs import Checker, Graph, asked_graph, find_checker, warn_of_varying
+from mkcheck_tools.gnu.built_in import warn_of_rule_macros, warn_of_rules
+from mkcheck_tools.gnu.flags import warn_of_given_options, warn_of_other_reading
+from mkcheck_tools.gnu.macros import (
+    Prober,
+    handed_down,
+    refuse_absent_compiler,
+    warn_of_environment,
+    with_shell,
+)
+from mkcheck_tools.gnu.predefined import refuse_predefined
+from mkcheck_tools.gnu.remade import warn_of_goal, warn_of_remade
+from mkcheck_tools.gnu.searched import warn_of_searched
+from mkcheck_tools.gnu.stems import warn_of_stem
+from mkcheck_tools.gnu.texts import (
+    is_strict,
+    names_of_texts,
+    plainly_included,
+    refuse_mark,
+    text_of,
+)
+from mkcheck_tools.gnu.waits import warn_of_wait
+from mkcheck_tools.judge.notes import Kind, Note, Warn
+from mkcheck_tools.judge.refusals import check_opaque
+from mkcheck_tools.judge.verdicts import check_trust
+from mkcheck_tools.record.request import Request
+from mkcheck_tools.run.folders import Naming, sources_in
+
+
+@dataclass(frozen=True)
+class Build:
+    """What is to be recorded, with the fixed prefixes that are given. `varying` are the targets
+    whose commands use `$?`, and `macros` has variables to which the makefile gives other values."""
+
+    prober: Prober
+    graph: Graph
+    prefixes: list[str]
+    varying: frozenset[str]
+    macros: Mapping[str, str]
+
+    @property
+    def checker(self) -> Checker:
+        """The program mkcheck, and the makefile."""
+        return self.prober.checker
+
+    @property
+    def files(self) -> list[str]:
+        """The files that may be sources."""
+        return self.prober.files
+
+
+def build_of(request: Request, scratch: str, warn: Warn) -> Build:
+    """The build that is asked for. What makes would do otherwise is told, or refused."""
+    choice, folder = request.choice, request.folder
+    program = find_checker(Path(sys.argv[0]).resolve().parent)
+    checker = Checker(program, folder, choice.options, choice.words)
+    fixed = list(choice.fixed)
+    naming = Naming(folder, choice.fixed)
+    hidden = request.hidden
+    sources = [name for name in sources_in(folder, naming) if name not in hidden]
+    refuse_mark(folder, plainly_included(folder, makefile_of(request)))
+    files, graph = asked_graph(checker, fixed, sources, scratch)
+    warn_of_prefixes(folder, choice.prefixes, warn)
+    if choice.makefile is None and os.path.exists(os.path.join(folder, "GNUmakefile")):
+        text = "GNU make reads GNUmakefile first, which isn't judged here; -f GNUmakefile judges it"
+        warn(Note("", Kind.OTHER_MAKEFILE, text))
+    check_trust(choice.trusted, graph.recipes)
+    check_opaque(choice.opaque, graph.recipes)
+    prober = Prober(checker, fixed, files, scratch)
+    refuse_predefined(graph, prober, warn)
+    refuse_mark(folder, names_of_texts(prober))
+    text_of_makefile = text_of(prober)
+    graph = with_shell(graph, prober, is_strict(prober, text_of_makefile), warn)
+    refuse_absent_compiler(graph)
+    warn_of_stem(graph, prober, text_of_makefile, warn)
+    warn_of_makes(graph, prober, choice.operands, warn)
+    varying = warn_of_varying(checker, fixed, files, scratch, warn)
+    macros = handed_down(prober, choice.operands)
+    return Build(prober, graph, list(choice.prefixes), frozenset(varying), macros)
+
+
+def warn_of_makes(graph: Graph, prober: Prober, operands: dict[str, str], warn: Warn) -> None:
+    """Warns of what makes would read, choose or make otherwise."""
+    warn_of_environment(graph, prober, operands, warn)
+    warn_of_remade(prober, warn)
+    warn_of_goal(graph, prober, warn)
+    warn_of_wait(graph, prober, warn)
+    warn_of_searched(graph, prober, prober.files, warn)
+    warn_of_given_options(os.environ, warn)
+    warn_of_other_reading(lambda name: prober.values(name)[0], warn)
+    warn_of_rule_macros(graph, prober, os.environ, warn)
+    if not warn_of_rules(graph, prober, prober.files, warn) and not graph.recipes:
+        text = "the goals reach no recipe: is a macro misspelt?"
+        warn(Note("", Kind.UNREACHED, text))
+
+
+def warn_of_prefixes(folder: str, prefixes: tuple[str, ...], warn: Warn) -> None:
+    """Warns of each prefix that was given under which no file can have its name."""
+    for prefix in prefixes:
+        inside = os.path.relpath(os.path.realpath(os.path.join(folder, prefix)), folder)
+        if not os.path.isdir(os.path.join(folder, prefix)):
+            warn(Note("", Kind.PREFIX, f"--fixed {prefix}: there is no such folder"))
+        elif os.path.isabs(prefix) and inside.split("/")[0] not in (".", ".."):
+            text = (
+                f"--fixed {prefix}: files of the project are named from its folder, so none lies"
+                f" under this prefix; write --fixed {inside}/"
+            )
+            warn(Note("", Kind.PREFIX, text))
+
+
+def removes_on_error(request: Request) -> bool:
+    """Whether the makefile has GNU make remove the target of a recipe that fails."""
+    try:
+        path = Path(request.folder, makefile_of(request))
+        text = path.read_text(encoding="utf-8", errors="replace")
+    except OSError:
+        return False
+    return re.search(r"(?m)^\.DELETE_ON_ERROR[ \t]*:", text) is not None
+
+
+def makefile_of(request: Request) -> str:
+    """The name of the makefile."""
+    if request.choice.makefile is not None:
+        return request.choice.makefile
+    there = os.path.exists(os.path.join(request.folder, "makefile"))
+    return "makefile" if there else "Makefile"

@@ -1,0 +1,365 @@
+"""A recording, from what is asked for to what is written: the build, the recording of its recipes,
+their replay, the verdict on each, and the footprint file with its notes and its state.
+"""
+
+from __future__ import annotations
+
+import os
+import sys
+from dataclasses import dataclass, replace
+from functools import partial
+
+from mkcheck_tools.book.books import Book, make_book
+from mkcheck_tools.book.note_files import path_of_notes, text_of_notes
+from mkcheck_tools.book.states import Unusable, path_of_state
+from mkcheck_tools.book.updating import FIRST_TIME, Conditions, Updating, believed
+from mkcheck_tools.faults import Failure, Fault, RecipeFault, failure_of, sentence_of
+from mkcheck_tools.gnu.unlooked import warn_of_unlooked
+from mkcheck_tools.judge.comparing import compare_again, compare_make
+from mkcheck_tools.judge.dates import dated, without_told
+from mkcheck_tools.judge.footprints import Footprint
+from mkcheck_tools.judge.late import with_met
+from mkcheck_tools.judge.leftovers import warn_of_left_over
+from mkcheck_tools.judge.modules import warn_of_modules
+from mkcheck_tools.judge.notes import Kind, Note, Notes, Warn, ignore
+from mkcheck_tools.judge.verdicts import Verdict, judge
+from mkcheck_tools.record.building import Build, build_of, makefile_of, removes_on_error
+from mkcheck_tools.record.recording import Recorded, Workshop, record
+from mkcheck_tools.record.request import Request
+from mkcheck_tools.replay.replays import Replay, Replayed
+from mkcheck_tools.run import places
+from mkcheck_tools.run.ending import write_text
+from mkcheck_tools.run.places import Place
+from mkcheck_tools.run.stopping import Stopped
+from mkcheck_tools.trace import tracing
+
+UNBOUND = (
+    "the system allows no mount namespace (unshare --mount), so recipes run in a copy at another"
+    " path: files of the project that they name by absolute paths, files above its folder, and a"
+    " project below a fixed prefix aren't seen as they are there; and what a recipe writes outside"
+    " of the folder is written for real"
+)
+OPEN = (
+    "the system doesn't allow making all but the project's folder read-only for recipes: what one"
+    " writes outside of it is written for real"
+)
+UNREPLAYED = (
+    "no recipe was run again, since that needs a mount namespace or a copy: nothing tests that each"
+    " writes what it wrote this time, and from its recorded reads alone"
+)
+UNTESTED = (
+    "no recipe was run again (--no-replay), so nothing tests that each writes what it wrote this"
+    " time, and from its recorded reads alone"
+)
+
+
+def tell(text: str) -> None:
+    """Tells something on standard error."""
+    print(f"mkcheck-record: {text}", file=sys.stderr)
+
+
+def record_folder(request: Request, scratch: str) -> int:
+    """Records a folder, writes what was recorded, and gives the status.
+
+    Whatever ends it early, the state keeps what was recorded.
+    """
+    notes = Notes(tell)
+    tracing.strace()
+    build = build_of(request, scratch, notes.add)
+    shop = workshop(request, build, scratch, notes.add)
+    recorded = recorded_by(shop, build, notes.add)
+    verdict = Verdict()
+    try:
+        if recorded.stopped is not None:
+            raise recorded.stopped
+        warn_of_recorded(shop, build, recorded, notes.add)
+        compared = compare(shop, recorded, notes.add)
+        replayed = replay(shop, build, recorded, notes.add)
+        verdict = verdict_of(shop, build, recorded, replayed)
+        if replayed.stopped is not None:
+            raise replayed.stopped
+        for note in verdict.notes:
+            notes.add(note)
+        result = result_of(build, recorded, verdict, scratch, notes.add)
+    except BaseException as end:
+        raise told_of_end(end, request, keep(shop, recorded, verdict, False))
+    result = replace(result, failures=[*recorded.failures, *compared, *result.failures])
+    return write(shop, recorded, verdict, result, notes)
+
+
+def workshop(request: Request, build: Build, scratch: str, warn: Warn) -> Workshop:
+    """Where the recipes run: on a copy, at the project's own path where the system allows it, or in
+    the folder."""
+    folder, choice = request.folder, request.choice
+    copied = os.path.join(scratch, "copy", os.path.basename(folder))
+    os.mkdir(os.path.dirname(copied))
+    place = Place(copied, copied)
+    if request.in_place:
+        place = Place(folder, folder)
+    elif places.namespace() is not None:
+        place = Place(copied, folder, shut=True)
+        if places.shut() is None:
+            warn(Note("", Kind.OPEN, OPEN))
+    else:
+        warn(Note("", Kind.UNBOUND, UNBOUND))
+    graph = build.graph
+    environment = tracing.environment(place, choice.operands, build.macros)
+    return Workshop(
+        request,
+        place,
+        graph.targets - graph.phony,
+        scratch,
+        graph.ancestors(),
+        build.macros,
+        build.varying,
+        build.prober.ruled,
+        updating_of(request, build, Conditions.of(asked_of(request, place), environment), warn),
+        not removes_on_error(request),
+    )
+
+
+def asked_of(request: Request, place: Place) -> dict[str, str]:
+    """The conditions of a recording that are asked for."""
+    return {
+        "folder": request.folder,
+        "path": place.seen,
+        "fixed": " ".join([*request.choice.fixed, *request.choice.steady]),
+        "opaque": " ".join(sorted(request.choice.opaque)),
+        "replay": "yes" if request.replay else "no",
+    }
+
+
+def updating_of(
+    request: Request, build: Build, conditions: Conditions, warn: Warn
+) -> Updating | None:
+    """What keeps the recording beside the footprints, and knows the one before where it is an
+    update; it tells where all has to be recorded."""
+    if request.book is None or request.in_place:
+        return None
+    orders = build.graph.orders()
+    updating = Updating(request.book, request.choice, conditions, orders=orders, warn=warn)
+    if request.update:
+        try:
+            updating.state = believed(request.book, conditions)
+        except Unusable as reason:
+            state = path_of_state(str(request.output))
+            if not os.path.exists(request.book) and not os.path.exists(path_of_state(request.book)):
+                tell(f"{request.output} {FIRST_TIME}")
+            else:
+                tell(f"{state} {reason}: all recipes are recorded")
+    return updating
+
+
+def recorded_by(shop: Workshop, build: Build, warn: Warn) -> Recorded:
+    """The recording of all recipes. It is repeated where recipes were kept that have to be
+    recorded, since others make other files now."""
+    request, updating = shop.request, shop.updating
+    follow = shop.follow if request.replay or updating is not None else None
+    while True:
+        recorded = record(shop, build.graph.recipes, warn, follow)
+        is_done = recorded.stopped is not None or bool(recorded.failures) or not request.replay
+        if is_done or updating is None or not updating.refuse(recorded.late):
+            return recorded
+
+
+def warn_of_recorded(shop: Workshop, build: Build, recorded: Recorded, warn: Warn) -> None:
+    """Warns of what the recording shows of the makefile and the folder."""
+    request = shop.request
+    warn_of_unlooked(build.graph, build.prober, recorded.writers, warn)
+    makefile = makefile_of(request)
+    warn_of_left_over(request.folder, makefile, build.graph, recorded.footprints, warn)
+    refuse_other_meaning(build, recorded, shop.scratch)
+    warn_of_modules(recorded.footprints, shop.fixed, warn)
+    if not request.replay:
+        warn(Note("", Kind.UNREPLAYED, UNTESTED))
+
+
+def refuse_other_meaning(build: Build, recorded: Recorded, scratch: str) -> None:
+    """Refuses, before the replays, footprints without which the makefile means something else; what
+    is of one recipe is said after them."""
+    try:
+        book_of(build, recorded, recorded.footprints, scratch, ignore)
+    except RecipeFault as fault:
+        if not fault.targets:
+            raise
+
+
+def compare(shop: Workshop, recorded: Recorded, warn: Warn) -> list[Failure]:
+    """The further runs that are asked for; returns what failed in one of them alone."""
+    failures: list[Failure] = []
+    if shop.request.again:
+        recipes = [footprint.recipe for footprint in recorded.footprints]
+        second = record(shop, recipes, warn)
+        if second.stopped is not None:
+            raise second.stopped
+        compare_again(recorded, second, warn)
+        failures = [Failure(one.target, f"run again, {one.text}") for one in second.failures]
+    if shop.request.make:
+        choice = shop.request.choice
+        compare_make(shop, [*choice.options, *choice.words], recorded, warn)
+    return failures
+
+
+def replay(shop: Workshop, build: Build, recorded: Recorded, warn: Warn) -> Replayed:
+    """The replays of what was recorded; nothing where none is wanted."""
+    world = recorded.world
+    if world is None or not shop.request.replay:
+        return Replayed([])
+    if places.namespace() is None and shop.place.folder == shop.folder:
+        warn(Note("", Kind.UNREPLAYED, UNREPLAYED))
+        return Replayed([])
+    replays = Replay(
+        world,
+        shop.place.seen,
+        os.path.join(shop.scratch, "replays"),
+        shop.environment,
+        shop.ancestors,
+        recorded.late,
+        recorded.writers,
+        build.graph.once,
+        failing=shop.failing,
+    )
+    return replays.run(world.trials)
+
+
+def verdict_of(shop: Workshop, build: Build, recorded: Recorded, replayed: Replayed) -> Verdict:
+    """What the replays say of the recipes."""
+    world = recorded.world
+    if world is None:
+        return Verdict()
+    trusted = frozenset(shop.request.choice.trusted)
+    verdict = judge(replayed.outcomes, trusted, build.graph.once, world.makers)
+    if shop.request.replay:
+        dates: list[Note] = []
+        for trial in world.trials:
+            try:
+                dates += dated(world, trial)
+            except Exception as error:
+                verdict.failures.append(failure_of(error, trial.recipe.target))
+        verdict.notes = [*without_told(verdict.notes, dates), *dates]
+    return verdict
+
+
+@dataclass(frozen=True)
+class Result:
+    """What a recording gives: the footprints that can be believed, the text of the file with them,
+    and why others aren't there. Without a text nothing is written."""
+
+    footprints: list[Footprint]
+    text: str | None
+    failures: list[Failure]
+
+
+def result_of(
+    build: Build, recorded: Recorded, verdict: Verdict, scratch: str, warn: Warn
+) -> Result:
+    """The footprints of the recipes that passed. One that no footprint file can hold costs itself
+    too."""
+    failures = list(verdict.failures)
+    failed = {failure.target for failure in failures}
+    found = with_met(recorded.footprints, recorded.late, verdict.met)
+    while footprints := [one for one in found if one.recipe.target not in failed]:
+        try:
+            text = book_of(build, recorded, footprints, scratch, warn).text()
+            return Result(footprints, text, failures)
+        except RecipeFault as fault:
+            if not fault.targets:
+                return Result([], None, [*failures, Failure("", str(fault))])
+            failed.update(fault.targets)
+            failures += [Failure(target, str(fault)) for target in fault.targets]
+    if failures or recorded.failures:
+        return Result([], None, failures)
+    return Result([], book_of(build, recorded, [], scratch, warn).text(), failures)
+
+
+def book_of(
+    build: Build, recorded: Recorded, footprints: list[Footprint], scratch: str, warn: Warn
+) -> Book:
+    """The footprint file with these footprints."""
+    checker, prefixes = build.checker, build.prefixes
+    book = partial(make_book, checker, build.graph, build.files, prefixes, scratch=scratch)
+    return book(footprints, warn=warn, late=recorded.looked_late)
+
+
+def keep(shop: Workshop, recorded: Recorded, verdict: Verdict, whole: bool) -> bool:
+    """Keeps what was recorded in the state; tells whether that is done."""
+    updating = shop.updating
+    if updating is None or recorded.world is None or not (recorded.footprints or whole):
+        return False
+    trusted = shop.request.choice.trusted
+    footprints = with_met(recorded.footprints, recorded.late, verdict.met)
+    failed = {*trusted, *(failure.target for failure in verdict.failures)}
+    targets = [one.recipe.target for one in footprints if one.recipe.target not in failed]
+    passed = {
+        target: [note for note in verdict.notes if note.target == target]
+        for target in targets
+        if target in verdict.judged or not shop.request.replay
+    }
+    waiting = [target for target in targets if target not in passed]
+    try:
+        updating.save(footprints, passed, waiting, whole)
+    except (Fault, OSError) as error:
+        tell(f"the state isn't kept: {sentence_of(error, 'recorder')}")
+        return False
+    return True
+
+
+def told_of_end(end: BaseException, request: Request, kept: bool) -> BaseException:
+    """What ends a recording early, having told what there is of it."""
+    more = f"mkcheck-record --update {request.output} goes on from there"
+    if isinstance(end, Stopped):
+        end.rest = f"what was recorded is kept: {more}" if kept else end.rest
+    elif kept:
+        tell(f"what was recorded is kept: {more}")
+    return end
+
+
+def write(
+    shop: Workshop, recorded: Recorded, verdict: Verdict, result: Result, notes: Notes
+) -> int:
+    """Writes the footprints, their notes and their state; tells what isn't there, and gives the
+    status."""
+    request, updating = shop.request, shop.updating
+    failed = {failure.target for failure in result.failures}
+    found = notes.without(failed)
+    if result.text is not None:
+        write_text(result.text, request.output)
+        if request.book is not None:
+            text = text_of_notes(result.text, found, request.choice)
+            write_text(text, path_of_notes(request.book))
+    whole = not result.failures
+    kept = False
+    if updating is not None:
+        if not whole or request.update or os.path.exists(path_of_state(updating.book)):
+            kept = keep(shop, recorded, verdict, whole)
+        else:
+            updating.forget()
+    if whole and request.update and updating is not None:
+        tell_of_update(len(recorded.footprints), updating)
+    if not whole:
+        tell_failures(request, result, len(recorded.footprints) + len(recorded.failures), kept)
+        return RecipeFault.status
+    doubts = [note for note in found if note.is_doubt]
+    if request.strict and doubts:
+        count = "a doubt" if len(doubts) == 1 else f"{len(doubts)} doubts"
+        tell(f"--strict: there {'is' if len(doubts) == 1 else 'are'} {count}, told above")
+        return RecipeFault.status
+    return 0
+
+
+def tell_of_update(recipes: int, updating: Updating) -> None:
+    """Tells how many recipes of all an update recorded."""
+    kept = len(updating.reused) + len(updating.resumed)
+    more = ", the others hadn't changed" if kept else ""
+    tell(f"{recipes - kept} of {recipes} recipes were recorded{more}")
+
+
+def tell_failures(request: Request, result: Result, recipes: int, kept: bool) -> None:
+    """Tells of each recipe that has no record why."""
+    tell(f"recorded {len(result.footprints)} of {recipes} recipes")
+    for text in dict.fromkeys(failure.text for failure in result.failures):
+        tell(text)
+    if result.text is None and request.output is not None and os.path.exists(request.output):
+        tell(f"{request.output} is still that of the recording before")
+    if kept:
+        tell(f"when that is mended, mkcheck-record --update {request.output} records the rest")

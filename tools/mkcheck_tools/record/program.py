@@ -1,0 +1,176 @@
+"""The command line of mkcheck-record."""
+
+from __future__ import annotations
+
+import argparse
+import json
+import os
+import shlex
+import sys
+from functools import partial
+from pathlib import Path
+
+from mkcheck_tools import VERSION
+from mkcheck_tools.book.choices import Choice
+from mkcheck_tools.book.earlier import choice_before
+from mkcheck_tools.book.states import path_of_state
+from mkcheck_tools.faults import Fault
+from mkcheck_tools.record.pipeline import record_folder, tell
+from mkcheck_tools.record.request import Request
+from mkcheck_tools.run import places
+from mkcheck_tools.run.ending import ended
+from mkcheck_tools.run.folders import prefix_of, scratch_folder
+
+ABOUT = "Builds goals once under strace, and writes down which files each recipe reads and writes."
+STATUS = (
+    "Status: 0 written, 1 a recipe failed or can't be recorded (the others are written), or a doubt"
+    " with --strict, 2 a fault of the words, or something is missing, 128 and a signal's number"
+    " where that stopped it."
+)
+
+
+def words_of(arguments: list[str]) -> argparse.Namespace:
+    """What is asked for."""
+    parser = argparse.ArgumentParser(prog="mkcheck-record", description=ABOUT, epilog=STATUS)
+    parser.add_argument("--version", action="version", version=f"%(prog)s {VERSION}")
+    parser.add_argument("-f", metavar="F", help="the makefile; else makefile or Makefile")
+    parser.add_argument(
+        "-r", action="store_true", help="leave out the default text, as mkcheck does"
+    )
+    parser.add_argument(
+        "-C", metavar="DIR", default=".", help="the folder of the project; without it this one"
+    )
+    parser.add_argument(
+        "--fixed",
+        metavar="PREFIX",
+        action="append",
+        default=[],
+        help="files under it never change; or a single file that doesn't",
+    )
+    parser.add_argument(
+        "--update", metavar="BOOK", help="record only what changed since BOOK, and write it anew"
+    )
+    parser.add_argument(
+        "-o", metavar="FILE", help="where the footprints go; without it standard output"
+    )
+    parser.add_argument(
+        "--in-place", action="store_true", help="run in the folder itself and not on a fresh copy"
+    )
+    parser.add_argument(
+        "--again", action="store_true", help="run all twice, and warn of contents that differ"
+    )
+    parser.add_argument(
+        "--make", action="store_true", help="let make run all too, and warn of files that differ"
+    )
+    parser.add_argument(
+        "-k", action="store_true", help="go on where a recipe fails, which is always done"
+    )
+    parser.add_argument("--strict", action="store_true", help="take a doubt for an error")
+    parser.add_argument(
+        "--no-replay", action="store_true", help="don't run each recipe again to test its footprint"
+    )
+    parser.add_argument(
+        "--trust", metavar="TARGET", action="append", default=[], help="take its recipe as it is"
+    )
+    parser.add_argument(
+        "--opaque",
+        metavar="TARGET",
+        action="append",
+        default=[],
+        help="its recipe may start a make",
+    )
+    parser.add_argument(
+        "words", metavar="WORD", nargs="*", help="a macro operand, where it has an =, else a goal"
+    )
+    asked = parser.parse_intermixed_args(arguments)
+    if asked.make and asked.in_place:
+        parser.error("--make needs a fresh copy, so it can't stand beside --in-place")
+    if asked.update and (asked.o or asked.in_place or asked.again or asked.make):
+        parser.error(
+            "--update writes BOOK from a fresh copy: it can't stand beside -o, --in-place, --again"
+            " or --make"
+        )
+    return asked
+
+
+def request_of(asked: argparse.Namespace) -> Request:
+    """The recording that is asked for. An update takes what isn't given from the one before."""
+    folder = os.path.realpath(asked.C)
+    if not os.path.isdir(folder) or folder == "/":
+        raise Fault(
+            f"-C {asked.C}: no folder" if folder != "/" else "the root of all files is no project"
+        )
+    steady = tuple(name for name in asked.fixed if is_file_in(name, folder))
+    given = Choice(
+        asked.f,
+        asked.r,
+        tuple(prefix_of(prefix) for prefix in asked.fixed if prefix not in steady),
+        tuple(asked.words),
+        tuple(asked.trust),
+        tuple(asked.opaque),
+        steady,
+    )
+    output = asked.update or asked.o
+    refuse_other_file(output, asked.update is not None)
+    choice = given.over(choice_before(os.path.realpath(output))) if asked.update else given
+    taken = [word for word in choice.given() if word not in given.given()]
+    if taken:
+        tell(f"as before: {shlex.join(choice.given())}")
+    return Request(
+        folder,
+        choice,
+        output,
+        asked.update is not None,
+        not asked.no_replay,
+        asked.in_place,
+        asked.again,
+        asked.make,
+        asked.strict,
+    )
+
+
+def is_file_in(name: str, folder: str) -> bool:
+    """Whether a name that was given to --fixed is that of a single file."""
+    return not name.endswith("/") and os.path.isfile(os.path.join(folder, name))
+
+
+def refuse_other_file(path: str | None, update: bool) -> None:
+    """Refuses to write footprints over a file that holds none.
+
+    An update finds the state beside its footprints, and may find these damaged.
+    """
+    if path is None or not os.path.isfile(path):
+        return
+    if update and os.path.exists(path_of_state(os.path.realpath(path))):
+        return
+    try:
+        text = Path(path).read_text(encoding="utf-8")
+        known = not text or "format" in dict(json.loads(text))
+    except (ValueError, TypeError, RecursionError):
+        known = False
+    if not known:
+        raise Fault(
+            f"{'--update' if update else '-o'} {path}: this file is no footprint file, so it isn't"
+            " overwritten: give another name, or remove it"
+        )
+
+
+def record(asked: argparse.Namespace) -> int:
+    """Records what is asked for, and gives the status."""
+    request = request_of(asked)
+    try:
+        with scratch_folder(request.folder) as scratch:
+            return record_folder(request, scratch)
+    finally:
+        places.end_all()
+
+
+def main(arguments: list[str]) -> int:
+    """Records, and gives the status."""
+    asked = words_of(arguments)
+    return ended("mkcheck-record", "recorder", partial(record, asked))
+
+
+def run() -> None:
+    """The entry point: ends with the status of the program."""
+    sys.exit(main(sys.argv[1:]))

@@ -1,0 +1,46 @@
+"""What a recording is asked for."""
+
+from __future__ import annotations
+
+import os
+from dataclasses import dataclass
+
+from mkcheck_tools.book.choices import Choice
+from mkcheck_tools.book.note_files import path_of_notes
+from mkcheck_tools.book.states import path_of_state, path_of_store
+
+
+@dataclass(frozen=True)
+class Request:
+    """A recording: of which folder, of what, and what becomes of it."""
+
+    folder: str
+    choice: Choice
+    output: str | None
+    """Where the footprints go; standard output without it."""
+
+    update: bool = False
+    replay: bool = True
+    in_place: bool = False
+    again: bool = False
+    make: bool = False
+    strict: bool = False
+
+    @property
+    def book(self) -> str | None:
+        """The footprint file, if other files may lie beside it."""
+        if self.output is None or (os.path.exists(self.output) and not os.path.isfile(self.output)):
+            return None
+        return os.path.realpath(self.output)
+
+    @property
+    def hidden(self) -> frozenset[str]:
+        """The names of files of the recorder in the project's folder, which aren't part of it."""
+        if self.book is None:
+            return frozenset()
+        store = path_of_store(self.book)
+        inside = os.listdir(store) if os.path.isdir(store) else []
+        paths = [path_of_state(self.book), path_of_notes(self.book), store]
+        paths += [os.path.join(store, name) for name in inside]
+        front = self.folder + "/"
+        return frozenset(path[len(front) :] for path in paths if path.startswith(front))

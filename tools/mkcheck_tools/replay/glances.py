@@ -1,0 +1,153 @@
+"""Runs beside other versions of the files at which a recipe only looks."""
+
+from __future__ import annotations
+
+import contextlib
+import os
+import time
+from collections.abc import Iterable, Mapping
+from dataclasses import dataclass, replace
+
+from mkcheck_tools.replay.differences import Difference, changed
+from mkcheck_tools.replay.layouts import lay_other
+from mkcheck_tools.replay.runs import LOOKED, Outcome, Runner
+from mkcheck_tools.replay.surroundings import NAMES, Surroundings, beside
+from mkcheck_tools.replay.versions import Version, lay
+from mkcheck_tools.replay.worlds import GIVEN, Trial, stamp_of, stamps_of
+from mkcheck_tools.run.folders import remove
+from mkcheck_tools.run.places import Place
+
+# Between the stamps of files that a recipe only looks at, in nanoseconds.
+APART = 1000
+
+
+# The sizes that such files get.
+LARGE, EMPTY, AS_IT_IS = 1 << 30, 0, -1
+
+
+@dataclass(frozen=True)
+class Look:
+    """What is laid for a run: `others` in other versions, of this size, and `same` as they were.
+    The files in `first` are older than all that the recipe reads, the rest are newer."""
+
+    others: Mapping[str, Version]
+    same: Mapping[str, Version]
+    first: frozenset[str]
+    size: int
+
+
+@dataclass
+class Glances:
+    """Tries whether a recipe depends on files at which it only looks."""
+
+    runner: Runner
+
+    def glancing(
+        self, trial: Trial, place: Place, folders: frozenset[str], outcome: Outcome
+    ) -> tuple[Outcome, Mapping[str, Version]]:
+        """The outcome of a recipe that passed, when it has run beside other versions of the files
+        at which it only looks; and those of them that recipes made, if it depends on these.
+
+        An edit makes a file the newest one, and edits of others leave it the oldest one. What is
+        always made before another file is never newer, so it isn't made the newest one, and what is
+        made from another file isn't made the oldest one. The files are very large, empty, and as
+        they are.
+        """
+        made, given = self.runner.layout.world.glanced(trial)
+        near = {*trial.before, *made}
+        oldest = frozenset(name for name in made if not self.needs_any(name, near - {name}))
+        newest: frozenset[str] = frozenset()
+        for first, size in ((newest, LARGE), (oldest.union(given), EMPTY), (newest, AS_IT_IS)):
+            look = Look({**made, **given}, {}, first, size)
+            found = self.looking(trial, place, folders, look)
+            if found.passed:
+                continue
+            if given and made:
+                apart = self.looking(trial, place, folders, Look(made, given, first, size))
+                made = {} if apart.passed else made
+            if made:
+                return outcome, made
+            return replace(found, glanced=tuple(sorted(given))), {}
+        return outcome, {}
+
+    def looking(
+        self,
+        trial: Trial,
+        place: Place,
+        folders: frozenset[str],
+        look: Look,
+    ) -> Outcome:
+        """A run beside other versions of some files, and beside others as they were."""
+        others, same, first = look.others, look.same, look.first
+        if not others:
+            return Outcome(trial)
+        self.runner.layout.furnish(trial, place.folder, folders)
+        found = [
+            (name, *self.runner.layout.world.material(name, version))
+            for name, version in others.items()
+        ]
+        # A source is never newer than what is made from it, so of the oldest ones it comes first.
+        later = {name for name in others if name not in first or others[name] != GIVEN}
+        found.sort(key=lambda one: (one[0] not in first, one[0] in later, -one[2].stamp))
+        bound = self.bound(others, trial.before) - first
+        paths = [os.path.join(place.folder, name) for name in trial.before]
+        stamps = [os.lstat(path).st_mtime_ns for path in paths]
+        stamps += [full.stamp for name, _, full in found if name in bound]
+        oldest = min(stamps, default=time.time_ns())
+        early, late = (stamp - APART * len(found) for stamp in (oldest, time.time_ns()))
+        with contextlib.suppress(OSError):
+            for name in [*others, *same]:
+                os.makedirs(os.path.dirname(os.path.join(place.folder, name)), exist_ok=True)
+            for name, version in same.items():
+                self.runner.layout.lay(name, version, place.folder, {})
+            for number, (name, source, full) in enumerate(found):
+                path = os.path.join(place.folder, name)
+                stamp = (early if name in first else late) + APART * number
+                stamp = full.stamp if name in bound else stamp
+                if look.size == AS_IT_IS:
+                    lay(source, path, replace(full, stamp=stamp))
+                else:
+                    lay_other(look.size, path, full.mode, stamp)
+            if place.is_bound:
+                Surroundings(frozenset({NAMES})).name_again(place.folder, list(others))
+        around = {name: stamp_of(os.path.join(place.folder, name)) for name in [*others, *same]}
+        outcome = self.runner.one(trial, place, LOOKED, stamps_of(trial, place.folder))
+        rest = [one for one in outcome.differences if one.name not in around]
+        for name, laid in around.items():
+            path = os.path.join(place.folder, name)
+            if laid != stamp_of(path):
+                what = f"{changed(path)} {name}, which it wasn't recorded to write"
+                rest.append(Difference(name, what))
+        remove(place.folder)
+        remove(beside(place.folder))
+        return replace(outcome, differences=tuple(rest))
+
+    def needs_any(self, name: str, others: Iterable[str]) -> bool:
+        """Whether one of some files is always made before a file that recipes make."""
+        makers = [maker for other in others for maker in self.as_targets(other)]
+        return any(
+            self.runner.layout.ancestors.any_before(makers, one)
+            for one in self.runner.layout.writers.get(name, ())
+        )
+
+    def bound(self, names: Iterable[str], others: Iterable[str]) -> frozenset[str]:
+        """Those of some files that are always made, or there, before another one of them or of the
+        others is made."""
+        names = list(names)
+        above = self.runner.layout.ancestors.union(
+            maker
+            for name in (*names, *others)
+            for maker in self.runner.layout.writers.get(name, ())
+        )
+        return frozenset(
+            name
+            for name in names
+            if any(
+                above & self.runner.layout.ancestors.bits.get(one, 0)
+                for one in self.as_targets(name)
+            )
+        )
+
+    def as_targets(self, name: str) -> tuple[str, ...]:
+        """A file's name, and the targets whose recipes write it."""
+        return (name, *self.runner.layout.writers.get(name, ()))

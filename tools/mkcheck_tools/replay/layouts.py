@@ -1,0 +1,208 @@
+"""Lays the folders in which recipes run again."""
+
+from __future__ import annotations
+
+import contextlib
+import functools
+import os
+import stat
+import time
+from collections.abc import Iterator, Mapping
+from dataclasses import dataclass, field
+
+from mkcheck_tools.answers.graphs import Ancestors
+from mkcheck_tools.replay import orders
+from mkcheck_tools.replay.listings import Listings, age_of, as_laid
+from mkcheck_tools.replay.stamps import made_since
+from mkcheck_tools.replay.versions import FILE, LINK, Version, lay
+from mkcheck_tools.replay.worlds import GIVEN, OTHER_BYTES, Trial, World, stamp_of, stamps_of
+from mkcheck_tools.run.folders import remove
+
+# How many blocks a file with holes has at most.
+MOST_BLOCKS = 1 << 12
+
+
+@dataclass
+class Layout:
+    """Lays what recipes of a world find when they run again. `writers` has the targets whose
+    recipes write a file."""
+
+    world: World
+    ancestors: Ancestors
+    writers: Mapping[str, list[str]] = field(default_factory=dict)
+
+    @functools.cached_property
+    def listings(self) -> Listings:
+        """The orders in which folders list their names."""
+        makers = {**self.world.makers, **self.writers}
+        return Listings(self.world.place, makers, self.ancestors)
+
+    def furnish(
+        self, trial: Trial, folder: str, folders: frozenset[str], back: bool = False
+    ) -> None:
+        """Makes the folder, with what a bare run needs.
+
+        Folders list what recipes made in another order than in the recording, where the file system
+        lists them by age; if `back`, they list all the other way round.
+        """
+        os.mkdir(folder)
+        inner = {*self.folders_of(trial), *folders}
+        for name in list(inner):
+            while name := os.path.dirname(name):
+                inner.add(name)
+        links = {name: goal for name, goal in trial.links.items() if name not in trial.after}
+        made = {name for name, version in trial.before.items() if version != GIVEN}
+        made.update(name for name in inner if name in self.world.makers)
+        names = self.listings.arranged({*inner, *links, *trial.before}, frozenset(made), back)
+        twins: dict[tuple[int, int], str] = {}
+        for name in as_laid(names, age_of(os.path.dirname(folder))):
+            path = os.path.join(folder, name)
+            if name in trial.before:
+                self.lay(name, trial.before[name], folder, twins)
+            elif name in links:
+                os.symlink(links[name], path)
+            else:
+                os.makedirs(path, exist_ok=True)
+        self.liken(trial, folder)
+
+    def liken(self, trial: Trial, folder: str) -> None:
+        """Gives folders the modes that they had when the recipe began, and folders of the project
+        also their stamps, since `tar` stores these.
+
+        A folder in which a recipe wrote has another stamp in each build, so it gets none.
+        """
+        for name, mode in trial.modes.items():
+            path = os.path.join(folder, name)
+            with contextlib.suppress(OSError):
+                if mode & 0o700 == 0o700 or name in trial.given:
+                    os.chmod(path, mode)
+                status = os.stat(os.path.join(self.world.place, name))
+                if name in self.world.given_folders and status.st_mtime < self.world.begun:
+                    os.utime(path, ns=(status.st_mtime_ns, status.st_mtime_ns))
+
+    def folders_of(self, trial: Trial) -> Iterator[str]:
+        """The folders that are always there when a recipe begins.
+
+        Where another recipe takes one away, those that make it may not run in the next make.
+        """
+        gone = self.taken_away(trial)
+        yield from (self.world.given_folders & trial.known) - gone
+        for name in trial.before:
+            if os.path.dirname(name):
+                yield os.path.dirname(name)
+        for name, makers in self.world.makers.items():
+            there = name in trial.known and name not in gone
+            if there and self.ancestors.any_before(makers, trial.recipe.target):
+                yield name
+
+    def taken_away(self, trial: Trial) -> frozenset[str]:
+        """The folders that other recipes take away and hadn't made."""
+        own = {trial.recipe.target}
+        return frozenset(name for name, others in self.world.droppers.items() if others - own)
+
+    def lay(
+        self, name: str, version: Version, folder: str, twins: dict[tuple[int, int], str]
+    ) -> None:
+        """Lays a file that the recipe reads. Hard links of the project are hard links here too."""
+        source, full = self.world.material(name, version)
+        goal = os.path.join(folder, name)
+        status = os.lstat(source) if version == GIVEN else None
+        if status is not None and status.st_nlink > 1:
+            first = twins.setdefault((status.st_dev, status.st_ino), goal)
+            if first != goal:
+                os.link(first, goal, follow_symlinks=False)
+                return
+        lay(source, goal, full)
+
+    def restore(self, trial: Trial, folder: str) -> dict[str, tuple[int, ...]]:
+        """Lays those reads anew that the recipe wrote or took away itself.
+
+        Folders to which it gave a mode are open until `close` gives them their modes back.
+        """
+        for name in sorted(trial.given):
+            with contextlib.suppress(OSError):
+                os.chmod(os.path.join(folder, name), 0o700)
+        for name, version in trial.before.items():
+            if trial.after.get(name) is not version:
+                path = os.path.join(folder, name)
+                if os.path.isdir(path) and not os.path.islink(path):
+                    remove(path)
+                elif os.path.lexists(path):
+                    os.unlink(path)
+                os.makedirs(os.path.dirname(path), exist_ok=True)
+                self.lay(name, version, folder, {})
+        return stamps_of(trial, folder)
+
+    def reorder(self, trial: Trial, folder: str, order: str) -> bool:
+        """Gives the files that a recipe reads other stamps; tells whether it gave some."""
+        stamps: dict[str, int] = {}
+        for name in trial.before:
+            with contextlib.suppress(OSError):
+                status = os.lstat(os.path.join(folder, name))
+                if stat.S_ISREG(status.st_mode) and status.st_nlink == 1:
+                    stamps[name] = status.st_mtime_ns
+        new = made_since(self.world, trial, time.time_ns())
+        made = {name: self.writers.get(name, ()) for name in new if name in stamps}
+        sources = [name for name in stamps if trial.before[name] == GIVEN]
+        others = orders.with_order(order, stamps, made, sources, self.ancestors)
+        for name, stamp in others.items():
+            os.utime(os.path.join(folder, name), ns=(stamp, stamp))
+        return bool(others)
+
+    def close(self, trial: Trial, folder: str) -> None:
+        """Gives folders the modes that they had before the recipe gave them others."""
+        for name in sorted(trial.given, reverse=True):
+            with contextlib.suppress(OSError):
+                os.chmod(os.path.join(folder, name), trial.modes[name])
+
+    def stand_in(self, name: str, path: str) -> None:
+        """Puts something at the path of a late file: of its kind, mode and size.
+
+        What was there for a moment is taken for a short file.
+        """
+        version = self.world.first_made(name)
+        if version is None and name in self.world.makers:
+            os.makedirs(path, exist_ok=True)
+            return
+        os.makedirs(os.path.dirname(path), exist_ok=True)
+        if os.path.lexists(path):
+            return
+        if version is not None and version.kind == LINK:
+            os.symlink(version.content, path)
+            return
+        size = len(OTHER_BYTES)
+        if version is not None and version.kind == FILE:
+            size = os.path.getsize(self.world.store.path(version))
+        with open(path, "xb") as file:
+            file.write(OTHER_BYTES)
+            file.truncate(size)
+        if version is not None:
+            os.chmod(path, version.mode)
+
+
+def aged(path: str) -> tuple[int, ...]:
+    """Makes a file a millisecond older, so that a new stamp differs even on a coarse clock."""
+    stamp = os.lstat(path).st_mtime_ns - 1_000_000
+    os.utime(path, ns=(stamp, stamp), follow_symlinks=False)
+    return stamp_of(path)
+
+
+def damage(path: str) -> None:
+    """Gives an output other bytes and the newest stamp; its mode stays."""
+    mode = stat.S_IMODE(os.lstat(path).st_mode)
+    os.unlink(path)
+    with open(path, "xb") as file:
+        file.write(OTHER_BYTES)
+    os.chmod(path, mode)
+
+
+def lay_other(size: int, path: str, mode: int, stamp: int) -> None:
+    """Lays a file of this size with other bytes, and with holes where it is large. Where the disk
+    has none, it is shorter."""
+    with open(path, "xb") as file:
+        file.write(OTHER_BYTES)
+        file.truncate(size)
+        if os.fstat(file.fileno()).st_blocks > MOST_BLOCKS:
+            file.truncate(MOST_BLOCKS)
+    os.chmod(path, mode)
+    os.utime(path, ns=(stamp, stamp))

@@ -1,0 +1,101 @@
+"""Other orders of the stamps that files have which a recipe reads.
+
+A file that a recipe makes is newer than what its target needs. All else may be older or newer than
+it: another recipe made it sooner or later, or an edit came behind. Sources keep the order that they
+have among themselves, since a clean build finds the same one. Files to which recipes gave stamps
+keep these, and then sources do, too.
+"""
+
+from __future__ import annotations
+
+import heapq
+from collections.abc import Mapping, Sequence
+
+from mkcheck_tools.answers.graphs import Ancestors
+
+# Which stamps a recipe finds: those of the recording; the same ones in another order, of all files
+# or of made ones alone; or of sources earlier ones, in the same order.
+OLD, OTHER, OTHER_OF_MADE, EARLIER = "old", "other", "other of made", "earlier"
+DAY = 86_400_000_000_000
+
+
+def with_order(
+    order: str,
+    stamps: Mapping[str, int],
+    made: Mapping[str, Sequence[str]],
+    sources: Sequence[str],
+    ancestors: Ancestors,
+) -> dict[str, int]:
+    """The new stamps of those files that get some. `made` has for each file that recipes made, and
+    whose stamp they didn't choose, their targets."""
+    moved = sources if len(sources) + len(made) == len(stamps) else ()
+    if order == OLD or not made:
+        return {}
+    if order == EARLIER:
+        return {name: stamps[name] - DAY for name in moved}
+    names = [*made, *(moved if order == OTHER else ())]
+    found = in_other_order({name: stamps[name] for name in names}, made, ancestors)
+    return {name: stamp for name, stamp in found.items() if stamp != stamps[name]}
+
+
+def in_other_order(
+    stamps: Mapping[str, int], makers: Mapping[str, Sequence[str]], ancestors: Ancestors
+) -> dict[str, int]:
+    """The same stamps, in an order that is as far from theirs as one may be. `makers` has for each
+    file that is no source the targets whose recipes made it."""
+    before = bounds(stamps, makers, ancestors)
+    after: dict[str, list[str]] = {}
+    for name, others in before.items():
+        for other in others:
+            after.setdefault(other, []).append(name)
+    counts = {name: len(others) for name, others in before.items()}
+    ready = [rank(name, stamps, makers) for name, count in counts.items() if not count]
+    heapq.heapify(ready)
+    order: list[str] = []
+    while ready:
+        name = heapq.heappop(ready)[-1]
+        order.append(name)
+        for other in after.get(name, ()):
+            counts[other] -= 1
+            if not counts[other]:
+                heapq.heappush(ready, rank(other, stamps, makers))
+    return dict(zip(order, sorted(stamps[name] for name in order)))
+
+
+def rank(
+    name: str, stamps: Mapping[str, int], makers: Mapping[str, Sequence[str]]
+) -> tuple[bool, int, str]:
+    """Where a file comes if nothing binds it: first those that recipes made, the newest first."""
+    source = name not in makers
+    return (source, stamps[name] if source else -stamps[name], name)
+
+
+def bounds(
+    stamps: Mapping[str, int], makers: Mapping[str, Sequence[str]], ancestors: Ancestors
+) -> dict[str, set[str]]:
+    """For each file those that are always older: all of their makers come before one of its own.
+
+    So no two files are ever older than each other, also where a recipe writes what others made.
+    """
+    masks: dict[str, int] = {}
+    names: dict[int, list[str]] = {}
+    for name in stamps:
+        bits = {ancestors.bits.get(target, 0) for target in makers.get(name, (name,))}
+        masks[name] = sum(bits)
+        for bit in filter(None, bits):
+            names.setdefault(bit, []).append(name)
+    known = sum(names)
+    found: dict[str, set[str]] = {}
+    for name in stamps:
+        over = ancestors.union(makers.get(name, ()))
+        above = over & known
+        found[name] = set()
+        while above:
+            lowest = above & -above
+            found[name].update(other for other in names[lowest] if not masks[other] & ~over)
+            above ^= lowest
+        found[name].discard(name)
+    sources = sorted((name for name in stamps if name not in makers), key=lambda one: stamps[one])
+    for older, newer in zip(sources, sources[1:]):
+        found[newer].add(older)
+    return found

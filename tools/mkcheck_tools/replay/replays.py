@@ -1,0 +1,531 @@
+"""Runs each recipe again in a folder that holds only what its record names, and compares.
+Three runs, and for some recipes more, each in a folder that appears at the project's own path:
+
+- *bare*: the folder holds the recorded reads, as they were when the recipe ran. Those that recipes
+  make have later stamps, as in another build.
+- *again*: the same, and the recipe's own outputs. Stamps of reads are in another order.
+- *damaged*: the same, but its outputs hold other bytes and have the newest stamps.
+- *looked*: where the recipe looked at files that it didn't read. The folder of the bare run, with
+  these files in other sizes, and with newer stamps in another order.
+- *late*: where there are late files. The folder of the bare run, with a short file for each late
+  one. Traced, since it tells which of them the recipe uses.
+
+Folders that no recipe made are there too, folders that recipes make which always run before, and
+the links over which the recipe went when it was recorded.
+"""
+
+from __future__ import annotations
+
+import contextlib
+import functools
+import os
+import threading
+from collections.abc import Iterator, Mapping
+from concurrent import futures
+from concurrent.futures import Future, ThreadPoolExecutor
+from dataclasses import dataclass, field, replace
+
+from mkcheck_tools.answers.graphs import Ancestors
+from mkcheck_tools.faults import FULL, Fault, mistake_of
+from mkcheck_tools.judge.late import Late, Met, folders_of
+from mkcheck_tools.replay import orders
+from mkcheck_tools.replay.differences import is_file
+from mkcheck_tools.replay.glances import Glances
+from mkcheck_tools.replay.layouts import Layout
+from mkcheck_tools.replay.listings import Age, age_of, is_listed
+from mkcheck_tools.replay.runs import BARE, HANDED, ORDERED, VARIED, Outcome, Runner
+from mkcheck_tools.replay.stamps import with_later_stamps
+from mkcheck_tools.replay.surroundings import (
+    AS_RECORDED,
+    CLOCK,
+    FLAGS,
+    FOLDERS,
+    JOBS,
+    LISTING,
+    Surroundings,
+    all_others,
+)
+from mkcheck_tools.replay.versions import Version
+from mkcheck_tools.replay.worlds import GIVEN, Trial, World, stamps_of
+from mkcheck_tools.run import places
+from mkcheck_tools.run.folders import remove
+from mkcheck_tools.run.memory import LACKS, Memory, is_full, memory
+from mkcheck_tools.run.places import Place
+from mkcheck_tools.run.progress import Progress
+from mkcheck_tools.trace.accesses import Accesses, Follower
+from mkcheck_tools.trace.trees import Tree
+
+# What most recipes go by that do something else amid other surroundings.
+LIKELY = (FLAGS, CLOCK, FOLDERS)
+# How long a replay goes on before that is told.
+SECONDS_SHOWN = 1.0
+
+
+@dataclass(frozen=True)
+class Replayed:
+    """The outcomes of replays, and what ended them early."""
+
+    outcomes: list[Outcome]
+    stopped: BaseException | None = None
+
+
+@dataclass
+class Replay:
+    """Replays the recipes of a world.
+
+    `environment` is that of the recipes, and `late` are their late files. `writers` has the targets
+    whose recipes write a file, and `once` those that no make makes again. Where the system allows
+    no mount namespace, the recipes ran at `seen` itself, and are replayed there one at a time.
+    """
+
+    world: World
+    seen: str
+    scratch: str
+    environment: Mapping[str, str]
+    ancestors: Ancestors
+    late: Late = field(default_factory=dict)
+    writers: Mapping[str, list[str]] = field(default_factory=dict)
+    once: frozenset[str] = frozenset()
+    failing: bool = True
+    """Whether each recipe is run once more where writes to its target fail."""
+    memory: Memory | None = None
+    _stopped: threading.Event = field(default_factory=threading.Event)
+
+    @functools.cached_property
+    def layout(self) -> Layout:
+        """What lays the folders."""
+        return Layout(self.world, self.ancestors, self.writers)
+
+    @functools.cached_property
+    def runner(self) -> Runner:
+        """What runs the recipes in them."""
+        return Runner(self.layout, self.scratch, self.environment, self._stopped)
+
+    def run(self, trials: list[Trial]) -> Replayed:
+        """Replays these recipes, several at a time where that can be. Returns outcomes in order, or
+        those that are there when a signal or a full disk ends it."""
+        os.makedirs(self.scratch, exist_ok=True)
+        jobs = processors()
+        if places.namespace() is None:
+            jobs = 1
+            aside = os.path.join(self.scratch, "built")
+            os.rename(self.world.place, aside)
+            self.world.place = aside
+        progress = Progress(len(trials), title="replay")
+        waiting: list[Future[Outcome]] = []
+        with memory(self.scratch) as self.memory, ThreadPoolExecutor(jobs) as pool:
+            try:
+                for number, trial in enumerate(trials):
+                    waiting.append(pool.submit(self.replay_safely, trial, number, frozenset()))
+                self.watch(waiting, trials, progress)
+                outcomes = [future.result() for future in waiting]
+                outcomes = self.with_folders(pool, outcomes)
+                outcomes = self.alone(outcomes) if jobs > 1 and len(trials) > 1 else outcomes
+            except BaseException as end:
+                ended = [one for one in waiting if one.done() and one.exception() is None]
+                self._stopped.set()
+                places.end_all()
+                pool.shutdown(wait=True, cancel_futures=True)
+                passed = [one.result() for one in ended if one.result().passed]
+                return Replayed(passed, end)
+            finally:
+                progress.clear()
+        return Replayed(outcomes)
+
+    def watch(
+        self, waiting: list[Future[Outcome]], trials: list[Trial], progress: Progress
+    ) -> None:
+        """Waits for replays, and tells those that have ended, or after a while which go on. One
+        that raises an error ends this."""
+        left = dict(zip(waiting, (trial.recipe.target for trial in trials)))
+        while left:
+            done, _ = futures.wait(left, SECONDS_SHOWN, futures.FIRST_COMPLETED)
+            for future in done:
+                progress.ended(left.pop(future))
+                future.result()
+            if not done:
+                progress.goes_on(next(iter(left.values())))
+
+    def replay_safely(self, trial: Trial, number: int, folders: frozenset[str]) -> Outcome:
+        """The same, where an error that nobody thought of costs this recipe alone."""
+        try:
+            return self.replay(trial, number, folders)
+        except Exception as error:
+            if isinstance(error, OSError) and error.errno in FULL:
+                raise
+            return Outcome(trial, BARE, broken=mistake_of(error, "recorder"))
+
+    def alone(self, outcomes: list[Outcome]) -> list[Outcome]:
+        """The outcomes, where each that shows something is of a replay with no other beside it:
+        two may meet at a port, or at a name elsewhere.
+
+        One that differs without its outputs is first run as it differed at last.
+        """
+        found: list[Outcome] = []
+        for number, outcome in enumerate(outcomes):
+            if not outcome.passed and not self.differs_alone(outcome, number):
+                outcome = self.replay_safely(outcome.trial, number, outcome.given)
+            found.append(outcome)
+        return found
+
+    def differs_alone(self, outcome: Outcome, number: int) -> bool:
+        """Whether a recipe that differed in a bare run does so too when it runs alone."""
+        if outcome.run != BARE:
+            return False
+        trial, place = outcome.trial, self.place_of(number)
+        *_, seen = self.seen_by(trial)
+        try:
+            tried = with_later_stamps(self.world, trial.with_reads(seen))
+            return self.tried(tried, place, outcome.given).run == BARE
+        finally:
+            remove(place.folder)
+
+    def place_of(self, number: int) -> Place:
+        """The folder for a replay, and where the recipe sees it."""
+        bound = places.namespace() is not None
+        folder = os.path.join(self.scratch, str(number)) if bound else self.seen
+        return Place(folder, self.seen, shut=True)
+
+    def with_folders(self, pool: ThreadPoolExecutor, outcomes: list[Outcome]) -> list[Outcome]:
+        """Replays the recipes that failed once more, with the folders that recipes before them made
+        in their own replays.
+
+        Where such a folder was there already in the recording, its trace doesn't show who makes it.
+        """
+        left = {outcome.trial.recipe.target: outcome.folders for outcome in outcomes}
+        tried: list[Future[Outcome] | Outcome] = []
+        for number, outcome in enumerate(outcomes):
+            others: frozenset[str] = frozenset()
+            if outcome.run == BARE and not outcome.passed:
+                own = outcome.trial.recipe.target
+                above = (target for target in left if self.ancestors.any_before((target,), own))
+                others = (
+                    frozenset(name for target in above for name in left[target])
+                    & outcome.trial.known
+                )
+                others -= {
+                    *self.layout.folders_of(outcome.trial),
+                    *self.layout.taken_away(outcome.trial),
+                }
+            tried.append(
+                pool.submit(self.replay_safely, outcome.trial, number, others)
+                if others
+                else outcome
+            )
+        return [one.result() if isinstance(one, Future) else one for one in tried]
+
+    def replay(self, trial: Trial, number: int, folders: frozenset[str]) -> Outcome:
+        """Replays one recipe, with these further folders: in memory, where there is room, and
+        elsewhere if it needs what memory doesn't have."""
+        outcome = None
+        if self.memory is not None:
+            with self.memory.room(self.size_of(trial)) as there:
+                if there:
+                    place = self.memory.place(str(number), self.seen)
+                    outcome = self.replay_in_memory(trial, place, folders)
+        if outcome is None:
+            outcome = self.replay_at(trial, self.place_of(number), folders)
+        return replace(outcome, given=folders)
+
+    def leaves_half(self, trial: Trial, place: Place, folders: frozenset[str]) -> bool:
+        """Whether a recipe that makes its target anew leaves it half-written if a write fails."""
+        target = trial.recipe.target
+        if not self.failing or target in trial.before or not is_file(trial.after.get(target)):
+            return False
+        try:
+            self.layout.furnish(trial, place.folder, folders)
+            return self.runner.leaves_half(trial, place)
+        finally:
+            remove(place.folder)
+
+    def size_of(self, trial: Trial) -> int:
+        """How many bytes a recipe reads and writes in files of the project."""
+        versions: dict[str, Version | None] = {**trial.before, **trial.after}
+        sizes = (self.world.size(name, one) for name, one in versions.items() if one is not None)
+        return sum(sizes)
+
+    def replay_in_memory(
+        self, trial: Trial, place: Place, folders: frozenset[str]
+    ) -> Outcome | None:
+        """Replays one recipe in memory; None where that has no room, or not all that it needs."""
+        try:
+            outcome = self.replay_at(trial, place, folders)
+        except OSError as error:
+            if not is_full(error):
+                raise
+            return None
+        lacks = any(text in outcome.failed for text in LACKS)
+        return None if lacks else outcome
+
+    def replay_at(self, trial: Trial, place: Place, folders: frozenset[str]) -> Outcome:
+        """Replays one recipe in a place."""
+        folder = place.folder
+        try:
+            late = self.late.get(trial.recipe.target, ())
+            failed: list[Outcome] = []
+            sets = list(self.seen_by(trial))
+            for seen in sets:
+                tried = with_later_stamps(self.world, trial.with_reads(seen))
+                outcome = self.tried(tried, place, folders)
+                if outcome.run != BARE:
+                    seen = self.needed(trial, seen, place, folders)
+                    tried = with_later_stamps(self.world, trial.with_reads(seen))
+                    met = Met(seen=frozenset(seen))
+                    if outcome.passed:
+                        outcome, more = Glances(self.runner).glancing(
+                            tried, place, folders, outcome
+                        )
+                        met = Met(seen=met.seen | more.keys())
+                        if more:
+                            outcome = self.ordered(trial, {**seen, **more}, place, folders, outcome)
+                    if outcome.passed and self.is_by_age(tried, place):
+                        outcome = self.listed(tried, place, folders, outcome)
+                    if late:
+                        self.layout.furnish(tried, folder, folders)
+                        met = replace(self.beside(tried, place, late), seen=met.seen)
+                        remove(folder)
+                    half = outcome.passed and self.leaves_half(tried, place, folders)
+                    return replace(outcome, met=met, half=half)
+                failed.append(outcome)
+            absent = trial.known - {*self.layout.folders_of(trial), *folders}
+            for outcome, seen in zip(failed, sets):
+                if self.needs_stamps(trial.with_reads(seen), place, folders):
+                    return replace(outcome, absent=absent, stamps=True)
+            missing = self.missing(trial.with_reads(sets[-1]), place, folders)
+            return replace(
+                failed[-1], trial=trial, absent=absent, missing=missing, laid=len(sets[-1])
+            )
+        finally:
+            remove(folder)
+
+    def tried(self, trial: Trial, place: Place, folders: frozenset[str]) -> Outcome:
+        """The runs of a recipe in a folder that is made for them.
+
+        Where one fails or differs over outputs, they are repeated with the stamps in the old order
+        and all else as it was recorded, and then with each of that alone.
+        """
+        others = all_others(trial.recipe.strict, place.is_bound)
+        bench = Bench(self.runner, trial, place, folders)
+        outcome = bench.tried(orders.OTHER, others)
+        if outcome.passed or outcome.run == BARE:
+            return outcome
+        found = bench.tried(orders.OLD)
+        if not found.passed:
+            return found
+        kind = next((one for one in LIKELY if bench.without(one, others).passed), None)
+        if kind is not None:
+            return found_amid(found, {kind: outcome})
+        stamped = bench.tried(orders.OTHER)
+        if not stamped.passed:
+            ordered = stamped if bench.tried(orders.EARLIER).passed else bench.ordered()
+            if not ordered.passed:
+                return replace(ordered, run=ORDERED)
+        alone = {one: bench.tried(orders.OLD, Surroundings(frozenset({one}))) for one in others}
+        shown = {kind: outcome for kind, outcome in alone.items() if not outcome.passed}
+        if shown or not stamped.passed:
+            return found_amid(found, shown)
+        return replace(outcome, run=VARIED)
+
+    def needs_stamps(self, trial: Trial, place: Place, folders: frozenset[str]) -> bool:
+        """Whether a recipe that fails or differs passes the bare run where the files that recipes
+        make have the stamps of the recording.
+        """
+        if with_later_stamps(self.world, trial) is trial:
+            return False
+        return self.tried(trial, place, folders).run != BARE
+
+    def seen_by(self, trial: Trial) -> Iterator[Mapping[str, Version]]:
+        """The files that are laid beside the reads, one set after another: none, then those at
+        which the recipe looked, then also those in folders that it listed.
+
+        Of each the sources come first that its target needs, then what earlier recipes made, then
+        other sources.
+        """
+        looked, listed = (self.world.noticed(trial, also) for also in (False, True))
+        _, given = self.world.glanced(trial)
+        around = {**given, **self.world.given_in_listed(trial)}
+        target = trial.recipe.target
+        needed = {
+            name: version
+            for name, version in around.items()
+            if self.ancestors.any_before((name,), target)
+        }
+        nothing: Mapping[str, Version] = {}
+        ways: tuple[tuple[Mapping[str, Version], Mapping[str, Version]], ...] = (
+            (nothing, nothing),
+            (nothing, needed),
+            (looked, nothing),
+            (looked, needed),
+            (listed, nothing),
+            (nothing, given),
+            (looked, {**needed, **given}),
+            (listed, around),
+        )
+        tried: list[dict[str, Version]] = []
+        for made, sources in ways:
+            found = {**made, **sources}
+            if found not in tried:
+                tried.append(found)
+                yield found
+
+    def needed(
+        self,
+        trial: Trial,
+        seen: Mapping[str, Version],
+        place: Place,
+        folders: frozenset[str],
+    ) -> Mapping[str, Version]:
+        """Those of some files without which a recipe fails or differs: of sources that its target
+        doesn't need and at which it didn't look, those in the same folder with the same end are
+        left out together, where that changes nothing.
+        """
+        target = trial.recipe.target
+        groups: dict[tuple[str, str], set[str]] = {}
+        for name, version in seen.items():
+            if version == GIVEN and name not in trial.looked:
+                if not self.ancestors.any_before((name,), target):
+                    key = (os.path.dirname(name), os.path.splitext(name)[1])
+                    groups.setdefault(key, set()).add(name)
+        for group in groups.values():
+            less = {name: version for name, version in seen.items() if name not in group}
+            tried = with_later_stamps(self.world, trial.with_reads(less))
+            if self.tried(tried, place, folders).run != BARE:
+                seen = less
+        return seen
+
+    def missing(self, trial: Trial, place: Place, folders: frozenset[str]) -> tuple[str, ...]:
+        """What a recipe that fails or differs looks for in vain, and what was there when it was
+        recorded."""
+        self.layout.furnish(with_later_stamps(self.world, trial), place.folder, folders)
+        accesses = Accesses(Tree.of(place))
+        try:
+            self.runner.run_commands(trial, place, Follower(accesses, place.seen), True)
+        except Fault:
+            return ()
+        front = place.seen + "/"
+        names = [path[len(front) :] for path in accesses.sought if path.startswith(front)]
+        return tuple(name for name in names if self.world.was_there(name, trial))
+
+    def is_by_age(self, trial: Trial, place: Place) -> bool:
+        """Whether a recipe lists a folder with several files, in a place where the order of these
+        can be chosen."""
+        listed = is_listed({*trial.before, *trial.links}, trial.listed)
+        return listed and age_of(os.path.dirname(place.folder)) != Age.NEITHER
+
+    def listed(
+        self, trial: Trial, place: Place, folders: frozenset[str], outcome: Outcome
+    ) -> Outcome:
+        """The outcome of a recipe that passed, when it has run where folders list their names the
+        other way round."""
+        self.layout.furnish(trial, place.folder, folders, back=True)
+        found = self.runner.one(trial, place, BARE, stamps_of(trial, place.folder))
+        remove(place.folder)
+        if found.passed:
+            return outcome
+        return replace(outcome, amid={**outcome.amid, LISTING: found})
+
+    def ordered(
+        self,
+        trial: Trial,
+        seen: Mapping[str, Version],
+        place: Place,
+        folders: frozenset[str],
+        outcome: Outcome,
+    ) -> Outcome:
+        """The outcome of a recipe that passed, when files at which it only looks count as read: it
+        may go by their stamps, and these come in another order too.
+        """
+        tried = with_later_stamps(self.world, trial.with_reads(seen))
+        found = self.tried(tried, place, folders)
+        return found if found.run == ORDERED else outcome
+
+    def beside(self, trial: Trial, place: Place, late: tuple[str, ...]) -> Met:
+        """Runs a recipe beside its late files, and tells which it uses.
+
+        Where it does something else and opens none of them, it may use any.
+        """
+        folders = {folder for name in late for folder in folders_of(name)}
+        for name in late:
+            with contextlib.suppress(OSError):
+                self.layout.stand_in(name, os.path.join(place.folder, name))
+        laid = stamps_of(trial, place.folder)
+        accesses = Accesses(Tree.of(place))
+        try:
+            failed = self.runner.run_commands(trial, place, Follower(accesses, place.seen))
+        except Fault:
+            failed = "its trace ends before it does"
+        paths = {name: os.path.join(place.seen, name) for name in late}
+        taken = frozenset(name for name, path in paths.items() if path in accesses.touched)
+        opened = {*accesses.reads, *accesses.over}
+        read = frozenset(name for name, path in paths.items() if path in opened)
+        if taken or read:
+            return Met(read - taken, taken)
+        if failed:
+            return Met(self.met_by(trial.recipe.target, late))
+        changed = (
+            one.name for one in self.runner.comparison.differences(trial, place.folder, laid)
+        )
+        other = any(name not in paths and name not in folders for name in changed)
+        return Met(frozenset(late) if other else frozenset())
+
+    def met_by(self, target: str, late: tuple[str, ...]) -> frozenset[str]:
+        """The late files that may be there when a recipe runs: not those that are always made after
+        it, where no make makes it again.
+        """
+        if target not in self.once:
+            return frozenset(late)
+        return frozenset(
+            name
+            for name in late
+            if not (makers := self.makers_of(name))
+            or not all(self.ancestors.any_before((target,), maker) for maker in makers)
+        )
+
+    def makers_of(self, name: str) -> list[str]:
+        """The targets whose recipes write a late file or make a late folder; none for one that is
+        there for a moment."""
+        return [*self.writers.get(name, ()), *self.world.makers.get(name, ())]
+
+
+@dataclass(frozen=True)
+class Bench:
+    """Where the runs of a recipe are repeated, with other orders of stamps and amid others."""
+
+    runner: Runner
+    trial: Trial
+    place: Place
+    folders: frozenset[str]
+
+    def tried(self, order: str, amid: Surroundings = AS_RECORDED) -> Outcome:
+        """The runs of the recipe in a folder that is made for them, with this order of stamps."""
+        self.runner.layout.furnish(self.trial, self.place.folder, self.folders)
+        outcome = self.runner.runs(self.trial, self.place, order, amid)
+        remove(self.place.folder)
+        return outcome
+
+    def without(self, kind: str, others: Surroundings) -> Outcome:
+        """Its runs amid all other surroundings but one kind."""
+        if kind not in others:
+            return Outcome(self.trial, VARIED, "it isn't amid these")
+        return self.tried(orders.OTHER, Surroundings(others.others - {kind}))
+
+    def ordered(self) -> Outcome:
+        """Its runs with the stamps of made files alone in another order, since a recipe may store
+        those of sources."""
+        return self.tried(orders.OTHER_OF_MADE)
+
+
+def found_amid(outcome: Outcome, shown: Mapping[str, Outcome]) -> Outcome:
+    """The outcome of a recipe that passed, with what it does amid other surroundings. What make
+    hands down is no matter of the machine, so to go by that is a fault."""
+    if JOBS in shown:
+        return replace(shown[JOBS], run=HANDED)
+    return replace(outcome, amid=shown)
+
+
+def processors() -> int:
+    """How many processors this program may use."""
+    try:
+        return len(os.sched_getaffinity(0))
+    except AttributeError:
+        return os.cpu_count() or 1

@@ -1,0 +1,239 @@
+"""Single runs of a recipe in a folder that is laid for it."""
+
+from __future__ import annotations
+
+import os
+import threading
+import time
+from collections.abc import Mapping
+from dataclasses import dataclass, field, replace
+from pathlib import Path
+
+from mkcheck_tools.judge.late import Met
+from mkcheck_tools.replay.differences import Comparison, Difference, is_file, only_touched
+from mkcheck_tools.replay.layouts import Layout, aged, damage
+from mkcheck_tools.replay.surroundings import AS_RECORDED, CLOCK, Surroundings, beside, clear
+from mkcheck_tools.replay.versions import version_of
+from mkcheck_tools.replay.worlds import Trial, entries, stamp_of, stamps_of
+from mkcheck_tools.run import places
+from mkcheck_tools.run.folders import remove
+from mkcheck_tools.run.places import Place
+from mkcheck_tools.run.progress import first_line
+from mkcheck_tools.trace.accesses import Follower
+from mkcheck_tools.trace.tracing import failing, read_trace, strace
+
+BARE, AGAIN, DAMAGED, LOOKED, ORDERED = "bare", "again", "damaged", "looked", "ordered"
+# A run amid other surroundings, of which no kind alone shows anything; those of make -j2.
+VARIED, HANDED = "varied", "handed"
+# A replay is stopped after LEAST_SECONDS and TIMES_AS_LONG times the seconds of the recording.
+LEAST_SECONDS = 60.0
+TIMES_AS_LONG = 20.0
+LINES_SHOWN = 20
+
+
+@dataclass(frozen=True)
+class Outcome:
+    """What the replay of a recipe showed."""
+
+    trial: Trial
+    run: str = ""
+    """The run that failed or differed; empty where none did."""
+
+    failed: str = ""
+    """How the recipe failed in that run."""
+
+    differences: tuple[Difference, ...] = ()
+    """How that run differed from the recording."""
+
+    warning: str = ""
+    """How the recipe failed over its own damaged outputs, which isn't always an error."""
+
+    folders: frozenset[str] = frozenset()
+    """The folders that the bare run left."""
+
+    absent: frozenset[str] = frozenset()
+    """The folders that were there in the recording, and not in the bare run that failed."""
+
+    missing: tuple[str, ...] = ()
+    """Where the bare run failed or differed: what it looked for in vain, and what was there in the
+    recording."""
+
+    laid: int = 0
+    """How many files at which it only looked, or in folders that it listed, were there in it."""
+
+    given: frozenset[str] = frozenset()
+    """The further folders that were laid for its runs."""
+
+    stamps: bool = False
+    """Whether the bare run fails for the stamps alone of files that recipes make."""
+
+    met: Met | None = None
+    """What it needed besides its reads."""
+
+    half: bool = False
+    """Whether it leaves its target half-written where a write to that fails."""
+
+    glanced: tuple[str, ...] = ()
+    """The files at which it only looked, where a run shows that it depends on one."""
+
+    amid: Mapping[str, Outcome] = field(default_factory=dict)
+    """By the kind of other surroundings what it did amid these, where that is something else."""
+
+    broken: str = ""
+    """Why it couldn't be replayed."""
+
+    @property
+    def passed(self) -> bool:
+        """Whether all runs gave what the recording gave."""
+        return not self.failed and not self.differences and not self.broken
+
+
+@dataclass
+class Runner:
+    """Runs recipes in folders that are laid for them, with the environment of the recording."""
+
+    layout: Layout
+    scratch: str
+    environment: Mapping[str, str]
+    stopped: threading.Event = field(default_factory=threading.Event)
+
+    @property
+    def comparison(self) -> Comparison:
+        """What compares the folders."""
+        return Comparison(self.layout)
+
+    def runs(self, trial: Trial, place: Place, order: str, amid: Surroundings) -> Outcome:
+        """The runs of a recipe in a folder, up to the first that shows something. `order` tells
+        which stamps its reads get when its outputs are there, and `amid` what else it finds."""
+        while int(time.time()) <= int(trial.ended):
+            time.sleep(0.05)
+        laid = stamps_of(trial, place.folder)
+        outcome = self.one(trial, place, BARE, laid)
+        if not outcome.passed:
+            return outcome
+        left = frozenset(
+            name for name, entry in entries(place.folder) if entry.is_dir(follow_symlinks=False)
+        )
+        outcome = Outcome(trial, folders=left)
+        outputs = [
+            name
+            for name in trial.writes
+            if name not in trial.before and trial.after.get(name) is not None
+        ]
+        if not outputs:
+            return outcome
+        laid = self.layout.restore(trial, place.folder)
+        if self.layout.reorder(trial, place.folder, order):
+            laid = stamps_of(trial, place.folder)
+        paths = {name: os.path.join(place.folder, name) for name in outputs}
+        old = {name: aged(path) for name, path in paths.items()}
+        self.layout.close(trial, place.folder)
+        amid.name_again(place.folder, [name for name in laid if laid[name]])
+        amid.touch_folders(place.folder)
+        found = self.one(trial, place, AGAIN, laid, amid)
+        remove(beside(place.folder))
+        self.layout.liken(trial, place.folder)
+        kept = [name for name, path in paths.items() if old[name] == stamp_of(path)]
+        if found.passed and kept:
+            found = replace(
+                found,
+                differences=tuple(
+                    Difference(name, f"doesn't write {name} anew", (), True) for name in kept
+                ),
+            )
+        if not found.passed:
+            return found
+        damaged = [name for name in outputs if is_file(trial.after[name])]
+        if not damaged:
+            return outcome
+        laid = self.layout.restore(trial, place.folder)
+        for name in damaged:
+            damage(paths[name])
+            old[name] = aged(paths[name])
+        self.layout.close(trial, place.folder)
+        found = self.one(trial, place, DAMAGED, laid)
+        touched = {
+            name
+            for name in damaged
+            if old[name] != stamp_of(paths[name]) and only_touched(trial.after[name], paths[name])
+        }
+        rest = tuple(one for one in found.differences if one.name not in touched)
+        found = replace(found, differences=rest)
+        if found.failed:
+            return Outcome(trial, warning=found.failed, folders=left)
+        return outcome if found.passed else found
+
+    def one(
+        self,
+        trial: Trial,
+        place: Place,
+        run: str,
+        laid: Mapping[str, tuple[int, ...]],
+        amid: Surroundings = AS_RECORDED,
+    ) -> Outcome:
+        """One run of a recipe in a folder that is ready for it."""
+        failed = self.run_commands(trial, place, amid=amid)
+        if failed:
+            return Outcome(trial, run, failed)
+        return Outcome(
+            trial, run, "", tuple(self.comparison.differences(trial, place.folder, laid))
+        )
+
+    def leaves_half(self, trial: Trial, place: Place) -> bool:
+        """Whether a recipe leaves its target, which wasn't there, with other contents than whole
+        ones where each write to it fails. The folder is ready for it."""
+        target = trial.recipe.target
+        front = failing(os.path.join(place.seen, target))
+        self.run_commands(trial, place, front=front)
+        left = version_of(os.path.join(place.folder, target))
+        return left is not None and left != trial.after.get(target)
+
+    def run_commands(
+        self,
+        trial: Trial,
+        place: Place,
+        follower: Follower | None = None,
+        looking: bool = False,
+        front: tuple[str, ...] = (),
+        amid: Surroundings = AS_RECORDED,
+    ) -> str:
+        """Runs the commands of a recipe; tells how it failed, or nothing where it ended well.
+
+        `follower` takes the calls, if they are to be traced; with `looking` also those that only
+        look at names. `front` are words that come before those of each command.
+        """
+        trace = f"{place.folder}.trace" if place.is_bound else os.path.join(self.scratch, "trace")
+        inner = f"{place.inner}.trace" if place.inner else trace
+        allowed = LEAST_SECONDS + TIMES_AS_LONG * trial.seconds
+        until = time.monotonic() + allowed
+        output = ""
+        given = amid.environment(self.environment)
+        for command in trial.recipe.commands:
+            if self.stopped.is_set():
+                return "it was stopped"
+            words = [*front, *amid.words(command)]
+            if follower is not None:
+                words = [*strace(looking=looking), inner, *words]
+            with amid.input() as source:
+                ended = places.run(words, place, given, max(0.0, until - time.monotonic()), source)
+            if CLOCK in amid:
+                clear(ended.process)
+            if follower is not None:
+                follower.follow(read_trace(Path(trace), looking))
+            output += ended.output
+            if ended.timed_out:
+                head = (
+                    f"it didn't end in {allowed:.0f} seconds, where it took"
+                    f" {trial.seconds:.1f} when it was recorded"
+                )
+                return "\n".join([f"{head}, at {first_line(command.text)}", *shown(output)])
+            if ended.status != 0 and not command.ignored:
+                return "\n".join(
+                    [f"status {ended.status}, at {first_line(command.text)}", *shown(output)]
+                )
+        return ""
+
+
+def shown(output: str) -> list[str]:
+    """The last lines of what a recipe put out."""
+    return [line for line in output.rstrip("\n").split("\n")[-LINES_SHOWN:] if line]

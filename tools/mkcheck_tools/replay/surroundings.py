@@ -1,0 +1,156 @@
+"""What a recipe finds besides its files when it runs again: shell options, variables that make
+sets, the time, standard input, stamps of folders, and second names of the files that it reads.
+
+The recording has one of each. Where the outputs are there already, the recipe runs amid all others
+at once, which takes no run of its own. Where that run shows something, each is tried alone.
+"""
+
+from __future__ import annotations
+
+import contextlib
+import functools
+import glob
+import os
+import subprocess
+import tempfile
+import time
+from collections.abc import Iterator, Mapping, Sequence
+from dataclasses import dataclass
+
+from mkcheck_tools.answers.graphs import Command
+from mkcheck_tools.replay.worlds import OTHER_BYTES
+
+FLAGS, JOBS, CLOCK, INPUT = "flags", "jobs", "clock", "input"
+NAMES, FOLDERS = "names", "folders"
+# A run of its own: folders list their names the other way round.
+LISTING = "listing"
+# What GNU make 4 gives to recipes where it has two jobs.
+OF_JOBS = {"MAKEFLAGS": " -j2 --jobserver-auth=3,4", "MAKELEVEL": "1"}
+# So much later each part of a date is another one: the year, the month, the day of the month and of
+# the week, the hour, the minute.
+LATER = ((400 * 24 + 13) * 60 + 7) * 60 + 9
+LIBRARIES = (
+    "/usr/lib/*/faketime/libfaketimeMT.so.1",
+    "/usr/lib64/faketime/libfaketimeMT.so.1",
+    "/usr/lib/faketime/libfaketimeMT.so.1",
+    "/usr/local/lib/faketime/libfaketimeMT.so.1",
+)
+# What the library leaves of a program that is killed or ends at once, as shells do, by the number
+# of its process.
+LEFT = ("/dev/shm/faketime_shm_{}", "/dev/shm/sem.faketime_sem_{}")
+CLOSE = 3600
+
+
+@dataclass(frozen=True)
+class Surroundings:
+    """What a run has other than the recording: kinds of those above."""
+
+    others: frozenset[str] = frozenset()
+
+    def __contains__(self, kind: str) -> bool:
+        return kind in self.others
+
+    def __iter__(self) -> Iterator[str]:
+        return iter(sorted(self.others))
+
+    def words(self, command: Command) -> list[str]:
+        """The words that start a command amid them. `-e` is taken away, or added."""
+        words = list(command.words)
+        if FLAGS in self.others and not command.ignored:
+            words[-2] = "-c" if command.strict else "-ec"
+        if CLOCK in self.others:
+            words = ["env", *later(library() or ""), *words]
+        return words
+
+    def environment(self, given: Mapping[str, str]) -> dict[str, str]:
+        """The variables of a run. Macro operands stay in MAKEFLAGS."""
+        if JOBS not in self.others:
+            return dict(given)
+        operands = given.get("MAKEFLAGS", "")
+        flags = OF_JOBS["MAKEFLAGS"] + (f" -- {operands}" if operands else "")
+        return {**given, **OF_JOBS, "MAKEFLAGS": flags}
+
+    @contextlib.contextmanager
+    def input(self) -> Iterator[int]:
+        """A descriptor for standard input."""
+        if INPUT not in self.others:
+            yield subprocess.DEVNULL
+            return
+        with tempfile.TemporaryFile() as file:
+            file.write(OTHER_BYTES)
+            file.seek(0)
+            yield file.fileno()
+
+    def name_again(self, folder: str, names: Sequence[str]) -> None:
+        """Gives files second names beside the folder, which the recipe doesn't see."""
+        if NAMES not in self.others:
+            return
+        aside = beside(folder)
+        os.makedirs(aside, exist_ok=True)
+        for number, name in enumerate(names):
+            with contextlib.suppress(OSError):
+                os.link(
+                    os.path.join(folder, name),
+                    os.path.join(aside, str(number)),
+                    follow_symlinks=False,
+                )
+
+    def touch_folders(self, folder: str) -> None:
+        """Gives all folders of a project the present time as their stamp."""
+        for path, _, _ in os.walk(folder) if FOLDERS in self.others else ():
+            with contextlib.suppress(OSError):
+                os.utime(path)
+
+
+def beside(folder: str) -> str:
+    """Where the second names of the files in a folder are."""
+    return f"{folder}.names"
+
+
+def later(path: str) -> list[str]:
+    """The variables that set the clock of programs forward, by a library that they load. The stamps
+    of files stay as they are."""
+    loaded = os.environ.get("LD_PRELOAD", "")
+    return [
+        f"LD_PRELOAD={path}{':' if loaded else ''}{loaded}",
+        f"FAKETIME=+{LATER}",
+        "NO_FAKE_STAT=1",
+        "FAKETIME_DONT_FAKE_MONOTONIC=1",
+        "DONT_FAKE_MONOTONIC=1",
+    ]
+
+
+@functools.cache
+def library() -> str | None:
+    """The library that sets clocks forward, where there is one and it works."""
+    for path in (path for pattern in LIBRARIES for path in sorted(glob.glob(pattern))):
+        done = subprocess.run(
+            ["env", *later(path), "date", "+%s"], capture_output=True, text=True, check=False
+        )
+        said = done.stdout.strip()
+        if said.isdigit() and abs(int(said) - LATER - time.time()) < CLOSE:
+            return path
+    return None
+
+
+def clear(process: int) -> None:
+    """Removes what the library leaves of a program that has ended."""
+    for path in LEFT:
+        with contextlib.suppress(OSError):
+            os.unlink(path.format(process))
+
+
+def all_others(strict: bool, bound: bool) -> Surroundings:
+    """All other surroundings that there can be. Under `.POSIX` make starts shells by `-e` in any
+    case. Where the folder of a run isn't `bound`, nothing may be beside it."""
+    found = {JOBS, INPUT, FOLDERS}
+    if not strict:
+        found.add(FLAGS)
+    if bound:
+        found.add(NAMES)
+    if library() is not None:
+        found.add(CLOCK)
+    return Surroundings(frozenset(found))
+
+
+AS_RECORDED = Surroundings()

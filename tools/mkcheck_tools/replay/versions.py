@@ -1,0 +1,123 @@
+"""What stands at a path at one moment, and a store that keeps contents by their digests."""
+
+from __future__ import annotations
+
+import hashlib
+import os
+import stat
+from dataclasses import dataclass, field
+
+from mkcheck_tools.faults import Fault
+
+FILE = "file"
+LINK = "link"
+FOLDER = "folder"
+# Something that is only known to be there.
+THERE = "there"
+KINDS = {
+    stat.S_IFREG: FILE,
+    stat.S_IFLNK: LINK,
+    stat.S_IFDIR: FOLDER,
+    stat.S_IFIFO: "pipe",
+    stat.S_IFSOCK: "socket",
+}
+CHUNK = 1 << 20
+
+
+@dataclass(frozen=True)
+class Version:
+    """What stands at a path: its kind, the bits of its mode, and its content.
+
+    The content of a file is a digest of its bytes, that of a link where it leads, else nothing. Two
+    versions are equal whatever their stamps are.
+    """
+
+    kind: str
+    mode: int
+    content: str
+    stamp: int = field(default=0, compare=False)
+
+
+def version_of(path: str) -> Version | None:
+    """The version at a path itself, which may be a link; None where nothing is there."""
+    try:
+        status = os.lstat(path)
+    except OSError:
+        return None
+    kind = KINDS.get(stat.S_IFMT(status.st_mode), "device")
+    mode = 0 if kind == LINK else stat.S_IMODE(status.st_mode)
+    return Version(kind, mode, content_of(path, kind), status.st_mtime_ns)
+
+
+def content_of(path: str, kind: str) -> str:
+    """What tells one content from another: a digest, or where a link leads."""
+    try:
+        if kind == LINK:
+            return os.readlink(path)
+        return digest_of(path) if kind == FILE else ""
+    except OSError as error:
+        raise Fault(f"{path} can't be read: {error.strerror}") from None
+
+
+def digest_of(path: str) -> str:
+    """A digest of the bytes of a file."""
+    digest = hashlib.sha256()
+    with open(path, "rb", buffering=0) as file:
+        while chunk := file.read(CHUNK):
+            digest.update(chunk)
+    return digest.hexdigest()
+
+
+def copy_bytes(source: str, goal: str) -> None:
+    """Copies the bytes of a file to a new file, which shares them where the disk can."""
+    with open(source, "rb", buffering=0) as old, open(goal, "xb", buffering=0) as new:
+        try:
+            while os.copy_file_range(old.fileno(), new.fileno(), CHUNK):
+                pass
+        except (AttributeError, OSError):
+            new.seek(0)
+            new.truncate()
+            old.seek(0)
+            while chunk := old.read(CHUNK):
+                written = 0
+                while written < len(chunk):
+                    written += new.write(chunk[written:])
+
+
+def lay(source: str, goal: str, version: Version) -> None:
+    """Lays a version at a path where nothing is: a link, or a file with the bytes of another."""
+    if version.kind == LINK:
+        os.symlink(version.content, goal)
+        return
+    copy_bytes(source, goal)
+    os.chmod(goal, version.mode)
+    os.utime(goal, ns=(version.stamp, version.stamp))
+
+
+@dataclass(frozen=True)
+class Store:
+    """Keeps the bytes of files in a folder, by digest. What `older` has isn't kept again."""
+
+    folder: str
+    older: str = ""
+
+    def path(self, version: Version) -> str:
+        """Where the bytes of a version lie."""
+        if self.older:
+            path = os.path.join(self.older, version.content)
+            if os.path.exists(path):
+                return path
+        return os.path.join(self.folder, version.content)
+
+    def keep(self, path: str) -> Version | None:
+        """The version at a path, whose bytes are kept where it is a file."""
+        version = version_of(path)
+        if version is None or version.kind != FILE or os.path.exists(self.path(version)):
+            return version
+        goal = os.path.join(self.folder, version.content)
+        beside = goal + ".new"
+        if os.path.lexists(beside):
+            os.unlink(beside)
+        copy_bytes(path, beside)
+        os.replace(beside, goal)
+        return version

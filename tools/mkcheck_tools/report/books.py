@@ -1,0 +1,37 @@
+"""The footprints that count for a graph: what each reached recipe reads and writes."""
+
+from __future__ import annotations
+
+from dataclasses import dataclass
+
+from mkcheck_tools.imports.footprints import Record, read_footprints
+from mkcheck_tools.report.nodes import Graph
+
+
+@dataclass(frozen=True)
+class Book:
+    """The fixed prefixes, the sources, the records of reached recipes by target, and for each file
+    the targets whose recipes write it."""
+
+    fixed: tuple[str, ...]
+    sources: frozenset[str]
+    records: dict[str, Record]
+    writers: dict[str, list[str]]
+
+    def can_change(self, name: str) -> bool:
+        """Whether a file is a source, or a recipe writes it."""
+        return not name.startswith(self.fixed) and (name in self.sources or name in self.writers)
+
+    def provider(self, name: str, graph: Graph) -> str:
+        """What has to be a prerequisite for a file: it, or the target whose recipe writes it."""
+        if name in self.sources or name in graph.nodes:
+            return name
+        return next(iter(self.writers.get(name, [])), name)
+
+
+def book_of(path: str, graph: Graph) -> Book:
+    """The footprints that count for a graph."""
+    found = read_footprints(path, graph.goals)
+    recipes = [node.name for node in graph.nodes.values() if node.recipe]
+    found.records = {name: found.records[name] for name in recipes if name in found.records}
+    return Book(tuple(found.fixed), frozenset(found.sources), found.records, found.writers)

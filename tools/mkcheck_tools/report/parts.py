@@ -1,0 +1,36 @@
+"""Parts of a page that several sections have."""
+
+from __future__ import annotations
+
+from dataclasses import dataclass
+
+from mkcheck_tools.report.answers import Group, Refusal
+from mkcheck_tools.report.escaping import clipped, markup
+from mkcheck_tools.report.pictures import width_of
+
+# Up to this width a graph is shown on a narrow screen, too.
+NARROW = 330
+
+
+@dataclass
+class Budget:
+    """How many bytes of a kind a page may still take."""
+
+    left: int
+
+    def takes(self, text: str) -> bool:
+        """Whether a text still fits; from the first one on that doesn't, none does."""
+        size = len(text.encode("utf-8", "surrogateescape"))
+        self.left = self.left - size if size <= self.left else 0
+        return self.left > 0
+
+
+def place_of(one: Group | Refusal) -> str:
+    """The place of a group or a refusal, if it has one."""
+    place = f"{one.file}:{one.line}" if one.line else one.file
+    return f'<span class="place">{markup(clipped(place))}:</span> ' if place else ""
+
+
+def look_of(svg: str) -> str:
+    """How a graph is shown on a narrow screen: as it is, or as a list in its place."""
+    return "plain" if not svg else "wide" if width_of(svg) > NARROW else "fits"

@@ -1,0 +1,1 @@
+"""Runs commands: folders and their copies, mount namespaces, progress, and ends by a signal."""

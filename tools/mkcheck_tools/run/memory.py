@@ -1,0 +1,144 @@
+"""A file system in memory, in a mount namespace of its own, for folders in which recipes run again.
+
+It is gone with the process that holds the namespace, and that ends with this program. This program
+reaches its files by way of that process, and commands begin in its namespace.
+"""
+
+from __future__ import annotations
+
+import contextlib
+import errno
+import os
+import shutil
+import subprocess
+import threading
+from collections.abc import Iterator
+from dataclasses import dataclass, field
+
+from mkcheck_tools.run import stopping
+from mkcheck_tools.run.places import Namespace, Place, mounter, namespace
+
+# How much it holds at most: a part of what is free, and no more than this.
+PART = 4
+MOST = 8 << 30
+LEAST = 256 << 20
+# What a replay needs for each byte that it reads or writes, and besides.
+TIMES = 4
+MORE = 16 << 20
+READY = b"ready\n"
+HOLD = ' -t tmpfs -o "$1" mkcheck-record "$2" && echo ready && exec cat > /dev/null'
+# What a command says where the file system has no room, or lacks something that disks have.
+LACKS = ("No space left on device", "Operation not supported", "Cannot allocate memory")
+
+
+@dataclass
+class Memory:
+    """Such a file system, at `folder` in its namespace."""
+
+    folder: str
+    size: int
+    holder: subprocess.Popen[bytes]
+    taken: int = 0
+    lock: threading.Lock = field(default_factory=threading.Lock)
+
+    @property
+    def path(self) -> str:
+        """Where this program finds the folder."""
+        return f"/proc/{self.holder.pid}/root{self.folder}"
+
+    @property
+    def way(self) -> Namespace:
+        """How commands get a namespace in which the folder is."""
+        own = namespace()
+        assert own is not None
+        enter = shutil.which("nsenter") or "nsenter"
+        user = ("--user", "--preserve-credentials") if "--user" in own.enter else ()
+        # It keeps the folder where it stands, since shells take PWD only if that leads there.
+        words = (enter, "--wd=.", "--target", str(self.holder.pid), "--mount", *user, "--")
+        return Namespace((*words, own.enter[0], "--mount", "--ipc", "--"), own.user)
+
+    def place(self, name: str, seen: str) -> Place:
+        """A place in it that is shut."""
+        inner = os.path.join(self.folder, name)
+        return Place(os.path.join(self.path, name), seen, True, self.way, inner)
+
+    @contextlib.contextmanager
+    def room(self, size: int) -> Iterator[bool]:
+        """Keeps room for files of this size; tells whether there is some."""
+        wanted = TIMES * size + MORE
+        with self.lock:
+            there = self.taken + wanted <= self.size
+            self.taken += wanted if there else 0
+        try:
+            yield there
+        finally:
+            with self.lock:
+                self.taken -= wanted if there else 0
+
+
+def free_memory() -> int:
+    """How many bytes of memory are free, as the kernel tells it; 0 where it doesn't."""
+    with contextlib.suppress(OSError, ValueError):
+        with open("/proc/meminfo", encoding="ascii") as lines:
+            for line in lines:
+                if line.startswith("MemAvailable:"):
+                    return int(line.split()[1]) << 10
+    return 0
+
+
+@contextlib.contextmanager
+def memory(folder: str) -> Iterator[Memory | None]:
+    """A file system in memory at this folder, which is there; None where the system allows none, or
+    has little memory."""
+    own, size = namespace(), min(free_memory() // PART, MOST)
+    if own is None or shutil.which("nsenter") is None or size < LEAST:
+        yield None
+        return
+    enter = [word for word in own.enter if word != "--ipc"]
+    options = f"size={size},mode=700"
+    words = [*enter, "/bin/sh", "-c", mounter() + HOLD, "sh", options, folder]
+    with stopping.held():
+        holder = subprocess.Popen(
+            words,
+            stdin=subprocess.PIPE,
+            stdout=subprocess.PIPE,
+            stderr=subprocess.DEVNULL,
+            start_new_session=True,
+        )
+    try:
+        assert holder.stdout is not None
+        found = Memory(folder, size, holder)
+        there = holder.stdout.readline() == READY and works(found)
+        yield found if there else None
+    finally:
+        holder.kill()
+        with holder:
+            pass
+
+
+def works(found: Memory) -> bool:
+    """Whether a file in it is seen over a mount, and programs may start there."""
+    try:
+        place = found.place("probe", found.folder)
+        os.mkdir(place.folder)
+        script = os.path.join(place.folder, "file")
+        with open(script, "x", encoding="ascii") as file:
+            file.write("#!/bin/sh\n")
+        os.chmod(script, 0o700)
+        done = subprocess.run(
+            place.words(["./file"]),
+            cwd=found.folder,
+            env={**os.environ, "PWD": found.folder},
+            stdin=subprocess.DEVNULL,
+            capture_output=True,
+            check=False,
+        )
+        shutil.rmtree(place.folder)
+        return done.returncode == 0
+    except OSError:
+        return False
+
+
+def is_full(error: OSError) -> bool:
+    """Whether an error says that there is no room."""
+    return error.errno in (errno.ENOSPC, errno.ENOMEM, errno.EDQUOT)

@@ -1,0 +1,59 @@
+"""Ends the program by a signal as by a fault: processes are stopped, and copies removed."""
+
+from __future__ import annotations
+
+import contextlib
+import signal
+import threading
+from collections.abc import Iterator
+from types import FrameType
+
+SIGNALS = (signal.SIGINT, signal.SIGTERM, signal.SIGHUP)
+
+# How often the end is put off now, and the signals that came meanwhile.
+_held: list[None] = []
+_came: list[int] = []
+
+
+class Stopped(BaseException):
+    """A signal that ends the program."""
+
+    def __init__(self, number: int) -> None:
+        super().__init__(number)
+        self.status = 128 + number
+        self.name = signal.Signals(number).name
+        self.rest = "nothing is written"
+
+
+def catch_signals() -> None:
+    """From now on these signals raise `Stopped`, but for those that were ignored, as nohup has it.
+
+    A second one changes nothing, since the first one's clearing up isn't to be cut short.
+    """
+    for number in SIGNALS:
+        if signal.getsignal(number) is not signal.SIG_IGN:
+            signal.signal(number, stop)
+
+
+def stop(number: int, _frame: FrameType | None) -> None:
+    """Raises `Stopped`, or has that done later where the end is put off."""
+    for other in SIGNALS:
+        signal.signal(other, signal.SIG_IGN)
+    if not _held:
+        raise Stopped(number)
+    _came.append(number)
+
+
+@contextlib.contextmanager
+def held() -> Iterator[None]:
+    """Puts off the end by a signal, which raises in the main thread alone, to the end of this."""
+    if threading.current_thread() is not threading.main_thread():
+        yield
+        return
+    _held.append(None)
+    try:
+        yield
+    finally:
+        _held.pop()
+        if _came and not _held:
+            raise Stopped(_came.pop())

@@ -1,0 +1,1 @@
+"""What strace writes: its lines, the calls in them, and the files that these reach."""

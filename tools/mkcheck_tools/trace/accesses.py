@@ -1,0 +1,799 @@
+"""What a recipe reads and writes, followed call by call to the real paths of its files."""
+
+from __future__ import annotations
+
+import os
+import re
+from collections.abc import Iterable
+from dataclasses import dataclass, field
+
+from mkcheck_tools.trace.calls import (
+    CONNECTIONS,
+    FORKS,
+    LOOKS,
+    LOOKS_IN_VAIN,
+    NOT_EMPTY,
+    NOTHING_THERE,
+    READ_ONLY,
+    REMOVALS,
+    SAME,
+    WRITINGS,
+    Call,
+    path_of,
+    text_of,
+)
+from mkcheck_tools.trace.makes import is_make, is_part, is_system
+from mkcheck_tools.trace.programs import interpreters_of
+from mkcheck_tools.trace.trees import Owner, Tree
+
+INTERPRETERS_AT_MOST = 4
+EXCHANGE = "RENAME_EXCHANGE"
+DELETED = " (deleted)"
+SPACES = ("CLONE_NEWNS", "CLONE_NEWPID")
+LISTENER = "SECCOMP_FILTER_FLAG_NEW_LISTENER"
+# Sockets that look up users and machines, or take log messages: asking them changes no file.
+SYSTEM_SOCKETS = ("/var/run/nscd/", "/run/nscd/", "/run/systemd/", "/var/run/systemd/", "/dev/log")
+OF_PROCESS = re.compile(r"/proc/(self|thread-self|\d+)/(cwd|root)(?=/|$)")
+SOCKET = re.compile(r'sun_path=(@?)("(?:[^"\\\\]|\\\\.)*")')
+ADDRESS = re.compile(r'inet_(?:addr|pton)\((?:AF_INET6, )?"([^"]*)"')
+PORT = re.compile(r"sin6?_port=htons\((\d+)\)")
+# What asks for the address of a machine.
+RESOLVER = "systemd/resolve/"
+# What a program gets by a key: no file, and all others of the machine get the same.
+MEMORY, SEMAPHORES, QUEUE = "the shared memory", "the semaphores", "the message queue"
+SHARED_MEMORY = "/dev/shm/"
+PRIVATE = ("IPC_PRIVATE", "0", "0x0")
+
+
+@dataclass
+class Standing:
+    """The folder in which a process stands. Threads of one process share theirs."""
+
+    path: str
+
+
+@dataclass(frozen=True)
+class Alias:
+    """A name that leads over symbolic links, these, and the real path."""
+
+    name: str
+    links: tuple[str, ...]
+    real: str
+
+
+@dataclass
+class Accesses:
+    """What one recipe does to files, by their real paths, in the order of their first use."""
+
+    tree: Tree
+    reads: dict[str, None] = field(default_factory=dict)
+    writes: dict[str, None] = field(default_factory=dict)
+    """Files that it wrote, and didn't remove or rename later."""
+
+    touched: dict[str, None] = field(default_factory=dict)
+    """Files that it wrote or removed at any time."""
+
+    made: dict[str, None] = field(default_factory=dict)
+    """Files that it wrote and that weren't there before."""
+
+    lost: dict[str, None] = field(default_factory=dict)
+    """Files that it removed and hadn't made."""
+
+    missed: dict[str, None] = field(default_factory=dict)
+    """Paths that it failed to remove: nothing was there, or a folder that isn't empty."""
+
+    sought: dict[str, None] = field(default_factory=dict)
+    """Paths at which it looked when nothing was there."""
+
+    folders: dict[str, None] = field(default_factory=dict)
+    """Folders that it made."""
+
+    dropped: dict[str, None] = field(default_factory=dict)
+    """Folders that it removed or renamed and hadn't made."""
+
+    owned: dict[str, None] = field(default_factory=dict)
+    """Folders that it hadn't made, and whose mode, owner or attributes it changed."""
+
+    stamped: dict[str, None] = field(default_factory=dict)
+    """Files to which it gave a stamp other than the present time."""
+
+    moved: dict[str, None] = field(default_factory=dict)
+    """New names of files and folders that it renamed."""
+
+    aliases: dict[str, Alias] = field(default_factory=dict)
+    """Names by which it reached a file over a symbolic link."""
+
+    over: dict[str, None] = field(default_factory=dict)
+    """Links that it followed and that no recipe made."""
+
+    makes: dict[tuple[str, str], None] = field(default_factory=dict)
+    """Makes that it started, each with the folder in which that make worked."""
+
+    forbidden: dict[str, None] = field(default_factory=dict)
+    """Files outside of the project that it would have written, were they not read-only for it."""
+
+    strange: dict[str, None] = field(default_factory=dict)
+    """Calls whose effects a trace doesn't show."""
+
+    servers: dict[str, None] = field(default_factory=dict)
+    """Servers that it asked and that aren't its own."""
+
+    sockets: set[str] = field(default_factory=set)
+    """Addresses at which its own processes serve."""
+
+    ports: set[str] = field(default_factory=set)
+    """Those of them that only one process of the machine can have, and that are no files."""
+
+    channels: dict[str, None] = field(default_factory=dict)
+    """What it used to hand something on to others, or to get it from them, that is no file."""
+
+    looked: dict[str, None] = field(default_factory=dict)
+    """Paths at which it looked, where such calls are traced."""
+
+    listed: dict[str, None] = field(default_factory=dict)
+    """Folders whose names it read."""
+
+    locked: dict[str, None] = field(default_factory=dict)
+    """Files and folders that it locked, by flock."""
+
+    tried: dict[str, None] = field(default_factory=dict)
+    """Those of them for whose lock it wouldn't have waited, or only for a while."""
+
+    def wrote(self, path: str) -> bool:
+        """Whether the recipe wrote this file before, or moved a folder there that holds it."""
+        if path in self.writes or not self.moved:
+            return path in self.writes
+        while path not in self.moved:
+            shorter = os.path.dirname(path)
+            if shorter == path:
+                return False
+            path = shorter
+        return True
+
+    def is_new(self, path: str, flags: str) -> bool:
+        """Whether an open with these flags makes the file.
+
+        Which files are there is known of the project alone, so elsewhere only O_EXCL tells.
+        """
+        if "O_CREAT" not in flags:
+            return False
+        unknown = not self.tree.has(path) and path not in self.touched
+        return "O_EXCL" in flags or (not unknown and path not in self.tree.there)
+
+    def read(self, path: str) -> None:
+        """A read, unless of a file that the recipe wrote itself."""
+        if not self.wrote(path):
+            self.reads.setdefault(path)
+
+    def write(self, path: str) -> None:
+        """A writing. Footprints name no folders."""
+        if path in self.tree.folders:
+            return
+        self.writes.setdefault(path)
+        self.touched.setdefault(path)
+        if path not in self.tree.there:
+            self.made.setdefault(path)
+            self.tree.there.add(path)
+
+    def stamp(self, path: str, times: str) -> None:
+        """A file gets a stamp: the present time, or one that the recipe chose."""
+        if times != "NULL" and not times.endswith("UTIME_NOW]"):
+            self.stamped.setdefault(path)
+        self.change(path)
+
+    def change(self, path: str) -> None:
+        """The recipe changes a stamp, a mode or a part of a file, and keeps the rest."""
+        self.read(path)
+        self.write(path)
+
+    def own(self, path: str) -> None:
+        """A file or a folder gets a mode, an owner or an attribute."""
+        self.change(path)
+        if path not in self.folders and os.path.isdir(self.tree.place.real(path)):
+            self.owned.setdefault(path)
+
+    def remove(self, path: str) -> None:
+        """A file is taken away."""
+        self.lose(path)
+        self.tree.remove(path)
+
+    def remove_folder(self, path: str) -> None:
+        """An empty folder is removed."""
+        if path in self.tree.folders and path not in self.folders:
+            self.dropped.setdefault(path)
+        self.tree.folders.discard(path)
+
+    def rename(self, old: str, new: str) -> None:
+        """A file is renamed, or a folder with all files that are known in it."""
+        inside = (path for path in self.writes if path.startswith(old + "/"))
+        files = dict.fromkeys([*self.tree.inside(old), *inside])
+        if not files and old not in self.tree.folders:
+            files[old] = None
+        elif old in self.tree.folders and old not in self.folders:
+            self.dropped.setdefault(old)
+        for path in self.tree.inside(new):
+            self.lose(path)
+        for path in files:
+            self.read(path)
+            self.lose(path)
+        self.tree.move(old, new)
+        for path in files:
+            goal = new + path[len(old) :]
+            self.tree.there.add(goal)
+            for kept in (self.writes, self.touched, self.made):
+                kept.setdefault(goal)
+            if path in self.stamped:
+                self.stamped.setdefault(goal)
+        if old in self.folders:
+            self.folders.setdefault(new)
+        self.moved.setdefault(new)
+
+    def lose(self, path: str) -> None:
+        """A file leaves its path: it is removed, renamed or replaced."""
+        self.writes.pop(path, None)
+        self.moved.pop(path, None)
+        self.touched.setdefault(path)
+        if path in self.tree.there and path not in self.made:
+            self.lost.setdefault(path)
+
+    def pass_over(self, links: Iterable[str]) -> None:
+        """The recipe follows symbolic links; one that a recipe made is a file that it reads."""
+        for link in links:
+            if link in self.tree.made:
+                self.read(link)
+            elif self.tree.has(link):
+                self.over.setdefault(link)
+
+    def look(self, name: str) -> None:
+        """The recipe looks at a name: at the file behind it, and at each link on the way."""
+        real, links = self.tree.follow(name)
+        for path in (real, *links, self.tree.own(name)[0]):
+            self.looked.setdefault(path)
+
+    def seek(self, name: str) -> None:
+        """The recipe looks for a file that isn't there, unless it removed the file itself.
+
+        If the file is there after all, a folder on the way, as in `absent/../file`, wasn't.
+        """
+        path, _ = self.tree.follow(name)
+        known = path in self.tree.there or path in self.tree.folders
+        if not known and path not in self.touched and path not in self.folders:
+            self.sought.setdefault(path)
+
+    def reach(self, name: str) -> str:
+        """The real path of a file that is reached by a name, over links."""
+        real, links = self.tree.follow(name)
+        if links:
+            self.pass_over(links)
+            plain = os.path.normpath(name)
+            if plain != real:
+                self.aliases.setdefault(plain, Alias(plain, links, real))
+        return real
+
+    def reach_itself(self, name: str) -> str:
+        """The real path of a name itself, which may be a link."""
+        real, links = self.tree.own(name)
+        self.pass_over(links)
+        return real
+
+
+@dataclass
+class Follower:
+    """Follows the calls of one command. All of its processes begin in one folder."""
+
+    accesses: Accesses
+    start: str
+    standings: dict[int, Standing] = field(default_factory=dict)
+    makers: dict[int, tuple[str, str]] = field(default_factory=dict)
+    makefiles: dict[int, list[str]] = field(default_factory=dict)
+    """What each of these makes read since it was started."""
+
+    starters: set[int] = field(default_factory=set)
+    """Those of them that started a process."""
+
+    at_work: set[int] = field(default_factory=set)
+    timed: set[int] = field(default_factory=set)
+    """Processes that set a timer, by which they may give up to wait."""
+
+    held: dict[tuple[str, str], tuple[str, bool]] = field(default_factory=dict)
+    """By its kind and number what it got by a key, and whether it asked to make it."""
+
+    def follow(self, calls: Iterable[Call]) -> None:
+        """Takes the calls, in their order."""
+        for call in calls:
+            if call.name in FORKS:
+                self.fork(call)
+                continue
+            if call.failed or call.name in LOOKS:
+                if call.result == READ_ONLY and call.name in WRITINGS:
+                    self.forbidden(call)
+                if call.name in LOOKS or call.name in LOOKS_IN_VAIN:
+                    self.looked_at(call)
+                    self.removed_in_vain(call)
+                if call.name in CONNECTIONS:
+                    self.asked(call)
+                continue
+            taken = getattr(self, f"on_{SAME.get(call.name, call.name)}", None)
+            if taken is not None:
+                taken(call)
+        for process, maker in self.makers.items():
+            read = self.makefiles.get(process, ())
+            works = bool(read) or process in self.starters
+            if works and not is_part(read, self.accesses.touched, self.accesses.tree.root):
+                self.accesses.makes.setdefault(maker)
+
+    def looked_at(self, call: Call) -> None:
+        """A call that only looks at a name, or fails since nothing is there.
+
+        With an empty name it looks at what a descriptor has open, which is passed over.
+        """
+        folder, name = LOOKS.get(call.name) or LOOKS_IN_VAIN[call.name]
+        if len(call.arguments) > name and text_of(call.arguments[name]):
+            path = self.path(call, name, folder)
+            self.accesses.look(path)
+            if call.failed and call.result == NOTHING_THERE and call.name not in REMOVALS:
+                self.accesses.seek(path)
+
+    def removed_in_vain(self, call: Call) -> None:
+        """A call that fails to remove or rename: nothing is there, or the folder isn't empty."""
+        if call.name not in REMOVALS or call.result not in (NOTHING_THERE, *NOT_EMPTY):
+            return
+        folder, name = LOOKS_IN_VAIN[call.name]
+        path = self.itself(call, name, folder)
+        is_folder = path in self.accesses.tree.folders
+        if call.result in NOT_EMPTY:
+            if is_folder and not call.name.startswith("rename"):
+                self.accesses.missed.setdefault(path)
+        elif path not in self.accesses.tree.there and not is_folder:
+            self.accesses.missed.setdefault(path)
+
+    def forbidden(self, call: Call) -> None:
+        """A call that would write to what is read-only here.
+
+        It counts where the user could do that outside of the recording.
+        """
+        folder, name = WRITINGS[call.name]
+        if name is None or not text_of(call.arguments[name]):
+            path = self.descriptor(call.arguments[folder or 0])
+        else:
+            path = self.accesses.tree.own(self.path(call, name, folder))[0]
+            if call.name not in REMOVALS:
+                path = self.accesses.tree.follow(path)[0]
+        if path is None or self.accesses.tree.has(path):
+            return
+        there = os.path.lexists(path)
+        if not there and call.name in ("unlink", "unlinkat", "rmdir"):
+            return
+        changed = path if there and call.name not in REMOVALS else os.path.dirname(path)
+        if os.access(changed, os.W_OK):
+            self.accesses.forbidden.setdefault(path)
+
+    def standing(self, call: Call) -> Standing:
+        """Where the process of a call stands."""
+        return self.standings.setdefault(call.process, Standing(self.start))
+
+    def fork(self, call: Call) -> None:
+        """A new process begins in its parent's folder; a thread shares that of its process."""
+        if call.process in self.makers:
+            self.starters.add(call.process)
+        own = self.standing(call)
+        shared = any("CLONE_FS" in argument for argument in call.arguments)
+        self.standings[call.number] = own if shared else Standing(own.path)
+        for space in SPACES:
+            if any(space in argument for argument in call.arguments):
+                self.accesses.strange.setdefault(f"{call.name} with {space}")
+
+    def path(self, call: Call, at: int, folder: int | None = None) -> str:
+        """The path that an argument names, from a folder's descriptor or the process's folder."""
+        name = text_of(call.arguments[at]) or ""
+        standing = self.standing(call)
+        base = standing.path
+        if folder is not None:
+            base = self.descriptor(call.arguments[folder]) or base
+            if call.arguments[folder].startswith("AT_FDCWD"):
+                standing.path = base
+        return self.plainly(call, os.path.join(base, name) if name else base)
+
+    def plainly(self, call: Call, path: str) -> str:
+        """A path without `/proc/self/cwd` or `/proc/self/root` at its front."""
+        found = OF_PROCESS.match(path)
+        if found is None:
+            return path
+        process, kind = found.groups()
+        if kind == "root":
+            return path[found.end() :] or "/"
+        number = int(process) if process.isdigit() else call.process
+        standing = self.standings.get(number)
+        return path if standing is None else standing.path + path[found.end() :]
+
+    def descriptor(self, argument: str) -> str | None:
+        """The path behind a descriptor.
+
+        Older versions of strace may write ` (deleted)` as a part of it.
+        """
+        path = path_of(argument)
+        if path is not None and path.endswith(DELETED) and self.accesses.tree.status(path) is None:
+            return path[: -len(DELETED)]
+        return path
+
+    def itself(self, call: Call, at: int, folder: int | None = None) -> str:
+        """The real path of what an argument names, which may be a link."""
+        return self.accesses.reach_itself(self.path(call, at, folder))
+
+    def behind(self, call: Call, at: int, folder: int | None = None) -> str:
+        """The real path of what an argument names, links followed if the call does so."""
+        if any("SYMLINK_NOFOLLOW" in argument for argument in call.arguments):
+            return self.itself(call, at, folder)
+        return self.accesses.reach(self.path(call, at, folder))
+
+    def on_chdir(self, call: Call) -> None:
+        self.accesses.look(self.path(call, 0))
+        self.standing(call).path = self.accesses.reach(self.path(call, 0))
+        # A make goes to another folder before it reads a file there, and may come back at its end.
+        if call.process in self.makers and call.process not in self.at_work:
+            self.makers[call.process] = (self.makers[call.process][0], self.standing(call).path)
+
+    def on_fchdir(self, call: Call) -> None:
+        self.standing(call).path = self.descriptor(call.arguments[0]) or self.standing(call).path
+
+    def on_open(self, call: Call) -> None:
+        self.opened(call, self.path(call, 0), call.arguments[1])
+
+    def on_openat(self, call: Call) -> None:
+        self.opened(call, self.path(call, 1, 0), call.arguments[2])
+
+    def on_creat(self, call: Call) -> None:
+        self.opened(call, self.path(call, 0), "O_WRONLY|O_CREAT|O_TRUNC")
+
+    def on_open_by_handle_at(self, call: Call) -> None:
+        self.opened(call, path_of(call.result) or "/", call.arguments[2])
+
+    def opened(self, call: Call, name: str, flags: str) -> None:
+        """A file that is opened. Old contents are read where they are kept."""
+        real = path_of(call.result)
+        if real is None:
+            return
+        if "O_NOFOLLOW" in flags:
+            self.accesses.reach_itself(name)
+        else:
+            self.accesses.reach(name)
+        if "O_PATH" in flags or "O_DIRECTORY" in flags or "O_TMPFILE" in flags:
+            self.accesses.look(name)
+            return
+        if self.accesses.tree.has(real):
+            self.at_work.add(call.process)
+        new = self.accesses.is_new(real, flags)
+        if real.startswith(SHARED_MEMORY) and not new and not self.accesses.wrote(real):
+            self.accesses.channels.setdefault(f"{MEMORY} {real}")
+        written = "O_WRONLY" in flags or "O_RDWR" in flags
+        if call.process in self.makers and not written and not is_system(real):
+            self.makefiles.setdefault(call.process, []).append(real)
+        if not new and not (written and "O_TRUNC" in flags):
+            self.accesses.read(real)
+        if written or new:
+            self.accesses.write(real)
+
+    def on_getdents(self, call: Call) -> None:
+        """The names in a folder are read."""
+        path = self.descriptor(call.arguments[0])
+        if path is not None:
+            self.accesses.listed.setdefault(path)
+
+    def on_readlink(self, call: Call) -> None:
+        self.looked_into(self.itself(call, 0))
+
+    def on_readlinkat(self, call: Call) -> None:
+        self.looked_into(self.itself(call, 1, 0))
+
+    def looked_into(self, link: str) -> None:
+        """The text of a link is read.
+
+        A link of the project that leads to a folder is no file that make could name.
+        """
+        tree = self.accesses.tree
+        if not tree.has(link):
+            return
+        if link not in tree.made and os.path.isdir(tree.place.real(tree.follow(link)[0])):
+            self.accesses.over.setdefault(link)
+        else:
+            self.accesses.read(link)
+
+    def on_execve(self, call: Call) -> None:
+        self.started(call, self.path(call, 0))
+
+    def on_execveat(self, call: Call) -> None:
+        self.started(call, self.path(call, 1, 0))
+
+    def started(self, call: Call, name: str) -> None:
+        """A program is read, and the interpreters and loaders that programs name."""
+        real = self.accesses.reach(name)
+        if is_make(name) or is_make(real):
+            self.makers[call.process] = (os.path.basename(name), self.standing(call).path)
+            self.at_work.discard(call.process)
+            self.makefiles.pop(call.process, None)
+        waiting = [real]
+        for _ in range(INTERPRETERS_AT_MOST):
+            if not waiting:
+                return
+            real = waiting.pop()
+            self.accesses.read(real)
+            for other in interpreters_of(self.accesses.tree.place.real(real)):
+                waiting.append(self.accesses.reach(os.path.join(self.standing(call).path, other)))
+
+    def on_rename(self, call: Call) -> None:
+        self.renamed(self.itself(call, 0), self.itself(call, 1), "")
+
+    def on_renameat(self, call: Call) -> None:
+        flags = call.arguments[4] if len(call.arguments) > 4 else ""
+        self.renamed(self.itself(call, 1, 0), self.itself(call, 3, 2), flags)
+
+    def renamed(self, old: str, new: str, flags: str) -> None:
+        """A file gets another name. Two that are exchanged are read and written both."""
+        if EXCHANGE not in flags:
+            self.accesses.rename(old, new)
+            for standing in self.standings.values():
+                if f"{standing.path}/".startswith(f"{old}/"):
+                    standing.path = new + standing.path[len(old) :]
+            return
+        tree = self.accesses.tree
+        for path in [*tree.inside(old), *tree.inside(new), old, new]:
+            self.accesses.change(path)
+        tree.move(old, old + "\0")
+        tree.move(new, old)
+        tree.move(old + "\0", new)
+
+    def on_link(self, call: Call) -> None:
+        self.linked(self.itself(call, 0), self.itself(call, 1))
+
+    def on_linkat(self, call: Call) -> None:
+        follows = "AT_SYMLINK_FOLLOW" in call.arguments[4]
+        old = self.accesses.reach(self.path(call, 1, 0)) if follows else self.itself(call, 1, 0)
+        self.linked(old, self.itself(call, 3, 2))
+
+    def linked(self, old: str, new: str) -> None:
+        """A file gets a second name."""
+        self.accesses.read(old)
+        self.accesses.write(new)
+        text = self.accesses.tree.links.get(old)
+        if text is not None:
+            self.made_link(text, new)
+
+    def on_symlink(self, call: Call) -> None:
+        self.made_link(text_of(call.arguments[0]) or "", self.itself(call, 1))
+
+    def on_symlinkat(self, call: Call) -> None:
+        self.made_link(text_of(call.arguments[0]) or "", self.itself(call, 2, 1))
+
+    def made_link(self, text: str, path: str) -> None:
+        """A symbolic link is made."""
+        self.accesses.write(path)
+        self.accesses.tree.link(path, text)
+        self.accesses.tree.made.add(path)
+
+    def on_unlink(self, call: Call) -> None:
+        self.accesses.remove(self.itself(call, 0))
+
+    def on_unlinkat(self, call: Call) -> None:
+        path = self.itself(call, 1, 0)
+        if "AT_REMOVEDIR" in call.arguments[2]:
+            self.accesses.remove_folder(path)
+        else:
+            self.accesses.remove(path)
+
+    def on_mknod(self, call: Call) -> None:
+        self.accesses.write(self.itself(call, 0))
+
+    def on_mknodat(self, call: Call) -> None:
+        self.accesses.write(self.itself(call, 1, 0))
+
+    def on_mkdir(self, call: Call) -> None:
+        self.made_folder(self.itself(call, 0))
+
+    def on_mkdirat(self, call: Call) -> None:
+        self.made_folder(self.itself(call, 1, 0))
+
+    def made_folder(self, path: str) -> None:
+        """A folder is made."""
+        self.accesses.folders.setdefault(path)
+        self.accesses.tree.folders.add(path)
+
+    def on_rmdir(self, call: Call) -> None:
+        self.accesses.remove_folder(self.itself(call, 0))
+
+    def on_truncate(self, call: Call) -> None:
+        real = self.behind(call, 0)
+        if call.arguments[1] != "0":
+            self.accesses.read(real)
+        self.accesses.write(real)
+
+    def on_utime(self, call: Call) -> None:
+        self.accesses.stamp(self.behind(call, 0), call.arguments[1])
+
+    def on_utimes(self, call: Call) -> None:
+        self.accesses.stamp(self.behind(call, 0), call.arguments[1])
+
+    def on_futimesat(self, call: Call) -> None:
+        self.accesses.stamp(self.behind(call, 1, 0), call.arguments[2])
+
+    def on_utimensat(self, call: Call) -> None:
+        # The second time is the stamp; where it is omitted, only the time of access changes.
+        if not call.arguments[2].endswith("UTIME_OMIT]"):
+            self.accesses.stamp(self.behind(call, 1, 0), call.arguments[2])
+
+    def on_chmod(self, call: Call) -> None:
+        self.owned(self.behind(call, 0), mode=call.arguments[1])
+
+    def on_fchmod(self, call: Call) -> None:
+        self.owned(self.descriptor(call.arguments[0]), mode=call.arguments[1])
+
+    def on_fchmodat(self, call: Call) -> None:
+        self.owned(self.behind(call, 1, 0), mode=call.arguments[2])
+
+    def on_chown(self, call: Call) -> None:
+        self.owned(self.behind(call, 0), user=call.arguments[1], group=call.arguments[2])
+
+    def on_lchown(self, call: Call) -> None:
+        self.owned(self.itself(call, 0), user=call.arguments[1], group=call.arguments[2])
+
+    def on_fchown(self, call: Call) -> None:
+        self.owned(
+            self.descriptor(call.arguments[0]), user=call.arguments[1], group=call.arguments[2]
+        )
+
+    def on_fchownat(self, call: Call) -> None:
+        self.owned(self.behind(call, 1, 0), user=call.arguments[2], group=call.arguments[3])
+
+    def owned(
+        self, path: str | None, mode: str = "-1", user: str = "-1", group: str = "-1"
+    ) -> None:
+        """A file or a folder gets permissions, a user or a group. Those that it had already change
+        nothing.
+        """
+        known = None if path is None else self.accesses.tree.owners.get(path)
+        if path is None or (
+            known is not None and not self.accesses.wrote(path) and same(known, mode, user, group)
+        ):
+            return
+        self.accesses.own(path)
+
+    def on_setxattr(self, call: Call) -> None:
+        self.accesses.own(self.behind(call, 0))
+
+    def on_lsetxattr(self, call: Call) -> None:
+        self.accesses.own(self.itself(call, 0))
+
+    def on_fsetxattr(self, call: Call) -> None:
+        path = self.descriptor(call.arguments[0])
+        if path is not None:
+            self.accesses.own(path)
+
+    def on_flock(self, call: Call) -> None:
+        """A lock is taken, or given back. It changes nothing that a recipe leaves."""
+        path = self.descriptor(call.arguments[0])
+        if path is not None and "LOCK_UN" not in call.arguments[1]:
+            self.accesses.locked.setdefault(path)
+            if "LOCK_NB" in call.arguments[1] or call.process in self.timed:
+                self.accesses.tried.setdefault(path)
+
+    def on_alarm(self, call: Call) -> None:
+        self.timed.add(call.process)
+
+    def on_chroot(self, call: Call) -> None:
+        self.accesses.strange.setdefault(call.name)
+
+    def on_open_tree(self, call: Call) -> None:
+        """What is opened below a copy of a tree has paths that begin there."""
+        if any("OPEN_TREE_CLONE" in argument for argument in call.arguments):
+            self.accesses.strange.setdefault(call.name)
+
+    def on_seccomp(self, call: Call) -> None:
+        """Another process may let calls pass before strace sees them."""
+        if any(LISTENER in argument for argument in call.arguments):
+            self.accesses.strange.setdefault(f"seccomp with {LISTENER}")
+
+    def on_unshare(self, call: Call) -> None:
+        self.standings[call.process] = Standing(self.standing(call).path)
+        for space in SPACES:
+            if space in call.arguments[0]:
+                self.accesses.strange.setdefault(f"unshare with {space}")
+
+    def on_setns(self, call: Call) -> None:
+        if not call.arguments[1].startswith(("CLONE_NEWNET", "CLONE_NEWUTS")):
+            self.accesses.strange.setdefault("setns")
+
+    def on_bind(self, call: Call) -> None:
+        """A process of the recipe is a server itself."""
+        socket, port = SOCKET.search(call.arguments[1]), PORT.search(call.arguments[1])
+        if socket is not None:
+            path = text_of(socket.group(2)) or ""
+            self.accesses.sockets.add(path)
+            if socket.group(1) and path:
+                self.accesses.ports.add(f"the socket @{path}")
+        elif port is not None and port.group(1) != "0":
+            self.accesses.ports.add(f"the port {port.group(1)}")
+
+    def on_connect(self, call: Call) -> None:
+        self.asked(call)
+
+    def on_sendto(self, call: Call) -> None:
+        self.asked(call)
+
+    def asked(self, call: Call) -> None:
+        """A server or another machine is asked, or told something. What it does for the recipe
+        isn't seen, and it may answer even where the call failed. Without an address in it, what is
+        asked is known from the call before.
+        """
+        address = " ".join(call.arguments[1:])
+        socket, host, port = SOCKET.search(address), ADDRESS.search(address), PORT.search(address)
+        if socket is not None:
+            path = text_of(socket.group(2)) or ""
+            plain = path.startswith(SYSTEM_SOCKETS) and RESOLVER not in path
+            if not plain and path not in self.accesses.sockets:
+                self.accesses.servers.setdefault(f"the socket {path}")
+        elif host is not None and port is not None and port.group(1) != "0":
+            self.accesses.servers.setdefault(f"{host.group(1)}, port {port.group(1)}")
+
+    def on_shmget(self, call: Call) -> None:
+        self.got(call, MEMORY)
+
+    def on_semget(self, call: Call) -> None:
+        self.got(call, SEMAPHORES)
+
+    def on_msgget(self, call: Call) -> None:
+        self.got(call, QUEUE)
+
+    def got(self, call: Call, kind: str) -> None:
+        """Something is got by a key, which others may have too."""
+        key = call.arguments[0]
+        self.held[kind, call.result] = ("", True)
+        if key not in PRIVATE:
+            name = f"{kind} {key}"
+            self.held[kind, call.result] = (name, "IPC_CREAT" in call.arguments[-1])
+            self.accesses.channels.setdefault(name)
+
+    def on_shmat(self, call: Call) -> None:
+        """What it got by no key came from elsewhere."""
+        if (MEMORY, call.arguments[0]) not in self.held:
+            self.accesses.channels.setdefault(f"{MEMORY} number {call.arguments[0]}")
+
+    def on_shmctl(self, call: Call) -> None:
+        self.let_go(call, MEMORY)
+
+    def on_semctl(self, call: Call) -> None:
+        self.let_go(call, SEMAPHORES)
+
+    def on_msgctl(self, call: Call) -> None:
+        self.let_go(call, QUEUE)
+
+    def let_go(self, call: Call, kind: str) -> None:
+        """What the recipe made and takes away itself hands nothing on, but only one recipe at a
+        time may do so."""
+        name, made = self.held.get((kind, call.arguments[0]), ("", False))
+        if name and made and any("IPC_RMID" in argument for argument in call.arguments):
+            self.accesses.channels.pop(name, None)
+            self.accesses.ports.add(name)
+
+    def on_mq_open(self, call: Call) -> None:
+        name = f"{QUEUE} /{text_of(call.arguments[0]) or ''}"
+        self.held[QUEUE, name] = (name, "O_CREAT" in call.arguments[1])
+        self.accesses.channels.setdefault(name)
+
+    def on_mq_unlink(self, call: Call) -> None:
+        name = f"{QUEUE} /{text_of(call.arguments[0]) or ''}"
+        if self.held.get((QUEUE, name), ("", False))[1]:
+            self.accesses.channels.pop(name, None)
+            self.accesses.ports.add(name)
+
+    def on_keyctl(self, _: Call) -> None:
+        self.accesses.channels.setdefault("keys that the kernel keeps")
+
+
+def same(known: Owner, mode: str, user: str, group: str) -> bool:
+    """Whether a file has these already: -1 asks for nothing."""
+    modes = mode == "-1" or int(mode, 8) & 0o7777 == known.mode
+    return modes and number(user) in (None, known.user) and number(group) in (None, known.group)
+
+
+def number(argument: str) -> int | None:
+    """The number of a user or a group; none for the one that changes nothing."""
+    return None if argument in ("-1", "4294967295") else int(argument)

@@ -1,0 +1,230 @@
+"""What is known of the project's folder while recipes run: its files, their modes, and its symbolic
+links.
+
+It is kept up to date from the calls that are traced, so that each path is followed over the links
+as they were at the call, and not as they are when the command has ended.
+"""
+
+from __future__ import annotations
+
+import os
+import stat
+from dataclasses import dataclass, field
+
+from mkcheck_tools.run.folders import entries_of
+from mkcheck_tools.run.places import Place
+
+LINKS_AT_MOST = 40
+
+
+@dataclass(frozen=True)
+class Owner:
+    """The permissions of a file, its user and its group."""
+
+    mode: int
+    user: int
+    group: int
+
+    @classmethod
+    def of(cls, status: os.stat_result) -> Owner:
+        """Those of a status."""
+        return cls(stat.S_IMODE(status.st_mode), status.st_uid, status.st_gid)
+
+
+@dataclass
+class Tree:
+    """The project's folder at one call. All paths are real ones, as commands see them."""
+
+    place: Place
+    there: set[str] = field(default_factory=set)
+    """Its files of each kind, and its links."""
+
+    folders: set[str] = field(default_factory=set)
+    links: dict[str, str] = field(default_factory=dict)
+    """The texts of its symbolic links, and of those that recipes made elsewhere."""
+
+    made: set[str] = field(default_factory=set)
+    """The links that recipes made."""
+
+    owners: dict[str, Owner] = field(default_factory=dict)
+    """The permissions of files and folders."""
+
+    users: dict[tuple[int, int], dict[str, str]] = field(default_factory=dict)
+    """For each file of several names the names that recipes used, each with the target of the first
+    recipe that did."""
+
+    elsewhere: dict[str, str | None] = field(default_factory=dict)
+    """The texts of other links elsewhere, each read once; None where a path is no link."""
+
+    followed: dict[str, tuple[str, tuple[str, ...]]] = field(default_factory=dict)
+    """What `follow` gave for a path."""
+
+    @classmethod
+    def of(cls, place: Place) -> Tree:
+        """The folder as it lies there now."""
+        tree = cls(place)
+        waiting = [(place.folder, place.seen)]
+        while waiting:
+            folder, seen = waiting.pop()
+            status = tree.status(seen)
+            if status is not None:
+                tree.owners[seen] = Owner.of(status)
+            for entry in entries_of(folder):
+                path = os.path.join(seen, entry.name)
+                if entry.is_dir(follow_symlinks=False):
+                    tree.folders.add(path)
+                    waiting.append((entry.path, path))
+                else:
+                    tree.note(path)
+        return tree
+
+    @property
+    def root(self) -> str:
+        """The folder's own path."""
+        return self.place.seen
+
+    def has(self, path: str) -> bool:
+        """Whether a path lies in the folder."""
+        return path.startswith(self.root + "/")
+
+    @property
+    def has_links(self) -> bool:
+        """Whether there is a symbolic link in the folder."""
+        return any(map(self.has, self.links))
+
+    def status(self, path: str) -> os.stat_result | None:
+        """The status of what stands at a path itself now, if anything does."""
+        try:
+            return os.lstat(self.place.real(path))
+        except OSError:
+            return None
+
+    def note(self, path: str) -> None:
+        """Notes the file that stands at a path now, with its permissions, or the link's text."""
+        status = self.status(path)
+        if status is None or stat.S_ISDIR(status.st_mode):
+            return
+        self.there.add(path)
+        if stat.S_ISLNK(status.st_mode):
+            self.link(path, os.readlink(self.place.real(path)))
+        else:
+            self.owners[path] = Owner.of(status)
+
+    def refresh(self, path: str) -> None:
+        """Notes what stands at a path now in place of what the calls told of it."""
+        status = self.status(path)
+        if status is None or stat.S_ISDIR(status.st_mode):
+            self.remove(path)
+            if status is not None:
+                self.folders.add(path)
+                self.owners[path] = Owner.of(status)
+            return
+        self.folders.discard(path)
+        if not stat.S_ISLNK(status.st_mode):
+            self.made.discard(path)
+            if self.links.pop(path, None) is not None:
+                self.followed.clear()
+        self.note(path)
+
+    def link(self, path: str, text: str) -> None:
+        """There is a link now."""
+        self.there.add(path)
+        if self.links.get(path) != text:
+            self.links[path] = text
+            self.followed.clear()
+
+    def remove(self, path: str) -> None:
+        """A file or a link is taken away."""
+        self.there.discard(path)
+        self.made.discard(path)
+        if self.links.pop(path, None) is not None:
+            self.followed.clear()
+        self.owners.pop(path, None)
+        if self.elsewhere.get(path) is not None:
+            self.elsewhere[path] = None
+            self.followed.clear()
+
+    def move(self, old: str, new: str) -> list[tuple[str, str]]:
+        """A file or a folder gets another name.
+
+        Returns the old and the new names of all files that go with it.
+        """
+        moved = [(path, new + path[len(old) :]) for path in self.inside(old)]
+        for path in self.inside(new):
+            self.remove(path)
+        kept = [
+            (goal, self.links.get(path), path in self.made, self.owners.get(path))
+            for path, goal in moved
+        ]
+        for path, _ in moved:
+            self.remove(path)
+        for goal, text, made, owner in kept:
+            self.there.add(goal)
+            if text is not None:
+                self.link(goal, text)
+            if made:
+                self.made.add(goal)
+            if owner is not None:
+                self.owners[goal] = owner
+        if old in self.folders:
+            inner = [path for path in self.folders if f"{path}/".startswith(f"{old}/")]
+            self.folders.difference_update(inner)
+            self.folders.update(new + path[len(old) :] for path in inner)
+            for path in inner:
+                self.owners.pop(path, None)
+        return moved
+
+    def inside(self, path: str) -> list[str]:
+        """The file at a path, or all files in the folder that stands there."""
+        if path in self.there and path not in self.folders:
+            return [path]
+        return sorted(other for other in self.there if other.startswith(path + "/"))
+
+    def link_at(self, path: str) -> str | None:
+        """The text of a symbolic link: in the folder as calls left it, elsewhere as it is now."""
+        text = self.links.get(path)
+        # Links below /proc lead elsewhere for each process, so they aren't followed.
+        if text is not None or self.has(path) or path == self.root or path.startswith("/proc/"):
+            return text
+        if path not in self.elsewhere:
+            try:
+                self.elsewhere[path] = os.readlink(path)
+            except OSError:
+                self.elsewhere[path] = None
+        return self.elsewhere[path]
+
+    def follow(self, path: str) -> tuple[str, tuple[str, ...]]:
+        """The real path that an absolute path leads to, and the real paths of links on the way."""
+        known = self.followed.get(path)
+        if known is not None:
+            return known
+        links: list[str] = []
+        done, rest = "/", path.split("/")
+        rest.reverse()
+        while rest:
+            part = rest.pop()
+            if part in ("", "."):
+                continue
+            if part == "..":
+                done = os.path.dirname(done)
+                continue
+            here = done + "/" + part if done != "/" else "/" + part
+            text = self.link_at(here) if len(links) < LINKS_AT_MOST else None
+            if text is None:
+                done = here
+                continue
+            links.append(here)
+            if text.startswith("/"):
+                done = "/"
+            rest.extend(reversed(text.split("/")))
+        self.followed[path] = (done, tuple(links))
+        return self.followed[path]
+
+    def own(self, path: str) -> tuple[str, tuple[str, ...]]:
+        """The real path of a name itself, be it a link, and the links on the way to its folder."""
+        front = path.rstrip("/")
+        folder, base = os.path.split(front)
+        if base in ("", ".", ".."):
+            return self.follow(path)
+        real, links = self.follow(folder)
+        return (real + "/" + base if real != "/" else "/" + base), links
