@@ -8,7 +8,7 @@ CRATE =
 FUZZ =
 CHECKED =
 
-.PHONY: all build demo proved check program edits growths recorder importer
+.PHONY: all build demo proved check cases program edits growths recorder importer
 .PHONY: report importcheck realcheck manuals pages fuzz bench install clean
 
 all: build
@@ -58,9 +58,12 @@ demo: build
 check:
 	@rt ci
 
-# Runs the program over real files, and compares its streams and its status.
+# Asks the program what the cases ask, in seconds, and runs it over real files: both compare
+# its streams and its status.
+cases: build
+	@pytest-3 -q tests/cases
 program: build
-	@python3 tests/program/run.py
+	@pytest-3 -q -n 4 tests/cases tests/program
 
 # Tries the wrong edits that the gate leaves out, those of all crates or of one:
 # the prover has to refuse each.
@@ -95,7 +98,7 @@ importcheck: build
 
 # Tries the makefiles and the sessions that the pages show.
 pages: build
-	@python3 tests/pages/run.py bin/mkcheck
+	@pytest-3 -q -n 4 tests/pages
 
 # Asks mkcheck and a second program, which was written from the documents, the same
 # random questions: new ones each time, of a seed that it prints. FUZZ has options

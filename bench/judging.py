@@ -18,7 +18,10 @@ from run import DATA, RUNS, asked
 from spending import in_turns, spent
 from verdicts import GROWTH_BOUND, Build, written
 
-LIBRARIES = "mk_cert mk_cert_text mk_foot mk_graph mk_infer mk_infer_select mk_lines mk_read mk_read_parse anyhow"
+LIBRARIES = (
+    "mk_build mk_cert mk_cert_text mk_find mk_foot mk_graph mk_infer mk_infer_select mk_lines "
+    "mk_read mk_read_parse mk_subject anyhow"
+)
 # What the run that builds the program is given: a makefile of one target, and its footprints.
 EMPTY = "all:\n"
 NO_BOOK = '{"format":1,"fixed":[],"sources":[],"records":[]}'

@@ -338,6 +338,14 @@ def sweep(program: str, name: str, shim: str) -> bool:
     return wanted > 0
 
 
+def compiled(folder: str) -> str:
+    """The library that refuses growths, compiled into a folder."""
+    shim = f"{folder}/refuse.so"
+    command = ["cc", "-O1", "-shared", "-fPIC", "-o", shim, str(HERE / "refuse.c")]
+    subprocess.run(command, check=True)
+    return shim
+
+
 def arguments() -> argparse.Namespace:
     parser = argparse.ArgumentParser(description=__doc__.split("\n", maxsplit=1)[0])
     parser.add_argument("program", nargs="?", default=os.environ.get("MKCHECK", str(PROGRAM)))
@@ -352,9 +360,7 @@ def main() -> int:
         return 0
     program = os.path.abspath(given.program)
     with tempfile.TemporaryDirectory() as folder:
-        shim = f"{folder}/refuse.so"
-        command = ["cc", "-O1", "-shared", "-fPIC", "-o", shim, str(HERE / "refuse.c")]
-        subprocess.run(command, check=True)
+        shim = compiled(folder)
         passed = [sweep(program, name, shim) for name in (GATE if given.gate else EXAMPLES)]
     print(f"growths: {len(passed)} examples, {passed.count(False)} of them wrong")
     return 0 if all(passed) else 1

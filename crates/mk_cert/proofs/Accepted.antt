@@ -2,17 +2,16 @@
 use Rattle.std.proofs.Common.{◌≡◌, ℕ, List, [], ◌∷◌, ◌∙◌, inl, inr, sym, subst}
 use Rattle.std.proofs.lemmas.List.Elements.{All-head}
 use Rattle.mk_graph.specs.Graph.{IsGraph}
-use Rattle.mk_graph.specs.GrowthLaws.{NamesHaveOneNumber}
+use Rattle.mk_build.specs.BuildLaws.{NamesHaveOneNumber}
 use Rattle.mk_graph.specs.Laws.{SerialReachesEachOnce}
 use Rattle.mk_graph.specs.Membership.{Has}
-use Rattle.mk_graph.specs.Right.{HaveWays}
-use Rattle.mk_graph.specs.Ways.{Way}
+use Rattle.mk_build.specs.Right.{HaveWays}
+use Rattle.mk_build.specs.Ways.{Way}
 use Rattle.mk_cert_text.specs.Certificate as value
-use Rattle.mk_cert.specs.Subject.{Subject, footprints}
-use Rattle.mk_cert.specs.Conditions.{IsRecipe}
+use Rattle.mk_subject.specs.Subject.{Subject, footprints, IsRecipe}
 use Rattle.mk_cert.specs.Verdict.{IsGood, NoneBad, NoneLacks}
-use Rattle.mk_cert.proofs.Paths.{path_is_way}
-use Rattle.mk_cert.proofs.Sound.{reader_has_recipe}
+use Rattle.mk_subject.proofs.Paths.{path_is_way}
+use Rattle.mk_subject.proofs.InOrder.{reader_has_recipe}
 use Rattle.mk_cert.proofs.Walks.{one_recipe}
 
 -- each entry of a list of which none is bad is good

@@ -7,16 +7,15 @@ use Rattle.std.proofs.lemmas.List.{get_or-set_same, get_or-set_other}
 use Rattle.std.proofs.lemmas.Slice.Eq.{bytes_eq-Decides}
 use Rattle.mk_lines.specs.Names.{has_name, with_name}
 use Rattle.mk_graph.specs.Graph.{IsGraph}
-use Rattle.mk_graph.specs.GrowthLaws.{NamesHaveOneNumber}
+use Rattle.mk_build.specs.BuildLaws.{NamesHaveOneNumber}
 use Rattle.mk_graph.specs.Membership.{Has}
 use Rattle.mk_cert_text.specs.Certificate.{Way}
-use Rattle.mk_cert.specs.Subject.{Subject, name_of}
-use Rattle.mk_cert.specs.Conditions.{IsRecipe}
-use Rattle.mk_cert.specs.WayTables.{AreSeen}
+use Rattle.mk_subject.specs.Subject.{Subject, name_of, IsRecipe}
+use Rattle.mk_cert.specs.WalkTables.{AreSeen}
 use Rattle.mk_cert.specs.Verdict.{IsGood, HasEntry, MayStand, NoneBad, IsFirstBad}
 use Rattle.mk_cert.specs.Checks.{Judges, HasSets}
 use Rattle.mk_cert.proofs.Walks.{recipe_is_node}
-use Rattle.mk_cert.proofs.Writing.{has_name_push}
+use Rattle.mk_subject.proofs.Writing.{has_name_push}
 
 either : (a b : Bool) → (a || b) ≡ true → (a ≡ true) ⊎ (b ≡ true)
 either true b t = inl refl

@@ -3,15 +3,18 @@ use Rattle.std.proofs.Common.{◌≡◌, List, [], ◌∷◌, ◌++◌, inl, inr
 use Rattle.std.specs.Prelude.{⊤, Result, Ok, Err}
 use Rattle.mk_graph.specs.Membership.{Has}
 use Rattle.mk_cert_text.specs.Certificate.{Way, Certificate}
-use Rattle.mk_cert.specs.declared.finding.Finding.{Finding}
+use Rattle.mk_find.specs.declared.finding.Finding.{Finding}
 use Rattle.mk_cert.specs.declared.fault.CertFault.{CertFault}
 use Rattle.mk_cert.specs.declared.fault.CertFault.TheVariants.{OtherGoals, NoWay, BadWay, Static, Memory}
-use Rattle.mk_cert.specs.Subject.{Subject, name_of}
-use Rattle.mk_cert.specs.Candidates.{Candidate, IsFinding, static_candidates, race_candidates}
-use Rattle.mk_cert.specs.Listed.{named}
-use Rattle.mk_cert.specs.Verdict.{IsFirstIn, NothingFound, NoneBad, IsFirstBad, Read, LacksWay, NoneLacks, Verifies}
-use Rattle.mk_cert.proofs.FirstOf.{none_of_both}
-use Rattle.mk_cert.proofs.Lists.{nothing_holds}
+use Rattle.mk_subject.specs.Subject.{Subject, name_of}
+use Rattle.mk_find.specs.Candidates.{Candidate, IsFinding, static_candidates, race_candidates}
+use Rattle.mk_find.specs.Listed.{named}
+use Rattle.mk_find.specs.Listing.{IsFirstIn}
+use Rattle.mk_find.specs.Findings.{NothingFound}
+use Rattle.mk_cert.specs.Verdict.{NoneBad, IsFirstBad, LacksWay, NoneLacks, Verifies}
+use Rattle.mk_subject.specs.Reads.{Read}
+use Rattle.mk_find.proofs.FirstOf.{none_of_both}
+use Rattle.mk_find.proofs.Lists.{nothing_holds}
 
 module _ {A : Type 0} where
   -- there is one first

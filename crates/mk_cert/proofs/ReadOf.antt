@@ -5,13 +5,12 @@ use Rattle.std.proofs.lemmas.Bool.{not-false}
 use Rattle.std.proofs.lemmas.Slice.Eq.{bytes_eq-Decides}
 use Rattle.mk_graph.specs.Membership.{Has}
 use Rattle.mk_graph.specs.Graph.{node}
-use Rattle.mk_cert.specs.Subject.{Subject, footprints, name_of, reads_of}
-use Rattle.mk_cert.specs.Conditions.{IsRecipe}
+use Rattle.mk_subject.specs.Subject.{Subject, footprints, name_of, reads_of, IsRecipe}
 use Rattle.mk_cert.specs.Cursor.{IsReadOf}
-use Rattle.mk_cert.specs.FileInfo.{known_of}
-use Rattle.mk_cert.specs.Settled.{is_settled}
-use Rattle.mk_cert.specs.Target.{Target, target_of, unsettled_of}
-use Rattle.mk_cert.proofs.FileDecided.{at_place}
+use Rattle.mk_subject.specs.FileInfo.{known_of}
+use Rattle.mk_subject.specs.Settled.{is_settled}
+use Rattle.mk_subject.specs.Target.{Target, target_of, unsettled_of}
+use Rattle.mk_subject.proofs.FileDecided.{at_place}
 
 -- what is kept of a list of names stands in it
 kept_step : (p : List ℕ → Bool) (g : List ℕ) (fs : List (List ℕ)) (f : List ℕ) (b : Bool) → (Has (filter p fs) f → Has fs f) → Has (cond b (g ∷ filter p fs) (filter p fs)) f → Has (g ∷ fs) f

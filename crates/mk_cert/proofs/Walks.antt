@@ -6,14 +6,14 @@ use Rattle.std.proofs.lemmas.List.{get_or_past}
 use Rattle.std.proofs.lemmas.List.Elements.{All-nil, All-cons, All-head, All-tail}
 use Rattle.mk_graph.specs.declared.node.Node.{Node}
 use Rattle.mk_graph.specs.Graph.{IsGraph, node, no_node}
-use Rattle.mk_graph.specs.GrowthLaws.{NamesHaveOneNumber}
-use Rattle.mk_graph.specs.Ways.{Carries}
+use Rattle.mk_build.specs.BuildLaws.{NamesHaveOneNumber}
+use Rattle.mk_build.specs.Ways.{Carries}
 use Rattle.mk_cert_text.specs.Certificate.{Way}
 use Rattle.mk_cert_text.specs.declared.certificate.Finish.TheVariants.{Written}
-use Rattle.mk_cert.specs.Subject.{Subject, footprints, name_of}
-use Rattle.mk_cert.specs.Conditions.{IsRecipe}
-use Rattle.mk_cert.specs.Paths.{AreCarried, last_of, EndsAt}
-use Rattle.mk_cert.specs.Verdict.{IsGood, NeedsWay}
+use Rattle.mk_subject.specs.Subject.{Subject, footprints, name_of, IsRecipe}
+use Rattle.mk_subject.specs.Paths.{AreCarried, last_of, EndsAt}
+use Rattle.mk_cert.specs.Verdict.{IsGood}
+use Rattle.mk_subject.specs.Reads.{NeedsWay}
 use Rattle.mk_cert.specs.Walking.{GoesOver}
 
 -- the first names of two lists that are equal, and the others

@@ -1,22 +1,16 @@
 -- What each test of a certificate returns; together they make up `Verifies`.
-use Rattle.std.specs.Prelude.{◌≡◌, ⊤, ℕ, Bool, true, false, List, [], ◌∷◌, ◌++◌, length, map, Option, None, Some, Result, Ok, Err}
+use Rattle.std.specs.Prelude.{◌≡◌, ⊤, ℕ, Bool, true, false, List, [], ◌∷◌, ◌++◌, length, map, Result, Ok, Err}
 use Rattle.mk_cert_text.specs.Certificate.{Way}
+use Rattle.mk_subject.specs.Subject.{Subject, name_of, reads_of}
+use Rattle.mk_subject.specs.Reads.{Read, all_reads}
+use Rattle.mk_find.specs.Candidates.{Candidate, IsFinding, static_candidates, race_candidates}
+use Rattle.mk_find.specs.Listing.{IsFirstIn}
+use Rattle.mk_find.specs.Listed.{named}
+use Rattle.mk_find.specs.Findings.{NothingFound}
 use Rattle.mk_cert.specs.declared.fault.CertFault.{CertFault}
 use Rattle.mk_cert.specs.declared.fault.CertFault.TheVariants.{NoWay, BadWay, Static}
-use Rattle.mk_cert.specs.declared.finding.Finding.{Finding}
-use Rattle.mk_cert.specs.Subject.{Subject, name_of, reads_of}
-use Rattle.mk_cert.specs.Candidates.{Candidate, IsFinding, static_candidates, race_candidates}
-use Rattle.mk_cert.specs.Listing.{Lists}
-use Rattle.mk_cert.specs.Listed.{named}
-use Rattle.mk_cert.specs.WayTables.{AreSeen}
-use Rattle.mk_cert.specs.Verdict.{IsFirstIn, NothingFound, MayStand, NoneBad, IsFirstBad, Read, all_reads, LacksWay, NoneLacks}
-
--- The result is the first candidate whose condition holds, as a finding, or `None` if there is no
--- such candidate.
-abbrev pub IsFirstFinding : Subject → List Candidate → Option Finding → Type 0
-IsFirstFinding x all None = Lists x all []
-IsFirstFinding x all (Some finding) =
-    (k : Candidate) × IsFirstIn (IsFinding x) all k × (finding ≡ named x k)
+use Rattle.mk_cert.specs.WalkTables.{AreSeen}
+use Rattle.mk_cert.specs.Verdict.{MayStand, NoneBad, IsFirstBad, LacksWay, NoneLacks}
 
 -- `Ok` means that there is no static finding and no race; else the error is `Static` with the first
 -- one.

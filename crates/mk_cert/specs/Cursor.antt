@@ -1,9 +1,8 @@
 -- A read, found by the names of its recipe and its file.
 use Rattle.std.specs.Prelude.{◌≡◌, ℕ, List}
 use Rattle.mk_graph.specs.Membership.{Has}
-use Rattle.mk_cert.specs.Conditions.{IsRecipe}
-use Rattle.mk_cert.specs.Subject.{Subject, name_of, reads_of}
-use Rattle.mk_cert.specs.Target.{Target, target_of}
+use Rattle.mk_subject.specs.Subject.{IsRecipe, Subject, name_of, reads_of}
+use Rattle.mk_subject.specs.Target.{Target, target_of}
 
 -- The node t is the recipe with this name, it reads the file with this name, and `target` is that
 -- file with all that is known about it.

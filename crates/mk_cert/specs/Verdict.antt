@@ -1,35 +1,17 @@
 -- The answer to a certificate.
 use Rattle.std.specs.Prelude.{◌≡◌, ⊤, ℕ, List, [], ◌∷◌, ◌++◌, All, map, ◌⊎◌, Result, Ok, Err}
-use Rattle.std.specs.List.{flat_map}
-use Rattle.mk_graph.specs.Membership.{Has}
-use Rattle.mk_graph.specs.Serial.{serial_order}
-use Rattle.mk_graph.specs.Ways.{CanChange}
 use Rattle.mk_cert_text.specs.Certificate.{Way, Certificate}
+use Rattle.mk_graph.specs.Membership.{Has}
+use Rattle.mk_subject.specs.Subject.{Subject, footprints, name_of, IsRecipe}
+use Rattle.mk_subject.specs.Paths.{IsPath}
+use Rattle.mk_subject.specs.Reads.{Read, NeedsWay, all_reads}
+use Rattle.mk_find.specs.Candidates.{Candidate, IsFinding, static_candidates, race_candidates}
+use Rattle.mk_find.specs.Listed.{named}
+use Rattle.mk_find.specs.Listing.{IsFirstIn}
+use Rattle.mk_find.specs.Findings.{NothingFound}
+use Rattle.mk_find.specs.Certifying.{HasGoals}
 use Rattle.mk_cert.specs.declared.fault.CertFault.{CertFault}
 use Rattle.mk_cert.specs.declared.fault.CertFault.TheVariants.{OtherGoals, NoWay, BadWay, Static, Memory}
-use Rattle.mk_cert.specs.Subject.{Subject, footprints, name_of, reads_of}
-use Rattle.mk_cert.specs.Conditions.{IsRecipe}
-use Rattle.mk_cert.specs.Candidates.{Candidate, IsFinding, static_candidates, race_candidates}
-use Rattle.mk_cert.specs.Listing.{Lists}
-use Rattle.mk_cert.specs.Listed.{named}
-use Rattle.mk_cert.specs.Paths.{IsPath}
-
--- It is the first element of the list that meets the condition.
-abbrev pub IsFirstIn : {A : Type 0} → (A → Type 0) → List A → A → Type 0
-IsFirstIn P [] found = ⊥
-IsFirstIn P (x ∷ xs) found = (P x × (x ≡ found)) ⊎ ((¬ (P x)) × IsFirstIn P xs found)
-
--- The certificate's goals are those of the graph, in their order.
-abbrev pub HasGoals : Subject → Certificate → Type 0
-HasGoals x c = c.goals ≡ map (name_of x) x.graph.goals
-
--- There is no static finding (1 to 9, 12) and no race (10).
-abbrev pub NothingFound : Subject → Type 0
-NothingFound x = Lists x (static_candidates x) [] × Lists x (race_candidates x) []
-
--- The recipe reads the file, and the file can change.
-abbrev pub NeedsWay : Subject → ℕ → List ℕ → Type 0
-NeedsWay x t f = Has (reads_of x t) f × CanChange (footprints x.setting) f
 
 -- An entry is good: its path names recipes, begins with the entry's recipe, and leads to its file
 -- with the end that it says; and this read needs a way.
@@ -61,18 +43,6 @@ IsFirstBad x before [] found = ⊥
 IsFirstBad x before (w ∷ ways) found =
     ((¬ (MayStand x before w)) × (w ≡ found)) ⊎
     (MayStand x before w × IsFirstBad x (w ∷ before) ways found)
-
--- A recipe and a file that it reads.
-pub record Read : Type 0 where
-  pub recipe : ℕ
-  pub file : List ℕ
-
--- All reads of recipes: by the position of the recipe in the serial order, then of the file in its
--- record.
-abbrev pub all_reads : Subject → List Read
-all_reads x =
-    flat_map (λ t. map (λ f. record { recipe = t; file = f }) (reads_of x t))
-    (serial_order x.graph)
 
 -- The read needs a way and has no entry.
 abbrev pub LacksWay : Subject → List Way → Read → Type 0

@@ -1,11 +1,10 @@
 -- Walking along the names of a path.
 use Rattle.std.specs.Prelude.{◌≡◌, ℕ, List, [], ◌∷◌}
-use Rattle.mk_graph.specs.Ways.{Carries}
 use Rattle.mk_cert_text.specs.Certificate.{Way}
 use Rattle.mk_cert_text.specs.declared.certificate.Finish.TheVariants.{Written}
-use Rattle.mk_cert.specs.Paths.{EndsAt}
-use Rattle.mk_cert.specs.Subject.{Subject, footprints, name_of}
-use Rattle.mk_cert.specs.Conditions.{IsRecipe}
+use Rattle.mk_build.specs.Ways.{Carries}
+use Rattle.mk_subject.specs.Paths.{EndsAt}
+use Rattle.mk_subject.specs.Subject.{Subject, footprints, name_of, IsRecipe}
 
 -- From recipe t, following these names leads to `last`: each name is that of a recipe that the one
 -- before carries.

@@ -3,8 +3,7 @@
 ghost use Rattle.std.specs.Prelude.{IfSome};
 ghost use Rattle.mk_cert.specs.Cursor.{IsReadOf};
 
-use crate::subject::Subject;
-use crate::target::Target;
+use mk_subject::{Subject, Target};
 use std::alloc::{AllocError, Global};
 
 /// A recipe and a file that it reads.

@@ -3,7 +3,7 @@
 ghost use Rattle.std.specs.Prelude.{◌≡◌};
 ghost use Rattle.mk_cert.specs.declared.fault.CertFault.TheVariants.{Memory};
 
-use crate::finding::Finding;
+use mk_find::Finding;
 use mk_lines::Name;
 use std::alloc::{AllocError, AllocFailed};
 use thiserror::Error;

@@ -1,8 +1,9 @@
 //! Checks the entries of a certificate, in their order.
 
-ghost use Rattle.std.specs.Prelude.{◌≡◌, ◌<◌, ◌↔◌, ◌⊎◌, ℕ, [], not, length, slice_index_or, slice_set, Err, IfOk, IfSome, OnOk};
+ghost use Rattle.std.specs.Prelude.{◌≡◌, ◌<◌, ◌⊎◌, ℕ, [], not, length, slice_index_or, slice_set, Err, IfOk, IfSome, OnOk};
 ghost use Rattle.mk_lines.specs.Names.{has_name, with_name};
-ghost use Rattle.mk_cert.specs.WayTables.{AreLinks, AreSeen, HoldReads};
+ghost use Rattle.mk_subject.specs.WayTables.{AreLinks};
+ghost use Rattle.mk_cert.specs.WalkTables.{AreSeen, HoldReads};
 ghost use Rattle.mk_cert.specs.Checks.{AnswersEntries, HasSets, Judges};
 ghost use Rattle.mk_cert.specs.declared.fault.CertFault.TheVariants.{BadWay, Memory};
 
@@ -10,12 +11,11 @@ use crate::cursor::Cursor;
 use crate::fault::CertFault;
 use crate::read_lists::ReadLists;
 use crate::seen_names::SeenNames;
-use crate::subject::Subject;
 use crate::walking::good_start;
-use crate::way_tables::WayTables;
+use mk_build::build_laws::names_have_one_number;
 use mk_cert_text::{Way, Ways};
-use mk_graph::growth_laws::names_have_one_number;
 use mk_lines::Name;
+use mk_subject::{Subject, WayTables};
 use std::alloc::{AllocError, Global};
 
 /// `count` empty sets.

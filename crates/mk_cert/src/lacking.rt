@@ -3,22 +3,22 @@
 ghost use Rattle.std.specs.Prelude.{◌≡◌, ◌⊎◌, ◌↔◌, List, true, Err, IfOk, MatchOption};
 ghost use Rattle.mk_graph.specs.Membership.{Has};
 ghost use Rattle.mk_cert_text.specs.Certificate.{Way};
-ghost use Rattle.mk_cert.specs.Subject.{reads_of};
-ghost use Rattle.mk_cert.specs.NodeRow.{IsEntry};
-ghost use Rattle.mk_cert.specs.WayTables.{AreSeen};
-ghost use Rattle.mk_cert.specs.Target.{target_of};
-ghost use Rattle.mk_cert.specs.Verdict.{IsFirstIn, Read, LacksWay};
+ghost use Rattle.mk_subject.specs.Subject.{reads_of};
+ghost use Rattle.mk_subject.specs.NodeRow.{IsEntry};
+ghost use Rattle.mk_cert.specs.WalkTables.{AreSeen};
+ghost use Rattle.mk_subject.specs.Target.{target_of};
+ghost use Rattle.mk_find.specs.Listing.{IsFirstIn};
+ghost use Rattle.mk_subject.specs.Reads.{Read};
+ghost use Rattle.mk_cert.specs.Verdict.{LacksWay};
 ghost use Rattle.mk_cert.specs.Checks.{AnswersReads, reads_by};
 ghost use Rattle.mk_cert.specs.declared.fault.CertFault.TheVariants.{Memory, NoWay};
 
 use crate::fault::CertFault;
-use crate::node_row::NodeRow;
 use crate::seen_names::SeenNames;
-use crate::subject::Subject;
-use crate::target::Target;
 use crate::walking::stands_at;
 use mk_graph::laws::serial_reaches_each_once;
 use mk_lines::Name;
+use mk_subject::{NodeRow, Subject, Target};
 use std::alloc::{AllocError, Global};
 
 /// Whether the file can change and isn't in the recipe's set of `seen`.

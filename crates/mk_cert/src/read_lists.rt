@@ -3,15 +3,13 @@
 ghost use Rattle.std.specs.Prelude.{◌≡◌, ◌↔◌, ℕ, List, [], None, true, slice_index_or, IfOk, IfSome, OnOk};
 ghost use Rattle.mk_lines.specs.Names.{has_name};
 ghost use Rattle.mk_graph.specs.Membership.{Has};
-ghost use Rattle.mk_graph.specs.Setting as build;
-ghost use Rattle.mk_cert.specs.WayTables.{HoldReads};
-ghost use Rattle.mk_cert.specs.Subject.{footprints, reads_of};
+ghost use Rattle.mk_build.specs.Setting as build;
+ghost use Rattle.mk_cert.specs.WalkTables.{HoldReads};
+ghost use Rattle.mk_subject.specs.Subject.{footprints, reads_of};
 
-use crate::name_list::NameList;
-use crate::records::Records;
-use crate::subject::Subject;
 use mk_foot::Setting;
 use mk_graph::Graph;
+use mk_subject::{NameList, Records, Subject};
 use std::alloc::{AllocError, Global};
 
 /// For each node, at its number, the files that its recipe reads. They are built on the first

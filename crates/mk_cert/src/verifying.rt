@@ -1,24 +1,22 @@
 //! Checks a certificate.
 
 ghost use Rattle.std.specs.Prelude.{◌≡◌, ◌⊎◌, ◌↔◌, true, map, Err, OnOk};
-ghost use Rattle.mk_graph.specs.Right.{IsRight};
+ghost use Rattle.mk_build.specs.Right.{IsRight};
 ghost use Rattle.mk_infer.specs.Laws.{StaysSelected};
-ghost use Rattle.mk_cert.specs.Conditions.{all_writes};
-ghost use Rattle.mk_cert.specs.Subject.{footprints, name_of};
-ghost use Rattle.mk_cert.specs.Laws.{IsRightOnce, PartsStay};
+ghost use Rattle.mk_subject.specs.Subject.{all_writes, footprints, name_of};
+ghost use Rattle.mk_cert.specs.Laws.{IsRightOnce};
+ghost use Rattle.mk_find.specs.FindingLaws.{PartsStay};
 ghost use Rattle.mk_cert.specs.Verdict.{Verifies};
 ghost use Rattle.mk_cert.specs.Checks.{AnswersFound, AnswersWays};
 ghost use Rattle.mk_cert.specs.declared.fault.CertFault.TheVariants.{Memory};
 
-use crate::carrying::carried_lists;
 use crate::fault::CertFault;
-use crate::first::{first_race, first_static};
 use crate::judging::{check_entries, empty_sets};
 use crate::lacking::check_reads;
 use crate::laws::verified_is_right;
-use crate::subject::Subject;
-use crate::way_tables::way_tables_of;
 use mk_cert_text::{Certificate, PackedNames, Ways};
+use mk_find::{first_race, first_static};
+use mk_subject::{Subject, carried_lists, way_tables_of};
 use std::alloc::Global;
 
 /// Whether `names` are the names of the goals, in their order.

@@ -3,38 +3,21 @@
 ghost use Rattle.std.specs.Prelude.{◌≡◌, ◌↔◌, ℕ, [], true, drop, slice_index_or, IfOk, IfSome, MatchOption, OnOk};
 ghost use Rattle.mk_lines.specs.Names.{has_name};
 ghost use Rattle.mk_graph.specs.Membership.{Has};
-ghost use Rattle.mk_graph.specs.Setting.{HasDirectPrerequisite};
-ghost use Rattle.mk_cert.specs.Subject.{footprints, name_of, reads_of};
-ghost use Rattle.mk_cert.specs.Conditions.{IsRecipe};
+ghost use Rattle.mk_subject.specs.Subject.{name_of, reads_of, IsRecipe};
 ghost use Rattle.mk_cert.specs.Cursor.{IsReadOf};
-ghost use Rattle.mk_cert.specs.Paths.{EndsAt};
 ghost use Rattle.mk_cert.specs.Verdict.{IsGood};
-ghost use Rattle.mk_cert.specs.WayTables.{AreEnds, AreLinks, HoldReads};
-ghost use Rattle.mk_cert.specs.Target.{target_of};
+ghost use Rattle.mk_subject.specs.WayTables.{AreLinks};
+ghost use Rattle.mk_cert.specs.WalkTables.{HoldReads};
+ghost use Rattle.mk_subject.specs.Target.{target_of};
 ghost use Rattle.mk_cert.specs.Walking.{GoesOver, LeadsToFile};
 
 use crate::cursor::{Cursor, NamedRead};
-use crate::number_list::NumberList;
 use crate::read_lists::ReadLists;
 use crate::seen_names::SeenNames;
-use crate::subject::Subject;
-use crate::target::Target;
-use crate::way_tables::{EndTables, WayTables};
-use crate::writer_findings::has_number;
+use mk_build::build_laws::names_have_one_number;
 use mk_cert_text::{Finish, Path, Way};
-use mk_graph::growth_laws::names_have_one_number;
-use mk_graph::laws::serial_reaches_each_once;
+use mk_subject::{Subject, Target, WayTables, ends_at, has_at};
 use std::alloc::{AllocError, Global};
-
-/// Whether the number is in the list at an index.
-fn has_at(lists: &[NumberList<'_>], place: usize, number: usize) -> bool
-    ensures { (result ≡ true) ↔ Has (slice_index_or lists.now place []) number }
-{
-    match lists.get(place) {
-        Some(list) => list.has(number),
-        None => false,
-    }
-}
 
 /// Whether the name is in the set at an index.
 pub fn stands_at(sets: &[SeenNames<'_>], place: usize, name: &str) -> bool
@@ -121,44 +104,6 @@ fn last_over(
         last = next;
     }
     Some(last)
-}
-
-/// Whether the file is a direct prerequisite of the node.
-fn needs(subject: &Subject<'_>, ends: &EndTables<'_>, number: usize, file: &Target<'_>) -> bool
-    requires ends { AreEnds subject.now ends.now.needed.items
-        ends.now.always.items }
-    requires file { file.now ≡ target_of subject.now file.now.file }
-    ensures { (result ≡ true) ↔ HasDirectPrerequisite subject.now.graph number file.now.file }
-{
-    names_have_one_number();
-    let _graph = subject.graph();
-    let known = file.known;
-    has_at(&ends.needed, number, known.number)
-}
-
-/// Whether a path to the file may end at this recipe with this `finish`. Without `TwoWriters`
-/// findings a file has one writer, so a linear search of its writers is fast.
-pub fn ends_at(
-    subject: &Subject<'_>,
-    ends: &EndTables<'_>,
-    file: &Target<'_>,
-    finish: Finish,
-    number: usize,
-) -> bool
-    requires ends { AreEnds subject.now ends.now.needed.items
-        ends.now.always.items }
-    requires file { file.now ≡ target_of subject.now file.now.file }
-    ensures { (result ≡ true) ↔ EndsAt subject.now.graph (footprints subject.now.setting)
-        file.now.file finish number }
-{
-    serial_reaches_each_once();
-    let _graph = subject.graph();
-    let known = file.known;
-    match finish {
-        Finish::Written => has_number(file.writers(), number),
-        Finish::Source => known.editable && needs(subject, ends, number, file),
-        Finish::Always => ends.always.get(number) == Some(&true),
-    }
 }
 
 /// Whether the path of the entry leads from its first recipe, `start`, to its file.

@@ -8,9 +8,9 @@ use Rattle.mk_lines.specs.Names.{begins_with_any, has_name}
 use Rattle.mk_graph.specs.Graph.{Graph, IsGraph}
 use Rattle.mk_graph.specs.Lists.{has_left, has_right}
 use Rattle.mk_graph.specs.Membership.{Has, IsWithin}
-use Rattle.mk_graph.specs.Setting.{FileName}
-use Rattle.mk_graph.specs.Steps.{Step, IsLegal, disk_after}
-use Rattle.mk_graph.specs.World.{Disk, Idle, IsStartDisk}
+use Rattle.mk_build.specs.Setting.{FileName}
+use Rattle.mk_build.specs.Steps.{Step, IsLegal, disk_after}
+use Rattle.mk_build.specs.World.{Disk, Idle, IsStartDisk}
 use Rattle.mk_read.specs.Reading.{Makefile}
 use Rattle.mk_read.specs.Rules.{has_some}
 use Rattle.mk_infer.specs.Inference.{choice, commands_from, may_infer, stem}
@@ -18,9 +18,9 @@ use Rattle.mk_infer.specs.Laws.{GraphStaysSelected, NodesKeepTheirChoices, Parts
 use Rattle.mk_infer.specs.Selection.{Selects}
 use Rattle.mk_infer.specs.Targets.{is_target}
 use Rattle.mk_infer.specs.There.{Exists, is_there}
-use Rattle.mk_cert.specs.Conditions.{all_writes}
-use Rattle.mk_cert.specs.Laws.{AllWritesExactly, VerifiedIsRight}
-use Rattle.mk_cert.specs.Subject.{Subject, IsSubject, footprints, name_of}
+use Rattle.mk_subject.specs.Subject.{all_writes, Subject, IsSubject, footprints, name_of}
+use Rattle.mk_subject.specs.Laws.{AllWritesExactly}
+use Rattle.mk_cert.specs.Laws.{VerifiedIsRight}
 use Rattle.mk_cert_laws.specs.Disks.{AreThere, IsKnown, IsSelectedAnew, PartsAreSelectedAnew}
 use Rattle.mk_cert_laws.specs.Laws.{AcceptedIsSelectedAnew, FilesAreKnown}
 

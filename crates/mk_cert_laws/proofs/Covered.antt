@@ -14,11 +14,11 @@ use Rattle.mk_graph.specs.Serial.{serial_order}
 use Rattle.mk_infer.specs.Commands.{Commands, commands}
 use Rattle.mk_infer.specs.Laws.{StaysSelected, with_more}
 use Rattle.mk_infer.specs.There.{Exists}
-use Rattle.mk_cert.specs.Candidates.{Candidate, IsFinding, by_node, by_number, no_record, other_commands, varying_commands, static_candidates}
-use Rattle.mk_cert.specs.Conditions.{IsRecipe, all_writes}
-use Rattle.mk_cert.specs.Laws.{ListedExactly, NothingFoundIsSound, VerifiedIsRight}
-use Rattle.mk_cert.specs.Listing.{Lists}
-use Rattle.mk_cert.specs.Subject.{Subject, IsSubject, commands_of, name_of, record_of}
+use Rattle.mk_find.specs.Candidates.{Candidate, IsFinding, by_node, by_number, no_record, other_commands, varying_commands, static_candidates}
+use Rattle.mk_subject.specs.Subject.{IsRecipe, all_writes, Subject, IsSubject, commands_of, name_of, record_of}
+use Rattle.mk_find.specs.FindingLaws.{ListedExactly, NothingFoundIsSound}
+use Rattle.mk_cert.specs.Laws.{VerifiedIsRight}
+use Rattle.mk_find.specs.Listing.{Lists}
 use Rattle.mk_cert_laws.specs.Covered.{IsCovered, commands_with}
 use Rattle.mk_cert_laws.specs.Laws.{RecipesAreCovered}
 

@@ -5,9 +5,9 @@ use Rattle.std.proofs.lemmas.Bool.{and_parts, cond-false}
 use Rattle.std.proofs.lemmas.Slice.Eq.{bytes_eq-Decides}
 use Rattle.mk_lines.specs.Names.{begins_with_any, has_name}
 use Rattle.mk_graph.specs.Graph.{Graph}
-use Rattle.mk_graph.specs.Setting.{FileName, Setting, is_editable}
-use Rattle.mk_graph.specs.Steps.{Step, Edit, Make, Begin, Look, Put, End, Pass, Stop, EndMake, Allowed, IsLegal, after, after_all}
-use Rattle.mk_graph.specs.World.{Disk, File, World, Idle, Busy, disk_of, written}
+use Rattle.mk_build.specs.Setting.{FileName, Setting, is_editable}
+use Rattle.mk_build.specs.Steps.{Step, Edit, Make, Begin, Look, Put, End, Pass, Stop, EndMake, Allowed, IsLegal, after, after_all}
+use Rattle.mk_build.specs.World.{Disk, File, World, Idle, Busy, disk_of, written}
 use Rattle.mk_cert_laws.specs.Disks.{IsKnown, IsOn}
 use Rattle.mk_cert_laws.specs.Laws.{FilesAreKnown}
 

@@ -6,8 +6,7 @@ use Rattle.mk_foot.specs.Book.{Record}
 use Rattle.mk_infer.specs.Commands.{Commands, commands}
 use Rattle.mk_infer.specs.Laws.{with_more}
 use Rattle.mk_infer.specs.declared.fault.InferFault.{InferFault}
-use Rattle.mk_cert.specs.Conditions.{all_writes}
-use Rattle.mk_cert.specs.Subject.{Subject, name_of, record_of, writes_of}
+use Rattle.mk_subject.specs.Subject.{all_writes, Subject, name_of, record_of, writes_of}
 
 -- The commands that make would run for a node if these files existed too.
 abbrev pub commands_with : Subject → List (List ℕ) → ℕ → Result Commands InferFault

@@ -3,11 +3,11 @@ use Rattle.std.specs.Prelude.{◌≡◌, ◌⊎◌, ℕ, List, Some, true, false
 use Rattle.mk_lines.specs.Names.{begins_with_any}
 use Rattle.mk_graph.specs.Graph.{Graph}
 use Rattle.mk_graph.specs.Membership.{Has, IsWithin}
-use Rattle.mk_graph.specs.Setting.{FileName, Setting, is_given, writes}
-use Rattle.mk_graph.specs.Steps.{Step, IsLegal, disk_after}
-use Rattle.mk_graph.specs.World.{Disk, File, Idle, IsStartDisk}
+use Rattle.mk_build.specs.Setting.{FileName, Setting, is_given, writes}
+use Rattle.mk_build.specs.Steps.{Step, IsLegal, disk_after}
+use Rattle.mk_build.specs.World.{Disk, File, Idle, IsStartDisk}
 use Rattle.mk_infer.specs.Laws.{IsPartOf, IsSelectedAlike}
-use Rattle.mk_cert.specs.Subject.{Subject, footprints}
+use Rattle.mk_subject.specs.Subject.{Subject, footprints}
 
 -- The file is on the disk.
 abbrev pub IsOn : Disk → FileName → Type 0

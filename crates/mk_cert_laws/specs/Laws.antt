@@ -4,11 +4,10 @@ use Rattle.std.specs.List.{list_all}
 use Rattle.mk_lines.specs.Paths.{is_plain_path}
 use Rattle.serde_json.specs.Written.{compact_text}
 use Rattle.mk_graph.specs.Graph.{Graph, IsGraph}
-use Rattle.mk_graph.specs.Setting.{FileName, Setting}
-use Rattle.mk_graph.specs.Steps.{Step, IsLegal, disk_after}
-use Rattle.mk_graph.specs.World.{Disk, Idle, IsStartDisk}
-use Rattle.mk_cert.specs.Conditions.{IsRecipe}
-use Rattle.mk_cert.specs.Subject.{Subject, IsSubject, name_of}
+use Rattle.mk_build.specs.Setting.{FileName, Setting}
+use Rattle.mk_build.specs.Steps.{Step, IsLegal, disk_after}
+use Rattle.mk_build.specs.World.{Disk, Idle, IsStartDisk}
+use Rattle.mk_subject.specs.Subject.{IsRecipe, Subject, IsSubject, name_of}
 use Rattle.mk_cert.specs.Verdict.{Verifies}
 use Rattle.mk_cert_text.specs.Certificate.{Certificate}
 use Rattle.mk_cert_text.specs.Laws.{names_of}

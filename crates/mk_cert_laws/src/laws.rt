@@ -3,12 +3,12 @@
 
 ghost use Rattle.mk_cert_laws.specs.Laws.{AcceptedIsSelectedAnew, FilesAreKnown, LineIsReadBack, RecipesAreCovered};
 
-use mk_cert::laws::{
-    all_writes_exactly, listed_exactly, nothing_found_is_sound, verified_is_right,
-};
+use mk_cert::laws::verified_is_right;
 use mk_cert_text::laws::text_is_read_back;
+use mk_find::finding_laws::{listed_exactly, nothing_found_is_sound};
 use mk_graph::laws::serial_reaches_each_once;
 use mk_infer_laws::laws::{graph_stays_selected, parts_stay_selected};
+use mk_subject::laws::all_writes_exactly;
 
 /// If a certificate is accepted, each recipe of the graph has a record with the commands that make
 /// would run, which don't vary, and writes its target, unless that is phony.

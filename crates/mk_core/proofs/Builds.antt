@@ -2,9 +2,9 @@
 use Rattle.std.proofs.Common.{◌≡◌, ◌⊎◌, ◌∙◌, ℕ, true, false, List, Result, Ok, Err, map, inl, inr, refl, sym, ap, subst}
 use Rattle.mk_graph.specs.Graph as value
 use Rattle.mk_graph.specs.Graph.{IsGraph}
-use Rattle.mk_cert.specs.NodeRow.{IsFaultOf}
-use Rattle.mk_cert.specs.Laws.{SelectedGoals}
-use Rattle.mk_cert.specs.Subject.{Subject, IsSubject, name_of, subject_of}
+use Rattle.mk_subject.specs.NodeRow.{IsFaultOf}
+use Rattle.mk_subject.specs.Laws.{SelectedGoals}
+use Rattle.mk_subject.specs.Subject.{Subject, IsSubject, name_of, subject_of}
 use Rattle.mk_foot.specs.Setting.{Setting}
 use Rattle.mk_infer.specs.Selection.{Selects}
 use Rattle.mk_infer.specs.There.{Exists}

@@ -4,14 +4,14 @@ use Rattle.std.specs.Prelude.{⊤}
 use Rattle.std.specs.Option.{ok_or}
 use Rattle.mk_graph.specs.Graph as value
 use Rattle.mk_graph.specs.Graph.{IsGraph}
-use Rattle.mk_cert.specs.Conditions.{all_writes}
-use Rattle.mk_cert.specs.Laws.{PartsStay, SelectedGoals, VerifiedIsRight}
-use Rattle.mk_cert.specs.Subject.{Subject, IsSubject}
+use Rattle.mk_subject.specs.Subject.{all_writes, Subject, IsSubject}
+use Rattle.mk_find.specs.FindingLaws.{PartsStay, NoFindings}
+use Rattle.mk_subject.specs.Laws.{SelectedGoals}
+use Rattle.mk_cert.specs.Laws.{VerifiedIsRight, CertificateIsAccepted}
 use Rattle.mk_cert.specs.Verdict.{Verifies}
 use Rattle.mk_cert.specs.declared.fault.CertFault.{CertFault}
 use Rattle.mk_cert_laws.specs.Disks.{IsSelectedAnew, PartsAreSelectedAnew}
 use Rattle.mk_cert_laws.specs.Laws.{AcceptedIsSelectedAnew, RecipesAreCovered}
-use Rattle.mk_find.specs.Laws.{CertificateIsAccepted, NoFindings}
 use Rattle.mk_infer.specs.Laws.{StaysSelected}
 use Rattle.mk_infer.specs.Selection.{Selects}
 use Rattle.mk_read.specs.Files.{Told, text_at}

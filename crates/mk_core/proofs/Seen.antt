@@ -1,6 +1,6 @@
 -- Mapping a function over an answer keeps it an answer.
 use Rattle.std.proofs.Common.{◌≡◌, None, Some, Result, Ok, Err, inl, inr, ap}
-use Rattle.mk_cert.specs.Subject.{Subject}
+use Rattle.mk_subject.specs.Subject.{Subject}
 use Rattle.mk_read.specs.Files.{Told}
 use Rattle.mk_core_text.specs.declared.fault.Fault.{Fault}
 use Rattle.mk_core_text.specs.declared.fault.Fault.TheVariants.{Read, Infer, Foot, Plan, Certificate, Verify, FileReadFailed, NoFile, Memory}

@@ -1,7 +1,7 @@
 -- The answer of the command `check`.
 use Rattle.std.specs.Prelude.{◌≡◌, [], Result, Ok}
-use Rattle.mk_cert.specs.Counts.{count_of_recipes, count_of_reads}
-use Rattle.mk_cert.specs.Subject.{Subject}
+use Rattle.mk_subject.specs.Counts.{count_of_recipes, count_of_reads}
+use Rattle.mk_subject.specs.Subject.{Subject}
 use Rattle.mk_find.specs.Certifying.{IsCertificate}
 use Rattle.mk_find.specs.Findings.{AreFindings}
 use Rattle.mk_core_text.specs.declared.fault.Fault.{Fault}

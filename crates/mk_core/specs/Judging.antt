@@ -1,7 +1,7 @@
 -- The answers of commands that judge a build.
 use Rattle.std.specs.Prelude.{◌≡◌, ◌⊎◌, false, Result, Err}
-use Rattle.mk_cert.specs.NodeRow.{IsFirstFault}
-use Rattle.mk_cert.specs.Subject.{Subject, IsSubject, subject_of}
+use Rattle.mk_subject.specs.NodeRow.{IsFirstFault}
+use Rattle.mk_subject.specs.Subject.{Subject, IsSubject, subject_of}
 use Rattle.mk_graph.specs.Graph.{Graph, IsGraph}
 use Rattle.mk_graph.specs.Serial.{serial_order}
 use Rattle.mk_infer.specs.Selection.{Selects}

@@ -1,12 +1,12 @@
 -- What a yes promises.
 use Rattle.std.specs.Prelude.{◌≡◌, ℕ, None, Ok}
-use Rattle.mk_cert.specs.Conditions.{IsRecipe, all_writes}
-use Rattle.mk_cert.specs.Laws.{IsRightOnce, PartsStay}
-use Rattle.mk_cert.specs.Subject.{footprints}
+use Rattle.mk_subject.specs.Subject.{IsRecipe, all_writes, footprints}
+use Rattle.mk_cert.specs.Laws.{IsRightOnce}
+use Rattle.mk_find.specs.FindingLaws.{PartsStay}
 use Rattle.mk_cert_laws.specs.Covered.{IsCovered}
 use Rattle.mk_cert_laws.specs.Disks.{IsSelectedAnew, PartsAreSelectedAnew}
 use Rattle.mk_graph.specs.Graph.{Graph}
-use Rattle.mk_graph.specs.Right.{IsRight}
+use Rattle.mk_build.specs.Right.{IsRight}
 use Rattle.mk_infer.specs.Laws.{StaysSelected}
 use Rattle.mk_infer.specs.Selection.{Selects}
 use Rattle.mk_read.specs.Files.{Told}

@@ -2,7 +2,7 @@
 use Rattle.std.specs.Prelude.{◌≡◌, ℕ, Bool, List, ◌∷◌, ◌++◌, codes, Option, None, Some, is_some}
 use Rattle.mk_foot.specs.Setting.{Setting}
 use Rattle.mk_graph.specs.Graph.{Graph}
-use Rattle.mk_graph.specs.World.{World, disk_of}
+use Rattle.mk_build.specs.World.{World, disk_of}
 use Rattle.mk_world.specs.declared.fault.StepFault.{StepFault}
 use Rattle.mk_world.specs.declared.plan.PlanLine.{PlanLine}
 use Rattle.mk_world.specs.Running.{Stage, RunsTo, files_text, stage_of}

@@ -1,7 +1,7 @@
 -- The answer of the command `verify`.
 use Rattle.std.specs.Prelude.{◌≡◌, ⊤, ℕ, List, Result, Ok, Err}
-use Rattle.mk_cert.specs.Counts.{count_of_recipes, count_of_reads}
-use Rattle.mk_cert.specs.Subject.{Subject}
+use Rattle.mk_subject.specs.Counts.{count_of_recipes, count_of_reads}
+use Rattle.mk_subject.specs.Subject.{Subject}
 use Rattle.mk_cert.specs.Verdict.{Verifies}
 use Rattle.mk_cert.specs.declared.fault.CertFault.{CertFault}
 use Rattle.mk_read.specs.Files.{Told}

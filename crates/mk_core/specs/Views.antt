@@ -2,7 +2,7 @@
 -- depend on this file.
 use Rattle.std.specs.Prelude.{◌≡◌, ◌⊎◌, ℕ, Bool, false, List, Option, Result, Ok, Err}
 use Rattle.std.specs.Option.{is_none}
-use Rattle.mk_cert.specs.Subject.{Subject}
+use Rattle.mk_subject.specs.Subject.{Subject}
 use Rattle.mk_foot.specs.Setting.{Setting}
 use Rattle.mk_graph.specs.Graph.{Graph}
 use Rattle.mk_infer.specs.Goals.{goal_names}

@@ -13,11 +13,11 @@ ghost use Rattle.mk_core_text.specs.declared.fault.Fault.TheVariants.{Memory};
 use crate::judging::{Judge, answer_judged};
 use crate::laws::yes_is_right;
 use crate::request::Request;
-use mk_cert::{Subject, counts};
 use mk_core_text::{Fault, Findings, Verdict};
+use mk_find::finding_laws::no_findings;
 use mk_find::judge;
-use mk_find::laws::no_findings;
 use mk_read_files::Files;
+use mk_subject::{Subject, counts};
 use std::alloc::{AllocError, Global};
 
 /// The verdict on a build. The only error is out of memory.

@@ -1,7 +1,7 @@
 //! Commands that judge a build: what `check`, `check -e` and `verify` share.
 
 ghost use Rattle.std.specs.Prelude.{◌≡◌, ◌⊎◌, true, Result, Ok, Err, IfErr, IsOk, OnErr, OnOk};
-ghost use Rattle.mk_cert.specs.Subject.{Subject as SubjectValue};
+ghost use Rattle.mk_subject.specs.Subject.{Subject as SubjectValue};
 ghost use Rattle.mk_infer.specs.Selection.{Selects};
 ghost use Rattle.mk_read.specs.Files.{IfFits, Keeps, Told};
 ghost use Rattle.mk_read.specs.declared.fault.ReadFault as read;
@@ -18,11 +18,11 @@ use crate::leaking::drop_or_leak;
 use crate::ready::Ready;
 use crate::request::Request;
 use crate::selecting::selected;
-use mk_cert::Subject;
-use mk_cert::laws::selected_goals;
 use mk_core_text::Fault;
 use mk_graph::Graph;
 use mk_read_files::Files;
+use mk_subject::Subject;
+use mk_subject::laws::selected_goals;
 use std::alloc::Global;
 
 /// A command that judges a build, given by its answer to a subject.

@@ -2,9 +2,10 @@
 
 ghost use Rattle.mk_core.specs.Laws.{YesIsRight, AcceptedIsRight};
 
-use mk_cert::laws::{selected_goals, verified_is_right};
+use mk_cert::laws::{certificate_is_accepted, verified_is_right};
 use mk_cert_laws::laws::{accepted_is_selected_anew, recipes_are_covered};
-use mk_find::laws::{certificate_is_accepted, no_findings};
+use mk_find::finding_laws::no_findings;
+use mk_subject::laws::selected_goals;
 
 /// If `check` answers yes, every legal history of the build is right, a single make from a start is
 /// right, each recipe has a record with the commands that make would run, and the same graph is

@@ -16,11 +16,12 @@ use crate::file_text::file_text;
 use crate::judging::{Judge, answer_judged};
 use crate::laws::accepted_is_right;
 use crate::request::Request;
-use mk_cert::{Subject, counts, verify};
+use mk_cert::verify;
 use mk_cert_text::{Certificate, read_certificate};
 use mk_core_text::{Fault, yes_line};
 use mk_lines::Name;
 use mk_read_files::Files;
+use mk_subject::{Subject, counts};
 use std::alloc::Global;
 
 /// The answer to a certificate: `yes N recipes M reads`, or its fault (73 to 76).

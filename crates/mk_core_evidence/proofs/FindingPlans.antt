@@ -4,8 +4,8 @@ use Rattle.std.specs.Prelude.{IfOk, MatchOption, option_map}
 use Rattle.std.specs.declared.alloc.AllocError.{AllocError}
 use Rattle.std.specs.declared.alloc.Global.{Global}
 use Rattle.std.proofs.lemmas.List.{length-append}
-use Rattle.mk_cert.specs.Subject.{Subject}
-use Rattle.mk_cert.specs.declared.finding.Finding.{Finding}
+use Rattle.mk_subject.specs.Subject.{Subject}
+use Rattle.mk_find.specs.declared.finding.Finding.{Finding}
 use Rattle.mk_graph.specs.Membership.{Has}
 use Rattle.mk_find.specs.Findings.{AreFindings}
 use Rattle.mk_find_evidence.specs.Shown.{IsNotShown}

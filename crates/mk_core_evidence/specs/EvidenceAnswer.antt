@@ -1,7 +1,7 @@
 -- The answer to a request for the plan that shows a finding.
 use Rattle.std.specs.Prelude.{◌≡◌, ℕ, ◌+◌, List, [], ◌++◌, ◌∷◌, length, Option, None, Some, Result, Ok}
-use Rattle.mk_cert.specs.Subject.{Subject}
-use Rattle.mk_cert.specs.declared.finding.Finding.{Finding}
+use Rattle.mk_subject.specs.Subject.{Subject}
+use Rattle.mk_find.specs.declared.finding.Finding.{Finding}
 use Rattle.mk_find.specs.Findings.{AreFindings}
 use Rattle.mk_world_plan.specs.PlanText.{plan_text}
 use Rattle.mk_find_evidence.specs.Numbers.{HaveSmallNumbers}

@@ -1,7 +1,7 @@
 -- The command never answers a prepared request with a fault of the makefile. This is a lemma that
 -- the law of `Judge` cites; a reader of the meaning may skip it.
 use Rattle.std.proofs.Common.{ℕ, Ok, Err}
-use Rattle.mk_cert.specs.Subject.{Subject}
+use Rattle.mk_subject.specs.Subject.{Subject}
 use Rattle.mk_read.specs.declared.fault.ReadFault.{ReadFault}
 use Rattle.mk_core.specs.NotRead.{differs}
 use Rattle.mk_core_text.specs.declared.fault.Fault.TheVariants.{Read}

@@ -1,7 +1,7 @@
 //! The command `check -e`: the plan that shows a finding.
 
 ghost use Rattle.std.specs.Prelude.{◌≡◌, true, map, option_map, IfErr, IfOk, MatchOption, OnErr};
-ghost use Rattle.mk_cert.specs.declared.finding.Finding.{Finding as FindingValue};
+ghost use Rattle.mk_find.specs.declared.finding.Finding.{Finding as FindingValue};
 ghost use Rattle.mk_find.specs.Findings.{AreFindings};
 ghost use Rattle.mk_read.specs.Files.{IfFits, Keeps};
 ghost use Rattle.mk_core_evidence.specs.NotRead.{evidence_not_read};
@@ -16,11 +16,12 @@ ghost use Rattle.mk_core_evidence.specs.EvidenceAnswer.{AnswersEvidence, GivesPl
 ghost use Rattle.mk_core.specs.Steps.{is_out_of_memory, seen};
 ghost use Rattle.mk_core_text.specs.declared.fault.Fault.TheVariants.{Memory};
 
-use mk_cert::{Finding, Subject};
 use mk_core::laws::yes_is_right;
 use mk_core::{Fault, Judge, Request, Verdict, answer_judged, drop_or_leak, verdict_of};
+use mk_find::Finding;
 use mk_find_evidence::evidence;
 use mk_read_files::Files;
+use mk_subject::Subject;
 use mk_world::Step;
 use mk_world_plan::plan_text;
 use std::alloc::{AllocError, Global};

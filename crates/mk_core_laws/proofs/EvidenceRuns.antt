@@ -2,15 +2,15 @@
 use Rattle.std.proofs.Common.{◌≡◌, ◌≤◌, ℕ, Bool, true, false, not, cond, List, [], ◌∷◌, ◌++◌, length, map, Option, None, Some, Result, Ok, Err, inl, inr, refl, sym, ap, subst, ◌∙◌}
 use Rattle.std.specs.Prelude.{◌||◌, find, is_some, take}
 use Rattle.mk_graph.specs.Graph.{Graph, IsGraph, max_nodes}
-use Rattle.mk_graph.specs.Steps as model
-use Rattle.mk_graph.specs.Setting.{FileName}
-use Rattle.mk_graph.specs.World.{Disk, Idle, IsFirstDisk, IsOfWorld, World}
+use Rattle.mk_build.specs.Steps as model
+use Rattle.mk_build.specs.Setting.{FileName}
+use Rattle.mk_build.specs.World.{Disk, Idle, IsFirstDisk, IsOfWorld, World}
 use Rattle.mk_infer.specs.Inference.{choice, chosen_commands}
 use Rattle.mk_infer.specs.Laws as inferring
 use Rattle.mk_infer.specs.Selection.{BuiltUnless, Selects, graph_of, is_lacking, lacking}
 use Rattle.mk_infer.specs.There.{Exists}
 use Rattle.mk_infer.specs.declared.fault.InferFault.{InferFault}
-use Rattle.mk_cert.specs.declared.finding.Finding.{Finding}
+use Rattle.mk_find.specs.declared.finding.Finding.{Finding}
 use Rattle.mk_find.specs.Findings.{AreFindings}
 use Rattle.mk_lines.specs.Names.{has_name}
 use Rattle.mk_lines.specs.Paths.{is_plain_path}

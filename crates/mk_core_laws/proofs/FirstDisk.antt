@@ -15,8 +15,8 @@ use Rattle.mk_graph.specs.declared.node.Node.{Node}
 use Rattle.mk_graph.specs.Graph.{Graph, node, no_node}
 use Rattle.mk_graph.specs.Membership.{Has}
 use Rattle.mk_graph.specs.Lists.{has_left, has_right, has_cases}
-use Rattle.mk_graph.specs.Setting.{FileName, Setting, is_given, name, reads, writes}
-use Rattle.mk_graph.specs.World.{AreAscending, Disk, IsFirstDisk, IsOfWorld, numbered_disk}
+use Rattle.mk_build.specs.Setting.{FileName, Setting, is_given, name, reads, writes}
+use Rattle.mk_build.specs.World.{AreAscending, Disk, IsFirstDisk, IsOfWorld, numbered_disk}
 use Rattle.mk_core_laws.specs.EvidenceLaws.{FirstDiskIsThere}
 
 -- ---- names in the order of their bytes

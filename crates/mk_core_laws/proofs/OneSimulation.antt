@@ -3,7 +3,7 @@ use Rattle.std.proofs.Common.{◌≡◌, ℕ, Bool, List, ◌++◌, Option, None
 use Rattle.std.specs.Prelude.{is_some}
 use Rattle.std.specs.Option.{ok_or}
 use Rattle.mk_graph.specs.Graph as value
-use Rattle.mk_graph.specs.World.{World}
+use Rattle.mk_build.specs.World.{World}
 use Rattle.mk_foot.specs.Setting.{Setting}
 use Rattle.mk_infer.specs.Laws as inferring
 use Rattle.mk_infer.specs.declared.fault.InferFault.{InferFault}

@@ -8,10 +8,11 @@ use Rattle.mk_graph.specs.Graph.{IsGraph, IsSound, Reached, goal, onward}
 use Rattle.mk_graph.specs.Laws.{SerialReachesEachOnce}
 use Rattle.mk_graph.specs.Membership.{Has}
 use Rattle.mk_graph.specs.Serial.{serial_order}
-use Rattle.mk_cert.specs.NodeRow.{IsFirstFault}
+use Rattle.mk_subject.specs.NodeRow.{IsFirstFault}
 use Rattle.mk_cert.specs.Laws as judging
-use Rattle.mk_cert.specs.Subject.{Subject, IsSubject, commands_of}
-use Rattle.mk_find.specs.Laws.{CertificateIsOne, FindingsAreOne}
+use Rattle.mk_subject.specs.Subject.{Subject, IsSubject, commands_of}
+use Rattle.mk_find.specs.WayLaws.{CertificateIsOne}
+use Rattle.mk_find.specs.FindingLaws.{FindingsAreOne}
 use Rattle.mk_infer.specs.Commands.{Commands}
 use Rattle.mk_infer.specs.Laws as inferring
 use Rattle.mk_infer.specs.declared.fault.InferFault.{InferFault}

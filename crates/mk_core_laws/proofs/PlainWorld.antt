@@ -5,7 +5,7 @@ use Rattle.std.specs.Option.{is_none}
 use Rattle.mk_foot.specs.Book.{Book, no_book}
 use Rattle.mk_foot.specs.Laws as foot
 use Rattle.mk_foot.specs.Reading.{book_from}
-use Rattle.mk_graph.specs.World.{IsOfWorld}
+use Rattle.mk_build.specs.World.{IsOfWorld}
 use Rattle.mk_infer.specs.Goals.{goal_names}
 use Rattle.mk_infer.specs.NameLaws.{GoalsArePlain, HavePlainNames, NodesHavePlainNames}
 use Rattle.mk_infer.specs.Selection.{Selects}

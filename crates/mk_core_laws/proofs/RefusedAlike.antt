@@ -1,7 +1,7 @@
 -- A plan is refused as a verdict is.
 use Rattle.std.proofs.Common.{◌≡◌, None, Result, Ok, Err, sym, ap, ◌∙◌}
 use Rattle.std.specs.Prelude.{⊤}
-use Rattle.mk_cert.specs.Subject.{Subject}
+use Rattle.mk_subject.specs.Subject.{Subject}
 use Rattle.mk_graph.specs.Laws.{SerialReachesEachOnce}
 use Rattle.mk_infer.specs.Laws as inferring
 use Rattle.mk_core_text.specs.declared.fault.Fault.{Fault}

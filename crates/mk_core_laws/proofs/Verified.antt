@@ -11,10 +11,9 @@ use Rattle.mk_graph.specs.declared.node.Node.{Node}
 use Rattle.mk_graph.specs.Graph as value
 use Rattle.mk_graph.specs.Graph.{IsGraph, no_node}
 use Rattle.mk_graph.specs.Membership.{Has}
-use Rattle.mk_graph.specs.World.{IsOfWorld}
+use Rattle.mk_build.specs.World.{IsOfWorld}
 use Rattle.mk_infer.specs.Selection.{Selects}
-use Rattle.mk_cert.specs.Conditions.{IsRecipe}
-use Rattle.mk_cert.specs.Subject.{Subject, IsSubject, footprints, name_of}
+use Rattle.mk_subject.specs.Subject.{IsRecipe, Subject, IsSubject, footprints, name_of}
 use Rattle.mk_cert.specs.Verdict.{IsGood, NoneBad, Verifies}
 use Rattle.mk_cert_laws.specs.Laws.{LineIsReadBack}
 use Rattle.mk_cert_text.specs.Certificate.{Way, Certificate}
@@ -22,7 +21,8 @@ use Rattle.mk_cert_text.specs.Laws.{TextIsReadBack, names_of, names_of_way}
 use Rattle.mk_cert_text.specs.Reading.{certificate_from}
 use Rattle.mk_cert_text.specs.Writing.{value_of}
 use Rattle.mk_cert_text.specs.declared.fault.CertTextFault.{CertTextFault}
-use Rattle.mk_find.specs.Laws.{CertificateIsAccepted, NoFindings}
+use Rattle.mk_cert.specs.Laws.{CertificateIsAccepted}
+use Rattle.mk_find.specs.FindingLaws.{NoFindings}
 use Rattle.mk_read.specs.Files.{Told, text_at}
 use Rattle.mk_core_text.specs.VerdictText.{yes_line}
 use Rattle.mk_core_text.specs.declared.fault.Fault.{Fault}

@@ -1,10 +1,10 @@
 -- Laws about plans that show a finding.
 use Rattle.std.specs.Prelude.{◌≡◌, ℕ, ◌≤◌, true, false, List, ◌++◌, codes, length, None, Some, Result, Ok}
 use Rattle.mk_graph.specs.Graph.{Graph}
-use Rattle.mk_graph.specs.Setting.{FileName, Setting}
-use Rattle.mk_graph.specs.World.{Disk, IsFirstDisk, IsOfWorld}
+use Rattle.mk_build.specs.Setting.{FileName, Setting}
+use Rattle.mk_build.specs.World.{Disk, IsFirstDisk, IsOfWorld}
 use Rattle.mk_infer.specs.Selection.{Selects}
-use Rattle.mk_cert.specs.declared.finding.Finding.{Finding}
+use Rattle.mk_find.specs.declared.finding.Finding.{Finding}
 use Rattle.mk_find.specs.Findings.{AreFindings}
 use Rattle.mk_lines.specs.Paths.{is_plain_path}
 use Rattle.mk_world_plan.specs.PlanLaws.{EachRunIsAsWritten, HasARun}

@@ -3,7 +3,8 @@
 
 ghost use Rattle.mk_core_laws.specs.AnswerLaws.{AnswerIsOne, VerdictIsOne, VerificationIsOne, SimulationIsOne, EvidenceRefusesAsCheck};
 
-use mk_find::laws::{certificate_is_one, findings_are_one};
+use mk_find::finding_laws::findings_are_one;
+use mk_find::way_laws::certificate_is_one;
 use mk_graph::laws::serial_reaches_each_once;
 use mk_infer_laws::laws::selection_is_one;
 use mk_world::laws::{first_world_is_one, run_is_one};

@@ -4,9 +4,10 @@ ghost use Rattle.mk_core_laws.specs.CertificateLaws.{CheckedIsVerified};
 
 use crate::answer_laws::verification_is_one;
 use crate::plan_laws::names_of_world_are_plain;
+use mk_cert::laws::certificate_is_accepted;
 use mk_cert_laws::laws::line_is_read_back;
 use mk_cert_text::laws::text_is_read_back;
-use mk_find::laws::{certificate_is_accepted, no_findings};
+use mk_find::finding_laws::no_findings;
 
 /// If `check` answers yes, `verify_text` accepts its certificate, whose text may have a newline
 /// behind it, and answers with the same counts, except for out of memory and failed reads. The

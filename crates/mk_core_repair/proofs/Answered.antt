@@ -11,7 +11,7 @@ use Rattle.mk_core.specs.CheckAnswer.{AnswersCheck}
 use Rattle.mk_core.specs.Steps.{is_out_of_memory}
 use Rattle.mk_core_repair.specs.declared.outcome.Repair.{Repair}
 use Rattle.mk_core_repair.specs.declared.surveying.First.{First}
-use Rattle.mk_cert.specs.declared.finding.Finding.{Finding}
+use Rattle.mk_find.specs.declared.finding.Finding.{Finding}
 use Rattle.mk_core_text.specs.declared.verdict.Verdict.{Verdict}
 use Rattle.mk_core_text.specs.declared.verdict.Verdict.TheVariants.{No}
 use Rattle.mk_repair.specs.Word.{Word}

@@ -1,8 +1,8 @@
 -- A cycle of the first judgement can't be mended.
 use Rattle.std.proofs.Common.{◌≡◌, List, ℕ, Option, Some, None, Result, Ok, Err, inl, inr, refl, subst}
-use Rattle.mk_cert.specs.Subject.{Subject, footprints}
-use Rattle.mk_graph_needs.specs.Laws.{FirstCycleCannotBeMended}
-use Rattle.mk_graph_needs.specs.NeedsGraph.{needs_graph, IsFirstCycle}
+use Rattle.mk_subject.specs.Subject.{Subject, footprints}
+use Rattle.mk_build_needs.specs.Laws.{FirstCycleCannotBeMended}
+use Rattle.mk_build_needs.specs.NeedsGraph.{needs_graph, IsFirstCycle}
 use Rattle.mk_read.specs.Files.{Told}
 use Rattle.mk_core_text.specs.declared.fault.Fault.{Fault}
 use Rattle.mk_core_text.specs.declared.verdict.Verdict.{Verdict}

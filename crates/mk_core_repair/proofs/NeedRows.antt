@@ -6,9 +6,9 @@ use Rattle.mk_graph.specs.declared.node.Node.{Node}
 use Rattle.mk_graph.specs.Graph.{Graph, IsGraph, node, no_node, prerequisites}
 use Rattle.mk_graph.specs.Membership.{Has}
 use Rattle.mk_graph.specs.Progress.{row}
-use Rattle.mk_graph.specs.Setting.{Setting, name, writes}
-use Rattle.mk_graph_needs.specs.Laws.{NeedsAreThese}
-use Rattle.mk_graph_needs.specs.Needs.{more_needs}
+use Rattle.mk_build.specs.Setting.{Setting, name, writes}
+use Rattle.mk_build_needs.specs.Laws.{NeedsAreThese}
+use Rattle.mk_build_needs.specs.Needs.{more_needs}
 
 -- what has a recipe is a node
 recipe_is_node : (g : Graph) (n : ℕ) → (node g n).recipe ≡ true → n < length g.nodes

@@ -2,8 +2,8 @@
 use Rattle.std.proofs.Common.{◌≡◌, ℕ, zero, suc, Bool, true, false, ◌||◌, List, [], ◌∷◌, ◌++◌, Option, Some, None, Result, Ok, Err, inl, inr, refl, sym, ap, subst, ◌∙◌}
 use Rattle.std.proofs.lemmas.Slice.Eq.{bytes_eq-Decides}
 use Rattle.std.specs.Str.{bytes_eq}
-use Rattle.mk_cert.specs.declared.finding.Finding.{Finding}
-use Rattle.mk_graph_needs.specs.Laws.{FirstCycleCannotBeMended}
+use Rattle.mk_find.specs.declared.finding.Finding.{Finding}
+use Rattle.mk_build_needs.specs.Laws.{FirstCycleCannotBeMended}
 use Rattle.mk_lines.specs.Names.{has_name}
 use Rattle.mk_read.specs.Files.{Told}
 use Rattle.mk_read_laws.specs.NamedFiles.{OnlyNamedFilesCount}

@@ -1,6 +1,6 @@
 -- What a survey says of the verdict of `check`.
 use Rattle.std.proofs.Common.{Result, Ok, Err, ap}
-use Rattle.mk_cert.specs.Subject.{Subject}
+use Rattle.mk_subject.specs.Subject.{Subject}
 use Rattle.mk_read.specs.Files.{Told}
 use Rattle.mk_core_text.specs.declared.fault.Fault.{Fault}
 use Rattle.mk_core_text.specs.declared.verdict.Verdict.{Verdict}

@@ -1,7 +1,7 @@
 -- A survey is never a fault of the makefile. These are lemmas that the laws of `Judge` cite; a
 -- reader of the meaning may skip them.
 use Rattle.std.proofs.Common.{Ok, Err}
-use Rattle.mk_cert.specs.Subject.{Subject}
+use Rattle.mk_subject.specs.Subject.{Subject}
 use Rattle.mk_read.specs.declared.fault.ReadFault.{ReadFault}
 use Rattle.mk_core.specs.NotRead.{differs}
 use Rattle.mk_core_text.specs.declared.fault.Fault.TheVariants.{Read}

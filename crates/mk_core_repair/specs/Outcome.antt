@@ -1,7 +1,7 @@
 -- What comes of mending a makefile.
 use Rattle.std.specs.Prelude.{ℕ, List, Result}
 use Rattle.std.specs.String.{string_bytes}
-use Rattle.mk_cert.specs.declared.finding.Finding.{Finding}
+use Rattle.mk_find.specs.declared.finding.Finding.{Finding}
 use Rattle.mk_core_text.specs.declared.fault.Fault.{Fault}
 use Rattle.mk_core_repair.specs.declared.outcome.Repair.{Repair}
 use Rattle.mk_core_repair.specs.declared.outcome.Repair.TheVariants as repairs

@@ -1,9 +1,9 @@
 -- The answer of the command `repair`.
 use Rattle.std.specs.Prelude.{◌≡◌, ◌⊎◌, ℕ, List, [], ◌∷◌, None, Result, Ok, Err}
-use Rattle.mk_cert.specs.Subject.{footprints}
+use Rattle.mk_subject.specs.Subject.{footprints}
 use Rattle.mk_graph.specs.Graph.{Graph, IsGraph}
-use Rattle.mk_graph.specs.Right.{AreSound, HaveNoRace}
-use Rattle.mk_graph_needs.specs.Extending.{Extends}
+use Rattle.mk_build.specs.Right.{AreSound, HaveNoRace}
+use Rattle.mk_build_needs.specs.Extending.{Extends}
 use Rattle.mk_infer.specs.Selection.{Selects}
 use Rattle.mk_foot.specs.Names.{Has}
 use Rattle.mk_read.specs.Files.{Told}

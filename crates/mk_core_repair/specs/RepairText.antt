@@ -1,7 +1,7 @@
 -- The printed text of what comes of mending a makefile.
 use Rattle.std.specs.Prelude.{ℕ, ◌==◌, Bool, true, List, [], ◌∷◌, ◌++◌, codes, Result, Ok, Err, if◌then◌else◌}
 use Rattle.std.specs.List.{flat_map}
-use Rattle.mk_cert.specs.declared.finding.Finding.{Finding}
+use Rattle.mk_find.specs.declared.finding.Finding.{Finding}
 use Rattle.mk_core_text.specs.FaultText.{fault_text}
 use Rattle.mk_core_text.specs.VerdictText.{findings_text}
 use Rattle.mk_core_text.specs.declared.fault.Fault.{Fault}

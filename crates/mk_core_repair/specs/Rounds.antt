@@ -1,6 +1,6 @@
 -- How a makefile is mended, round by round.
 use Rattle.std.specs.Prelude.{◌≡◌, ◌⊎◌, ℕ, zero, suc, true, false, not, List, find, length, fold, nat_lt, Option, None, Some, Result, Ok, Err, if◌then◌else◌}
-use Rattle.mk_cert.specs.declared.finding.Finding.{Finding}
+use Rattle.mk_find.specs.declared.finding.Finding.{Finding}
 use Rattle.mk_lines.specs.Names.{has_name}
 use Rattle.mk_read.specs.Files.{Told}
 use Rattle.mk_core_text.specs.declared.fault.Fault.{Fault}

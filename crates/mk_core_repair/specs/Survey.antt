@@ -1,7 +1,7 @@
 -- What one judgement finds: the verdict, the words of its findings, and which files were read.
 use Rattle.std.specs.Prelude.{◌≡◌, ℕ, List, [], ◌++◌, Option, Some, Result, Ok}
-use Rattle.mk_cert.specs.Subject.{Subject, footprints}
-use Rattle.mk_graph_needs.specs.NeedsGraph.{needs_graph, IsFirstCycle}
+use Rattle.mk_subject.specs.Subject.{Subject, footprints}
+use Rattle.mk_build_needs.specs.NeedsGraph.{needs_graph, IsFirstCycle}
 use Rattle.mk_core.specs.CheckAnswer.{IsVerdict}
 use Rattle.mk_core_text.specs.declared.fault.Fault.{Fault}
 use Rattle.mk_core_text.specs.declared.verdict.Verdict.{Verdict}

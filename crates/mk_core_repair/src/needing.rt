@@ -3,16 +3,16 @@
 ghost use Rattle.std.specs.Prelude.{◌≡◌, ◌<◌, ◌++◌, ◌==◌, ℕ, List, map, not, filter, length, IfOk, OnOk};
 ghost use Rattle.std.specs.List.{flat_map};
 ghost use Rattle.std.specs.String.{string_bytes};
-ghost use Rattle.mk_cert.specs.NodeRow.{writers_of};
-ghost use Rattle.mk_cert.specs.Subject.{footprints, name_of, reads_of};
+ghost use Rattle.mk_subject.specs.NodeRow.{writers_of};
+ghost use Rattle.mk_subject.specs.Subject.{footprints, name_of, reads_of};
 ghost use Rattle.mk_graph.specs.Progress.{row};
-ghost use Rattle.mk_graph_needs.specs.Needs.{more_needs, writers_of_reads};
-ghost use Rattle.mk_graph_needs.specs.NeedsGraph.{IsFirstCycle, needs_graph};
+ghost use Rattle.mk_build_needs.specs.Needs.{more_needs, writers_of_reads};
+ghost use Rattle.mk_build_needs.specs.NeedsGraph.{IsFirstCycle, needs_graph};
 
-use mk_cert::Subject;
+use mk_build_needs::first_cycle;
+use mk_build_needs::laws::{needs_are_these, rows_give_needs};
 use mk_core::Names;
-use mk_graph_needs::first_cycle;
-use mk_graph_needs::laws::{needs_are_these, rows_give_needs};
+use mk_subject::Subject;
 use std::alloc::{AllocError, Global};
 
 /// Appends the writers of a file but the node with this number. The only error is out of memory.

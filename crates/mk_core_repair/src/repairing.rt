@@ -1,7 +1,7 @@
 //! The command `repair`.
 
 ghost use Rattle.std.specs.Prelude.{◌≡◌, List, true, IfErr, IfOk, IsOk, OnErr, OnOk};
-ghost use Rattle.mk_cert.specs.declared.finding.Finding as finding;
+ghost use Rattle.mk_find.specs.declared.finding.Finding as finding;
 ghost use Rattle.mk_read.specs.Files.{IfFits, Keeps};
 ghost use Rattle.mk_core.specs.Answer.{Answers, NotesFailure};
 ghost use Rattle.mk_core.specs.Judging.{AnswersJudged};
@@ -22,9 +22,9 @@ use crate::outcome::{Repair, Why};
 use crate::own_makefile::{names_known, own_makefile, own_name};
 use crate::rounds::{End, rounds};
 use crate::surveying::{First, JudgeFirst, Survey};
+use mk_build_needs::laws::first_cycle_cannot_be_mended;
 use mk_core::laws::yes_is_right;
 use mk_core::{Fault, Files, Names, Request, Verdict, answer_judged};
-use mk_graph_needs::laws::first_cycle_cannot_be_mended;
 use mk_read_laws::file_laws::only_named_files_count;
 use mk_repair::Words;
 use std::alloc::Global;

@@ -2,7 +2,7 @@
 
 ghost use Rattle.std.specs.Prelude.{◌≡◌, ◌++◌, ◌∷◌, ℕ, List, true, length, nat_lt, Ok, Err, IfErr, IfOk};
 ghost use Rattle.std.specs.Option.{option_copied};
-ghost use Rattle.mk_cert.specs.declared.finding.Finding as finding;
+ghost use Rattle.mk_find.specs.declared.finding.Finding as finding;
 ghost use Rattle.mk_read.specs.Files.{Told};
 ghost use Rattle.mk_core.specs.Steps.{is_out_of_memory};
 ghost use Rattle.mk_core_text.specs.declared.fault.Fault.TheVariants.{Memory};

@@ -6,10 +6,10 @@ ghost use Rattle.mk_core_repair.specs.NotRead.{first_not_read, survey_not_read};
 ghost use Rattle.mk_core_repair.specs.Survey.{GivesFirst, GivesSurvey, IsCycleFor, IsFirst, IsSurvey, words_for};
 
 use crate::needing::cycle_of_needs;
-use mk_cert::Subject;
 use mk_core::{Fault, Files, Judge, Name, Names, Verdict, verdict_of};
 use mk_read::Makefile;
 use mk_repair::{Words, words_of};
+use mk_subject::Subject;
 use std::alloc::{AllocError, Global};
 
 /// What one judgement finds.

@@ -1,12 +1,12 @@
 -- The answer of `repair` is one.
 use Rattle.std.proofs.Common.{◌≡◌, ◌++◌, ℕ, zero, suc, true, false, true≢false, List, map, Option, Some, None, Result, Ok, Err, inl, inr, refl, sym, ap, subst, ◌∙◌}
-use Rattle.mk_cert.specs.Subject.{Subject, footprints}
-use Rattle.mk_cert.specs.declared.finding.Finding.{Finding}
+use Rattle.mk_subject.specs.Subject.{Subject, footprints}
+use Rattle.mk_find.specs.declared.finding.Finding.{Finding}
 use Rattle.mk_graph.specs.Graph.{Graph}
 use Rattle.mk_graph.specs.Laws.{WalkHasOneEnd}
-use Rattle.mk_graph.specs.Setting.{name}
+use Rattle.mk_build.specs.Setting.{name}
 use Rattle.mk_graph.specs.Walk.{Through, Closes}
-use Rattle.mk_graph_needs.specs.NeedsGraph.{IsFirstCycle, needs_graph}
+use Rattle.mk_build_needs.specs.NeedsGraph.{IsFirstCycle, needs_graph}
 use Rattle.mk_infer.specs.Laws.{SelectionIsOne}
 use Rattle.mk_read.specs.Files.{Told}
 use Rattle.mk_core_text.specs.declared.fault.Fault.{Fault}

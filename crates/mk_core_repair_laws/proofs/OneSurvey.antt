@@ -1,6 +1,6 @@
 -- A judgement has one survey.
 use Rattle.std.proofs.Common.{◌≡◌, ℕ, List, Option, None, Result, Ok, Err, inl, inr, refl, sym, ap, subst, ◌∙◌}
-use Rattle.mk_cert.specs.Subject.{Subject}
+use Rattle.mk_subject.specs.Subject.{Subject}
 use Rattle.mk_graph.specs.Graph.{Graph}
 use Rattle.mk_infer.specs.Laws.{SelectionIsOne}
 use Rattle.mk_infer.specs.Selection.{Selects}

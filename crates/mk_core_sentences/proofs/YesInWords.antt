@@ -1,6 +1,6 @@
 -- A yes in words is the yes of `check`.
 use Rattle.std.proofs.Common.{◌≡◌, inl, inr, refl, subst, None, Result, Ok, Err}
-use Rattle.mk_cert.specs.Subject.{Subject}
+use Rattle.mk_subject.specs.Subject.{Subject}
 use Rattle.mk_read.specs.Files.{Told}
 use Rattle.mk_core.specs.declared.request.Request.{Request}
 use Rattle.mk_core_text.specs.declared.fault.Fault.{Fault}

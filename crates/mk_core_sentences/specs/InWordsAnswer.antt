@@ -1,8 +1,8 @@
 -- The answer of the command `check -w`.
 use Rattle.std.specs.Prelude.{◌≡◌, ℕ, true, [], List, Result, Ok}
 use Rattle.std.specs.List.{list_any}
-use Rattle.mk_cert.specs.Subject.{Subject}
-use Rattle.mk_cert.specs.declared.finding.Finding.{Finding}
+use Rattle.mk_subject.specs.Subject.{Subject}
+use Rattle.mk_find.specs.declared.finding.Finding.{Finding}
 use Rattle.mk_find.specs.Findings.{AreFindings, AreHidden}
 use Rattle.mk_sentences.specs.Text.{is_static, sentences_text}
 use Rattle.mk_core_text.specs.declared.fault.Fault.{Fault}

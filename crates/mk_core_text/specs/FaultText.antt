@@ -3,7 +3,7 @@ use Rattle.std.specs.Prelude.{ℕ, List, [], ◌∷◌, ◌++◌, codes, Option,
 use Rattle.std.specs.List.{flat_map}
 use Rattle.std.specs.Option.{option_map, unwrap_or}
 use Rattle.std.specs.Fmt.{decimal}
-use Rattle.mk_cert.specs.Text as finding
+use Rattle.mk_find.specs.Text as finding
 use Rattle.mk_cert.specs.declared.fault.CertFault.{CertFault}
 use Rattle.mk_cert.specs.declared.fault.CertFault.TheVariants as cert
 use Rattle.mk_explain.specs.Explain.{named_sentence}
@@ -183,7 +183,7 @@ foot_fault_text form foot.OtherFormat = refusal_with form 53 (codes "OtherFormat
 foot_fault_text form (foot.TwoRecords target) =
     refusal_with form 54 (codes "TwoRecords") (target ∷ [])
 foot_fault_text form (foot.BadName key) =
-    refusal_with form 55 (codes "FootFault::BadName") (spelling key ∷ [])
+    refusal_with form 55 (codes "BadFootprintName") (spelling key ∷ [])
 foot_fault_text form (foot.SourceIsFixed name) =
     refusal_with form 56 (codes "SourceIsFixed") (name ∷ [])
 foot_fault_text form foot.NoGroup = refusal_with form 57 (codes "NoGroup") []
@@ -197,14 +197,14 @@ refusal_of_line form number name line =
 
 -- The text of a fault of a plan (69).
 abbrev pub plan_fault_text : Form → PlanFault → List ℕ
-plan_fault_text form (plan.Line line) = refusal_of_line form 69 (codes "PlanFault::Line") line
+plan_fault_text form (plan.Line line) = refusal_of_line form 69 (codes "BadPlanLine") line
 plan_fault_text form plan.Memory = no_memory
 
 -- The text of a fault of a certificate's text (71, 72).
 abbrev pub certificate_fault_text : Form → CertTextFault → List ℕ
-certificate_fault_text form ways.NotJson = refusal_with form 71 (codes "CertTextFault::NotJson") []
+certificate_fault_text form ways.NotJson = refusal_with form 71 (codes "CertificateNotJson") []
 certificate_fault_text form (ways.Shape k) =
-    refusal_with form 72 (codes "CertTextFault::Shape") (key.spelling k ∷ [])
+    refusal_with form 72 (codes "CertificateShape") (key.spelling k ∷ [])
 certificate_fault_text form ways.Memory = no_memory
 
 -- The text of why a certificate isn't accepted (73 to 76).

@@ -2,8 +2,8 @@
 use Rattle.std.specs.Prelude.{ℕ, List, ◌∷◌, ◌++◌, codes}
 use Rattle.std.specs.List.{flat_map}
 use Rattle.std.specs.Fmt.{decimal}
-use Rattle.mk_cert.specs.Text.{text}
-use Rattle.mk_cert.specs.declared.finding.Finding.{Finding}
+use Rattle.mk_find.specs.Text.{text}
+use Rattle.mk_find.specs.declared.finding.Finding.{Finding}
 use Rattle.mk_world_plan.specs.PlanText.{names_text}
 use Rattle.mk_cert_text.specs.Certificate.{Way}
 use Rattle.mk_cert_text.specs.Words.{finish_word}

@@ -6,8 +6,8 @@ ghost use Rattle.mk_world_plan.specs.PlanText.{names_text};
 ghost use Rattle.mk_core_text.specs.VerdictText.{finding_line, findings_text, verdict_text, way_line, ways_text, yes_line};
 
 use crate::verdict::Verdict;
-use mk_cert::Finding;
 use mk_cert_text::{Path, Way, Ways};
+use mk_find::Finding;
 use std::alloc::{AllocError, Global};
 
 /// The capacity that the text of ways reserves for each way.

@@ -2,8 +2,8 @@
 
 ghost use Rattle.std.specs.Prelude.{◌≡◌};
 
-use mk_cert::Finding;
 use mk_cert_text::Certificate;
+use mk_find::Finding;
 use std::marker::Model;
 
 /// The findings of a no, in the order in which they are printed, seen by contracts as a list.
@@ -14,7 +14,7 @@ pub struct Findings {
 
 impl Model for Findings {
     ghost use Rattle.std.specs.Prelude.{List};
-    ghost use Rattle.mk_cert.specs.declared.finding.Finding as finding;
+    ghost use Rattle.mk_find.specs.declared.finding.Finding as finding;
 
     ghost Value = { List finding.Finding };
 

@@ -206,7 +206,7 @@ fn foot_fault_text(alloc: Global, form: Form, fault: &FootFault) -> Result<Vec<u
         }
         FootFault::BadName(key) => {
             let word = key.as_str().as_bytes();
-            refusal_with(alloc, form, 55, "FootFault::BadName", &[word])
+            refusal_with(alloc, form, 55, "BadFootprintName", &[word])
         }
         FootFault::SourceIsFixed(name) => {
             let word = name.as_str().as_bytes();
@@ -223,7 +223,7 @@ fn plan_fault_text(alloc: Global, form: Form, fault: &PlanFault) -> Result<Vec<u
     ensures { IfOk result (λ text. text.items ≡ plan_fault_text form fault.now) }
 {
     match fault {
-        PlanFault::Line(line) => refusal_of_line(alloc, form, 69, "PlanFault::Line", *line),
+        PlanFault::Line(line) => refusal_of_line(alloc, form, 69, "BadPlanLine", *line),
         PlanFault::Memory => no_memory(alloc),
     }
 }
@@ -237,10 +237,10 @@ fn certificate_fault_text(
     ensures { IfOk result (λ text. text.items ≡ certificate_fault_text form fault.now) }
 {
     match fault {
-        CertTextFault::NotJson => refusal_with(alloc, form, 71, "CertTextFault::NotJson", &[]),
+        CertTextFault::NotJson => refusal_with(alloc, form, 71, "CertificateNotJson", &[]),
         CertTextFault::Shape(key) => {
             let word = key.as_str().as_bytes();
-            refusal_with(alloc, form, 72, "CertTextFault::Shape", &[word])
+            refusal_with(alloc, form, 72, "CertificateShape", &[word])
         }
         CertTextFault::Memory => no_memory(alloc),
     }

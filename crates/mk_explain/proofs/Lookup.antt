@@ -25,6 +25,12 @@ said {A} {K} key word p rows r h =
     ∙ (entry_of key word (find (λ (row : A). p (key row)) rows)
     ∙ sym (ap (λ (o : Option (K × List ℕ)). option_map (λ (e : K × List ℕ). e.1) o) (find_map (λ (row : A). (key row, word row)) (λ (e : K × List ℕ). p e.0) rows)))
 
+-- a word that was found in a row is found among the words
+pub word_of_row : {A : Type 0} (word : A → List ℕ) (p : List ℕ → Bool) (rows : List A) (r : Option A) → r ≡ find (λ (row : A). p (word row)) rows
+    → option_map word r ≡ find p (map word rows)
+word_of_row {A} word p rows r h =
+    ap (λ (o : Option A). option_map word o) h ∙ sym (find_map word p rows)
+
 -- the first of two is there, or the second
 pub some_or : {A : Type 0} (a b : Option A) → is_some (option_or a b) ≡ (is_some a || is_some b)
 some_or None b = refl

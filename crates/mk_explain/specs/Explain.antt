@@ -3,11 +3,11 @@ use Rattle.std.specs.Prelude.{ℕ, ◌==◌, Bool, ◌||◌, List, [], ◌∷◌
 use Rattle.std.specs.Fmt.{decimal}
 use Rattle.std.specs.List.{find, flat_map}
 use Rattle.std.specs.Option.{option_map, option_or, unwrap_or}
-use Rattle.std.specs.Str.{bytes_eq}
+use Rattle.std.specs.Str.{bytes_eq, str_eq_ignore_ascii_case}
 use Rattle.mk_explain.specs.declared.faults.TheConstants.{FAULTS}
 use Rattle.mk_explain.specs.declared.findings.TheConstants.{FINDINGS}
-use Rattle.mk_explain.specs.Known.{fault_names}
-use Rattle.mk_explain.specs.Texts.{fault_text, finding_text}
+use Rattle.mk_explain.specs.Known.{fault_names, finding_words}
+use Rattle.mk_explain.specs.Texts.{fault_text, finding_text, term_text}
 
 -- The findings, each by its first word and its sentence.
 abbrev pub finding_sentences : List (List ℕ × List ℕ)
@@ -73,11 +73,28 @@ fault_explanation number =
     (unwrap_or (fault_sentence number) [] ++
     (10 ∷ 10 ∷ unwrap_or (fault_text number) [])))))
 
+-- The explanation of the finding, the fault or the other word that is spelled so.
+abbrev pub explained_as_spelled : List ℕ → Option (List ℕ)
+explained_as_spelled what =
+    option_or (option_map (λ sentence. finding_explanation what sentence) (finding_sentence what))
+    (option_or (option_map fault_explanation (number_named what)) (term_text what))
+
+-- The first word of a finding that is this word but for the case of letters.
+unfoldable pub finding_spelled : List ℕ → Option (List ℕ)
+finding_spelled what = find (λ word. str_eq_ignore_ascii_case word what) finding_words
+
+-- The name of a fault that is this word but for the case of letters.
+unfoldable pub fault_spelled : List ℕ → Option (List ℕ)
+fault_spelled what =
+    find (λ name. str_eq_ignore_ascii_case name what) (map (λ fault. fault.1) fault_names)
+
+-- The word as it is explained, whatever the case of its letters.
+abbrev pub spelled : List ℕ → List ℕ
+spelled what = unwrap_or (finding_spelled what) (unwrap_or (fault_spelled what) what)
+
 -- The explanation of what is called so, if anything is.
 abbrev pub explained : List ℕ → Option (List ℕ)
-explained what =
-    option_or (option_map (λ sentence. finding_explanation what sentence) (finding_sentence what))
-    (option_map fault_explanation (number_named what))
+explained what = explained_as_spelled (spelled what)
 
 -- The line of a finding in the overview.
 abbrev pub finding_line : List ℕ × List ℕ → List ℕ

@@ -62,7 +62,7 @@ fault_names =
     (52, codes "Shape") ∷
     (53, codes "OtherFormat") ∷
     (54, codes "TwoRecords") ∷
-    (55, codes "FootFault::BadName") ∷
+    (55, codes "BadFootprintName") ∷
     (56, codes "SourceIsFixed") ∷
     (57, codes "NoGroup") ∷
     (58, codes "NoList") ∷
@@ -77,11 +77,11 @@ fault_names =
     (67, codes "NotInFootprint") ∷
     (68, codes "NotAllDone") ∷
     (69, codes "PlanLine") ∷
-    (69, codes "PlanFault::Line") ∷
+    (69, codes "BadPlanLine") ∷
     (70, codes "NotEditable") ∷
     (77, codes "NotAGoal") ∷
-    (71, codes "CertTextFault::NotJson") ∷
-    (72, codes "CertTextFault::Shape") ∷
+    (71, codes "CertificateNotJson") ∷
+    (72, codes "CertificateShape") ∷
     (73, codes "OtherGoals") ∷
     (74, codes "NoWay") ∷
     (75, codes "BadWay") ∷

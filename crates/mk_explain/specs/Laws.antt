@@ -5,9 +5,9 @@ use Rattle.std.specs.List.{list_all, list_any}
 use Rattle.std.specs.Option.{option_map_or}
 use Rattle.std.specs.Bool.{IsTrue}
 use Rattle.std.specs.Str.{bytes_eq}
-use Rattle.mk_explain.specs.Explain.{explained, fault_name, fault_sentence, finding_sentence, finding_sentences, is_called, number_named}
+use Rattle.mk_explain.specs.Explain.{explained, fault_name, fault_sentence, finding_sentence, finding_sentences, is_called, number_named, spelled}
 use Rattle.mk_explain.specs.Known.{fault_names, finding_words}
-use Rattle.mk_explain.specs.Texts.{fault_text, finding_text}
+use Rattle.mk_explain.specs.Texts.{fault_text, finding_text, term_text}
 
 -- It is this number.
 abbrev pub is_number : ℕ → Option ℕ → Bool
@@ -30,12 +30,14 @@ pub record EachFindingIsExplained : Type 0 where
   pub words : map (λ finding. finding.0) finding_sentences ≡ finding_words
   pub texts : IsTrue (list_all (λ word. is_some (finding_text word)) finding_words)
 
--- It is the first word of a finding, or the name or the number of a fault.
+-- It is the first word of a finding, the name or the number of a fault, or another word that
+-- answers begin with.
 abbrev pub is_known : List ℕ → Bool
 is_known what =
     list_any (λ word. bytes_eq word what) finding_words ||
-    list_any (λ fault. is_called fault what) fault_names
+    (list_any (λ fault. is_called fault what) fault_names ||
+    is_some (term_text what))
 
--- Exactly what is known is explained.
+-- Exactly what is known is explained, whatever the case of its letters.
 abbrev pub KnownIsExplained : Type 0
-KnownIsExplained = (what : List ℕ) → is_some (explained what) ≡ is_known what
+KnownIsExplained = (what : List ℕ) → is_some (explained what) ≡ is_known (spelled what)

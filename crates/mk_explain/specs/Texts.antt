@@ -12,6 +12,7 @@ use Rattle.mk_explain.specs.declared.graph.TheConstants as graph
 use Rattle.mk_explain.specs.declared.footprints.TheConstants as footprints
 use Rattle.mk_explain.specs.declared.plans.TheConstants as plans
 use Rattle.mk_explain.specs.declared.certificates.TheConstants as certificates
+use Rattle.mk_explain.specs.declared.terms.TheConstants as terms
 
 -- The text of the finding with this first word.
 unfoldable pub finding_text : List ℕ → Option (List ℕ)
@@ -137,3 +138,11 @@ fault_text number =
     option_or (footprints_text number) (
     option_or (plans_text number) (
     certificates_text number))))))))
+
+-- The text of another word that an answer begins with.
+unfoldable pub term_text : List ℕ → Option (List ℕ)
+term_text word =
+    (if bytes_eq word (codes "yes") then Some terms.YES.now else
+    (if bytes_eq word (codes "way") then Some terms.WAY.now else
+    (if bytes_eq word (codes "cycle") then Some terms.CYCLE.now else
+    (if bytes_eq word (codes "tried") then Some terms.TRIED.now else None))))

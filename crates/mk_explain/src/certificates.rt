@@ -4,7 +4,7 @@ ghost use Rattle.std.specs.Prelude.{◌≡◌};
 ghost use Rattle.std.specs.Option.{option_map};
 ghost use Rattle.mk_explain.specs.Texts.{certificates_text};
 
-/// `CertTextFault::NotJson` (71).
+/// `CertificateNotJson` (71).
 pub const NOT_JSON: &str = "\
 `refused 71`: the certificate is no JSON value.
 
@@ -16,7 +16,7 @@ pub const NOT_JSON: &str = "\
 `check -c` prints a new certificate.
 ";
 
-/// `CertTextFault::Shape` (72).
+/// `CertificateShape` (72).
 pub const SHAPE: &str = "\
 `refused 72 KEY`: the value at KEY is missing, is of another kind, or holds
 what it can't. KEY is `top` if the file holds no object, `unknown` for another

@@ -4,9 +4,9 @@ ghost use Rattle.std.specs.Prelude.{◌≡◌, ◌==◌, map, IfOk};
 ghost use Rattle.std.specs.List.{find, flat_map};
 ghost use Rattle.std.specs.Fmt.{decimal};
 ghost use Rattle.std.specs.Option.{option_map};
-ghost use Rattle.std.specs.Str.{bytes_eq};
+ghost use Rattle.std.specs.Str.{bytes_eq, str_eq_ignore_ascii_case};
 ghost use Rattle.std.specs.String.{string_bytes};
-ghost use Rattle.mk_explain.specs.Explain.{all_fault_lines, fault_line, fault_name, fault_sentence, is_called, lookup, lookup_word, named_sentence, number_in, number_named};
+ghost use Rattle.mk_explain.specs.Explain.{all_fault_lines, fault_line, fault_name, fault_sentence, fault_spelled, is_called, lookup, lookup_word, named_sentence, number_in, number_named};
 
 use std::alloc::{AllocError, Global};
 
@@ -14,7 +14,7 @@ use std::alloc::{AllocError, Global};
 type Row = (u32, &'static str, &'static str);
 
 /// The number of each fault, its name, and a sentence. Where faults share a number, the first one
-/// stands for all; where two have one name, that of the second has its type's name before it.
+/// stands for all.
 pub const FAULTS: [(u32, &str, &str); 65] = [
     (
         1,
@@ -112,7 +112,7 @@ pub const FAULTS: [(u32, &str, &str); 65] = [
     (
         29,
         "UnknownSpecial",
-        "POSIX has no such special target; remove its line",
+        "this special target isn't taken; remove its line",
     ),
     (
         30,
@@ -203,7 +203,7 @@ pub const FAULTS: [(u32, &str, &str); 65] = [
     (54, "TwoRecords", "a target has two records; record again"),
     (
         55,
-        "FootFault::BadName",
+        "BadFootprintName",
         "footprints have a name that is no path; record again",
     ),
     (
@@ -250,7 +250,7 @@ pub const FAULTS: [(u32, &str, &str); 65] = [
     (
         65,
         "OutOfDate",
-        "a recipe that must run is passed; write `run`",
+        "a recipe that must run is skipped; write `run`",
     ),
     (
         66,
@@ -274,7 +274,7 @@ pub const FAULTS: [(u32, &str, &str); 65] = [
     ),
     (
         69,
-        "PlanFault::Line",
+        "BadPlanLine",
         "a line of the plan can't be parsed; write it as a step",
     ),
     (70, "NotEditable", "the file isn't editable; edit a source"),
@@ -285,12 +285,12 @@ pub const FAULTS: [(u32, &str, &str); 65] = [
     ),
     (
         71,
-        "CertTextFault::NotJson",
+        "CertificateNotJson",
         "the certificate is no JSON; print a new one",
     ),
     (
         72,
-        "CertTextFault::Shape",
+        "CertificateShape",
         "the certificate has another shape; print a new one",
     ),
     (
@@ -383,6 +383,33 @@ pub fn named_sentence(name: &str) -> Option<&'static str>
     ensures { option_map (λ sentence. sentence.now) result ≡ named_sentence name.now }
 {
     named_sentence_in(&FAULTS, name)
+}
+
+/// The first row whose name is this word but for the case of letters.
+fn row_spelled<'a>(rows: &'a [Row], word: &str) -> Option<&'a Row>
+    ensures { option_map (λ row. row.now) result ≡
+        find (λ row. str_eq_ignore_ascii_case row.1.now word.now) rows.now }
+{
+    rows.iter().find(|row| row.1.eq_ignore_ascii_case(word))
+}
+
+/// The first name in these rows that is this word but for the case of letters.
+fn spelled_in(rows: &[Row], word: &str) -> Option<&'static str>
+    ensures { option_map (λ found. found.now) result ≡
+        find (λ other. str_eq_ignore_ascii_case other word.now) (map (λ row. row.1.now) rows.now) }
+{
+    match row_spelled(rows, word) {
+        Some(row) => Some(row.1),
+        None => None,
+    }
+}
+
+/// The name of the fault that is this word but for the case of letters, if there is one.
+#[tactic(auto, unfolding(crate::specs::Explain::fault_spelled))]
+pub fn fault_spelled(what: &str) -> Option<&'static str>
+    ensures { option_map (λ name. name.now) result ≡ fault_spelled what.now }
+{
+    spelled_in(&FAULTS, what)
 }
 
 /// Whether this is the name of the fault, or its number in decimal.

@@ -3,9 +3,9 @@
 ghost use Rattle.std.specs.Prelude.{◌≡◌, map, IfOk};
 ghost use Rattle.std.specs.List.{find, flat_map};
 ghost use Rattle.std.specs.Option.{option_map};
-ghost use Rattle.std.specs.Str.{bytes_eq};
+ghost use Rattle.std.specs.Str.{bytes_eq, str_eq_ignore_ascii_case};
 ghost use Rattle.std.specs.String.{string_bytes};
-ghost use Rattle.mk_explain.specs.Explain.{all_finding_lines, finding_line, finding_sentence, lookup_word};
+ghost use Rattle.mk_explain.specs.Explain.{all_finding_lines, finding_line, finding_sentence, finding_spelled, lookup_word};
 ghost use Rattle.mk_explain.specs.Texts.{finding_text};
 
 use std::alloc::{AllocError, Global};
@@ -139,10 +139,11 @@ from is another one.
     a.o: a.c
     \tcc -MMD -c a.c
 
-The recipe of `a.o` writes `a.d` too: `no given a.o a.d`. Let a target that is
-made by hand write the lists of headers, and keep them in the makefile
-(docs/FROM_GNU_MAKE.md). If a recipe changes a source, let it write to another
-file instead.
+The recipe of `a.o` writes `a.d` too: `no given a.o a.d`. Dependency files
+change what the next make reads: let `mkcheck-import` read the build, which
+knows them; or let a target that is made by hand write the lists of headers,
+and keep them in the makefile (docs/FROM_GNU_MAKE.md). If a recipe changes a
+source, let it write to another file instead.
 ";
 
 /// `no own R F`.
@@ -159,15 +160,16 @@ Write the file anew in each run: `cat a > log`.
 
 /// `no unknown R F`.
 pub const UNKNOWN: &str = "\
-`no unknown R F`: R reads F, which is neither given nor written by any recipe.
-Nothing says where it comes from.
+`no unknown R F`: R reads F, which is neither given nor written by any recipe
+that the goals reach. Nothing says where it comes from.
 
     b: a
     \tcat a /home/me/note > b
 
 No recipe writes the note, and it is no source: `no unknown b /home/me/note`.
-Take the file into the project; add the target whose recipe writes it to the
-goals; or, if the file never changes, record with `--fixed /home/me/`.
+Take the file into the project, or, if it never changes, record with
+`--fixed /home/me/`. If F has a rule that the goals don't reach, write `R: F`:
+else a change of what F is made from never reaches R.
 ";
 
 /// `no loose T R`.
@@ -182,7 +184,9 @@ while R still writes it.
 
 The recipe of `p.c` writes `p.h` too: `no loose p.h p.c`. Write `p.h: p.c`. If
 GNU make runs the build, write `p.h: p.c ;`, with an empty recipe: else it
-looks at `p.h` before `p.c` is made.
+looks at `p.h` before `p.c` is made. If R itself needs T, as a program that
+writes its own prerequisite, give T that command, or take it out of what R
+needs.
 ";
 
 /// `no race R S F`.
@@ -276,6 +280,33 @@ pub fn finding_sentence(word: &str) -> Option<&'static str>
     ensures { option_map (λ sentence. sentence.now) result ≡ finding_sentence word.now }
 {
     sentence_in(&FINDINGS, word)
+}
+
+/// The first row whose word is this one but for the case of letters.
+fn row_spelled<'a>(rows: &'a [Row], word: &str) -> Option<&'a Row>
+    ensures { option_map (λ row. row.now) result ≡
+        find (λ row. str_eq_ignore_ascii_case row.0.now word.now) rows.now }
+{
+    rows.iter().find(|row| row.0.eq_ignore_ascii_case(word))
+}
+
+/// The first word in these rows that is this one but for the case of letters.
+fn spelled_in(rows: &[Row], word: &str) -> Option<&'static str>
+    ensures { option_map (λ found. found.now) result ≡
+        find (λ other. str_eq_ignore_ascii_case other word.now) (map (λ row. row.0.now) rows.now) }
+{
+    match row_spelled(rows, word) {
+        Some(row) => Some(row.0),
+        None => None,
+    }
+}
+
+/// The first word of the finding that is this word but for the case of letters, if there is one.
+#[tactic(auto, unfolding(crate::specs::Explain::finding_spelled))]
+pub fn finding_spelled(what: &str) -> Option<&'static str>
+    ensures { option_map (λ word. word.now) result ≡ finding_spelled what.now }
+{
+    spelled_in(&FINDINGS, what)
 }
 
 /// A line for each finding of these rows.

@@ -46,7 +46,7 @@ Record again. By hand, write one record with all that the recipe reads and
 writes.
 ";
 
-/// `FootFault::BadName` (55).
+/// `BadFootprintName` (55).
 pub const BAD_NAME: &str = "\
 `refused 55 KEY`: a name at KEY is no plain path, or a prefix of `fixed` is
 neither `/` nor a plain path followed by `/`.

@@ -19,8 +19,8 @@ pub fn each_finding_is_explained()
     ensures { EachFindingIsExplained }
 {}
 
-/// The first words of findings, and the names and numbers of faults, are explained, and nothing
-/// else.
+/// The first words of findings, the names and numbers of faults, and the other words that answers
+/// begin with are explained, and nothing else.
 pub fn known_is_explained()
     ensures { KnownIsExplained }
 {}

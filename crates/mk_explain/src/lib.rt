@@ -1,4 +1,4 @@
-//! Explains findings and faults: what each one means, when it comes, and what to do.
+//! Explains findings, faults and other printed words: what each means, when it comes, what to do.
 #![tactic(auto)]
 
 mod certificates;
@@ -15,6 +15,8 @@ mod lines;
 mod macros;
 mod names;
 mod plans;
+mod spelling;
+mod terms;
 
 pub use explaining::{explain, overview};
 pub use faults::{fault_name, fault_sentence, named_sentence};

@@ -34,13 +34,15 @@ Write `lib.a: a.o` with the command `rm -f $@; ar rc $@ $^`.
 /// `UnknownSpecial` (29).
 pub const UNKNOWN_SPECIAL: &str = "\
 `refused 29 FILE:LINE`: a target of `.` and three or more of `A-Z` and `_` is
-none of the known special targets.
+none of the special targets that are taken. `.DEFAULT` and `.SCCS_GET` are
+POSIX's, but not taken here.
 
     .DELETE_ON_ERROR:
     all: ; cc -o all all.c
 
 Remove it. So that a recipe that fails leaves no half-written file, let it
-write to another name, and rename that.
+write to another name, and rename that. In place of `.DEFAULT` write a rule
+for each name that it is to make.
 ";
 
 /// `SpecialShape` (30).

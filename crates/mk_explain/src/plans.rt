@@ -73,8 +73,8 @@ Give `make` more jobs, or write `done` before.
 
 /// `OutOfDate` (65).
 pub const OUT_OF_DATE: &str = "\
-`refused 65 line N`: the target is to be passed, and its recipe must run: it
-is phony or doesn't exist, or a prerequisite is phony or newer.
+`refused 65 line N`: the target is to be skipped, and its recipe must run:
+it is phony or doesn't exist, or a prerequisite is phony or newer.
 
     make 1
     pass b
@@ -122,7 +122,7 @@ Write `finish` in place of `done`, or the lines that are missing.
 /// `PlanLine` (69).
 pub const PLAN_LINE: &str = "\
 `refused 69 line N`: a line of the plan is malformed, or is the 65,537th, and
-nothing is run (`PlanFault::Line`); or a name in it is no node, or no file of
+nothing is run (`BadPlanLine`); or a name in it is no node, or no file of
 the world.
 
     make 0

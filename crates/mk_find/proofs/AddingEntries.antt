@@ -3,17 +3,17 @@ use Rattle.std.proofs.Common.{◌≡◌, ℕ, ◌+◌, ◌<◌, inl, inr, length
 use Rattle.std.proofs.lemmas.List.{length-map, map_push, nil_from_length, take_more}
 use Rattle.mk_graph.specs.Membership.{Has}
 use Rattle.mk_cert_text.specs.declared.certificate.Finish.{Finish}
-use Rattle.mk_cert.specs.declared.finding.Finding.{Finding}
-use Rattle.mk_cert.specs.Candidates.{Candidate, stale}
-use Rattle.mk_cert.specs.Listed.{Adds, named}
-use Rattle.mk_cert.specs.Conditions.{IsStale}
-use Rattle.mk_cert.specs.Laws.{ListedExactly}
-use Rattle.mk_cert.specs.Listing.{Lists}
+use Rattle.mk_find.specs.declared.finding.Finding.{Finding}
+use Rattle.mk_find.specs.Candidates.{Candidate, stale}
+use Rattle.mk_find.specs.Listed.{Adds, named}
+use Rattle.mk_find.specs.Conditions.{IsStale}
+use Rattle.mk_find.specs.FindingLaws.{ListedExactly}
+use Rattle.mk_find.specs.Listing.{Lists}
 use Rattle.mk_cert_text.specs.Certificate.{Way}
-use Rattle.mk_cert.specs.Subject.{Subject, reads_of}
-use Rattle.mk_cert.specs.Verdict.{Read}
+use Rattle.mk_subject.specs.Subject.{Subject, reads_of}
+use Rattle.mk_subject.specs.Reads.{Read}
 use Rattle.mk_find.specs.FirstPaths.{IsAlongFirstPath}
-use Rattle.mk_find.proofs.Accepted.{carried_are_recipes}
+use Rattle.mk_find.proofs.CarriedRecipes.{carried_are_recipes}
 use Rattle.mk_graph.specs.Lists.{has_mapped}
 use Rattle.mk_find.proofs.ReadsOnce.{recipe_is_node}
 use Rattle.mk_find.specs.Certifying.{ReadNeedsWay, IsEntryFor, AreEntriesFor, nothing, entry, none, AddsEntries}

@@ -1,15 +1,15 @@
 -- Entries of certificates: there is one for each read, and none is longer than a path.
 use Rattle.std.proofs.Common.{◌≡◌, ℕ, List, [], ◌∷◌, length, map, inl, inr, refl, sym, ◌∙◌, ap, subst, arith}
 use Rattle.std.proofs.lemmas.List.{length-map}
-use Rattle.mk_graph.specs.GrowthLaws.{NamesHaveOneNumber}
+use Rattle.mk_build.specs.BuildLaws.{NamesHaveOneNumber}
 use Rattle.mk_graph.specs.Membership.{Has}
 use Rattle.mk_graph_search.specs.Ways.{along}
 use Rattle.mk_cert_text.specs.Certificate.{Way}
-use Rattle.mk_cert.specs.Subject.{Subject, name_of}
-use Rattle.mk_cert.specs.Verdict.{Read}
+use Rattle.mk_subject.specs.Subject.{Subject, name_of}
+use Rattle.mk_subject.specs.Reads.{Read}
 use Rattle.mk_find.specs.Certifying.{IsEntryFor, AreEntriesFor, nothing, entry, none, reads_once, ReadNeedsWay}
 use Rattle.mk_find.specs.FirstPaths.{IsPathOver}
-use Rattle.mk_find.specs.Laws.{FirstPathIsOne, FirstPathIsShortest, CertificateIsOne, CertificateIsShortest, EntriesAreShortest}
+use Rattle.mk_find.specs.WayLaws.{FirstPathIsOne, FirstPathIsShortest, CertificateIsOne, CertificateIsShortest, EntriesAreShortest}
 use Rattle.mk_find.proofs.ReadsOnce.{reader_is_recipe, recipe_is_node}
 use Rattle.mk_find.proofs.Turned.{length_turned}
 

@@ -1,13 +1,12 @@
 -- Lists of findings: there is one, and what it means that it is empty.
 use Rattle.std.proofs.lemmas.List.{nil_from_length}
 use Rattle.std.proofs.Common.{◌≡◌, length, List, [], ◌∷◌, ◌++◌, map, inl, inr, refl, sym, ◌∙◌, ap, subst}
-use Rattle.mk_cert.specs.declared.finding.Finding.{Finding}
-use Rattle.mk_cert.specs.Subject.{Subject}
-use Rattle.mk_cert.specs.Candidates.{Candidate, static_candidates, race_candidates, stale_candidates}
-use Rattle.mk_cert.specs.Laws.{ListIsOne}
-use Rattle.mk_cert.specs.Listing.{Lists, nothing, keeps, drops}
-use Rattle.mk_cert.specs.Listed.{named, Adds}
-use Rattle.mk_find.specs.Laws.{FindingsAreOne, NoFindings}
+use Rattle.mk_find.specs.declared.finding.Finding.{Finding}
+use Rattle.mk_subject.specs.Subject.{Subject}
+use Rattle.mk_find.specs.Candidates.{Candidate, static_candidates, race_candidates, stale_candidates}
+use Rattle.mk_find.specs.FindingLaws.{ListIsOne, FindingsAreOne, NoFindings}
+use Rattle.mk_find.specs.Listing.{Lists, nothing, keeps, drops}
+use Rattle.mk_find.specs.Listed.{named, Adds}
 
 -- two that are added are one
 same_added : ListIsOne → (x : Subject) (all : List Candidate) (one other : List Finding) → Adds x all [] one → Adds x all [] other → one ≡ other

@@ -3,15 +3,15 @@ use Rattle.std.proofs.Common.{◌≡◌, ℕ, ◌≤◌, Bool, true, false, List
 use Rattle.std.proofs.lemmas.Bool.{false≢true}
 use Rattle.std.proofs.lemmas.List.{length-append}
 use Rattle.mk_graph.specs.Membership.{Has}
-use Rattle.mk_graph.specs.Ways.{Carries}
+use Rattle.mk_build.specs.Ways.{Carries}
 use Rattle.mk_graph_search.specs.Ways.{end, IsWay, Precedes, IsFirstWay}
 use Rattle.mk_graph_search.specs.Laws.{PrecedesIsAnOrder, PrecedesAsRead}
 use Rattle.mk_cert_text.specs.declared.certificate.Finish.{Finish}
 use Rattle.mk_cert_text.specs.declared.certificate.Finish.TheVariants.{Written, Source, Always}
-use Rattle.mk_cert.specs.Carried.{carried}
-use Rattle.mk_cert.specs.Subject.{Subject, footprints, writes_of}
+use Rattle.mk_subject.specs.Carried.{carried}
+use Rattle.mk_subject.specs.Subject.{Subject, footprints, writes_of}
 use Rattle.mk_find.specs.FirstPaths.{rank, MayEnd, IsPathOver, IsFirstPath}
-use Rattle.mk_find.specs.Laws.{FirstPathIsOne, FirstPathIsShortest}
+use Rattle.mk_find.specs.WayLaws.{FirstPathIsOne, FirstPathIsShortest}
 use Rattle.mk_find.proofs.Turned.{turned_twice, length_turned, none_turned, last_is_end, way_is_carried, carried_is_way}
 
 -- a finish of each rank is one

@@ -9,14 +9,15 @@ use Rattle.mk_foot.specs.Setting as foot
 use Rattle.mk_graph.specs.declared.node.Node.{Node}
 use Rattle.mk_graph.specs.Graph.{IsGraph, node}
 use Rattle.mk_graph.specs.Membership.{Has}
-use Rattle.mk_graph.specs.Ways.{CanChange}
+use Rattle.mk_build.specs.Ways.{CanChange}
 use Rattle.mk_cert_text.specs.declared.certificate.Finish.{Finish}
-use Rattle.mk_cert.specs.Candidates.{static_candidates}
-use Rattle.mk_cert.specs.Conditions.{IsStale}
-use Rattle.mk_cert.specs.NodeRow.{NodeRow, IsEntry, reads_in, entry_reads}
-use Rattle.mk_cert.specs.Laws.{NothingFoundIsSound, PathsAreWays}
-use Rattle.mk_cert.specs.Listing.{Lists}
-use Rattle.mk_cert.specs.Subject.{Subject, IsSubject, footprints, name_of, reads_of, writes_of}
+use Rattle.mk_find.specs.Candidates.{static_candidates}
+use Rattle.mk_find.specs.Conditions.{IsStale}
+use Rattle.mk_subject.specs.NodeRow.{NodeRow, IsEntry, reads_in, entry_reads}
+use Rattle.mk_find.specs.FindingLaws.{NothingFoundIsSound}
+use Rattle.mk_subject.specs.Laws.{PathsAreWays}
+use Rattle.mk_find.specs.Listing.{Lists}
+use Rattle.mk_subject.specs.Subject.{Subject, IsSubject, footprints, name_of, reads_of, writes_of}
 use Rattle.mk_find.specs.declared.first_path.FirstPath.{FirstPath}
 use Rattle.mk_find.specs.FirstPaths.{IsAlongFirstPath, HasNoPath}
 use Rattle.mk_find.proofs.ReadsOnce.{recipe_is_node, reader_is_recipe}

@@ -7,13 +7,13 @@ use Rattle.mk_graph.specs.Graph.{IsGraph}
 use Rattle.mk_graph.specs.Laws.{SerialReachesEachOnce}
 use Rattle.mk_graph.specs.Membership.{Has}
 use Rattle.mk_graph.specs.Serial.{serial_order}
-use Rattle.mk_cert.specs.Candidates.{stale}
-use Rattle.mk_cert.specs.Listed.{Adds}
-use Rattle.mk_cert.specs.NodeRow.{writers_of}
-use Rattle.mk_cert.specs.Subject.{Subject, writes_of}
-use Rattle.mk_cert.specs.declared.finding.Finding.{Finding}
+use Rattle.mk_find.specs.Candidates.{stale}
+use Rattle.mk_find.specs.Listed.{Adds}
+use Rattle.mk_subject.specs.NodeRow.{writers_of}
+use Rattle.mk_subject.specs.Subject.{Subject, writes_of}
+use Rattle.mk_find.specs.declared.finding.Finding.{Finding}
 use Rattle.mk_find.specs.Findings.{hidden_read}
-use Rattle.mk_cert.proofs.Adding.{adds_nothing}
+use Rattle.mk_find.proofs.Adding.{adds_nothing}
 use Rattle.mk_find.proofs.Members.{kept_from}
 use Rattle.mk_find.proofs.Trying.{found, some_passes, stands, which_passes, writer_there}
 

@@ -11,9 +11,8 @@ use Rattle.mk_graph.specs.Graph.{Graph, IsGraph, no_node, node}
 use Rattle.mk_graph.specs.Laws.{SerialReachesEachOnce}
 use Rattle.mk_graph.specs.Membership.{Has, IsDistinct}
 use Rattle.mk_graph.specs.Serial.{serial_order}
-use Rattle.mk_cert.specs.Conditions.{IsRecipe}
-use Rattle.mk_cert.specs.Subject.{Subject, reads_of}
-use Rattle.mk_cert.specs.Verdict.{Read}
+use Rattle.mk_subject.specs.Subject.{IsRecipe, Subject, reads_of}
+use Rattle.mk_subject.specs.Reads.{Read}
 use Rattle.mk_find.specs.Certifying.{reads_by, reads_once}
 use Rattle.mk_graph.specs.Lists.{has_mapped, mapped_from, joined_to, joined_from}
 use Rattle.mk_find.proofs.Members.{distinct_joined, distinct_mapped, kept_from, kept_to, distinct_kept}

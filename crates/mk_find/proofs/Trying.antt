@@ -12,15 +12,15 @@ use Rattle.mk_graph.specs.Laws.{SerialReachesEachOnce}
 use Rattle.mk_graph.specs.Lists.{has_cases}
 use Rattle.mk_graph.specs.Membership.{Has}
 use Rattle.mk_graph.specs.Serial.{serial_order}
-use Rattle.mk_graph.specs.Setting.{is_editable}
+use Rattle.mk_build.specs.Setting.{is_editable}
 use Rattle.mk_graph_search.specs.Ways.{successors, end}
 use Rattle.mk_graph_search.specs.Places.{SearchInput, EndsAt, GoesAt, HasAtMost, IsOutBefore}
 use Rattle.mk_graph_search.specs.Laws.{FirstByPlaces, NoneByPlaces, OneWayAtAPlace, PlacesAreBelow, SaysNoBefore}
 use Rattle.mk_cert_text.specs.declared.certificate.Finish.{Finish}
 use Rattle.mk_cert_text.specs.declared.certificate.Finish.TheVariants.{Written, Source, Always}
-use Rattle.mk_cert.specs.Carried.{carried, CarriedExactly}
-use Rattle.mk_cert.specs.NodeRow.{writers_of}
-use Rattle.mk_cert.specs.Subject.{Subject, footprints, name_of, writes_of}
+use Rattle.mk_subject.specs.Carried.{carried, CarriedExactly}
+use Rattle.mk_subject.specs.NodeRow.{writers_of}
+use Rattle.mk_subject.specs.Subject.{Subject, footprints, name_of, writes_of}
 use Rattle.mk_find.specs.FirstPaths.{AlwaysNoneBefore, EndsNoneBefore, MayEnd, IsFirstFinish, IsAlongFirstPath, HasNoPath}
 use Rattle.mk_find.proofs.FirstPaths.{HasFinish, found_first, none_found}
 use Rattle.mk_find.proofs.Members.{kept_to}

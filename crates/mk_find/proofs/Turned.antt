@@ -4,10 +4,10 @@ use Rattle.std.proofs.lemmas.List.{length-append}
 use mathlib.Core.List.{reverse-cons}
 use Rattle.mk_graph.specs.Graph.{Graph}
 use Rattle.mk_graph.specs.Membership.{Has}
-use Rattle.mk_graph.specs.Setting.{Setting}
-use Rattle.mk_graph.specs.Ways.{Carries}
+use Rattle.mk_build.specs.Setting.{Setting}
+use Rattle.mk_build.specs.Ways.{Carries}
 use Rattle.mk_graph_search.specs.Ways.{end, IsWay}
-use Rattle.mk_cert.specs.Paths.{AreCarried, last_of}
+use Rattle.mk_subject.specs.Paths.{AreCarried, last_of}
 
 -- a list with one more behind it isn't empty
 pub some_behind : (xs : List ℕ) (n : ℕ) → ¬ (xs ++ n ∷ [] ≡ [])

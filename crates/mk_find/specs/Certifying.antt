@@ -2,14 +2,17 @@
 use Rattle.std.specs.Prelude.{◌≡◌, ◌≤◌, ℕ, List, [], ◌∷◌, ◌++◌, length, map}
 use Rattle.std.specs.List.{flat_map}
 use Rattle.mk_lines.specs.Names.{once}
-use Rattle.mk_graph.specs.Membership.{Has}
-use Rattle.mk_graph.specs.Serial.{serial_order}
 use Rattle.mk_cert_text.specs.Certificate.{Way, Certificate}
 use Rattle.mk_cert_text.specs.declared.certificate.Finish.{Finish}
-use Rattle.mk_cert.specs.Conditions.{IsRecipe}
-use Rattle.mk_cert.specs.Subject.{Subject, name_of, reads_of}
-use Rattle.mk_cert.specs.Verdict.{Read, NeedsWay, HasGoals}
+use Rattle.mk_graph.specs.Membership.{Has}
+use Rattle.mk_graph.specs.Serial.{serial_order}
+use Rattle.mk_subject.specs.Subject.{IsRecipe, Subject, name_of, reads_of}
+use Rattle.mk_subject.specs.Reads.{Read, NeedsWay}
 use Rattle.mk_find.specs.FirstPaths.{IsAlongFirstPath, IsPathOver}
+
+-- The certificate's goals are those of the graph, in their order.
+abbrev pub HasGoals : Subject → Certificate → Type 0
+HasGoals x c = c.goals ≡ map (name_of x) x.graph.goals
 
 -- The reads of a recipe, each file once, in the order of its record.
 abbrev pub reads_by : Subject → ℕ → List Read

@@ -1,14 +1,14 @@
 -- The first of all paths from a recipe to a file: the shortest; among these the one over the
 -- earliest recipes; with the first finish possible.
 use Rattle.std.specs.Prelude.{◌≡◌, ℕ, ◌<◌, ◌≤◌, List, reverse, ◌⊎◌}
-use Rattle.mk_graph.specs.Setting.{IsAlwaysMade}
-use Rattle.mk_graph_search.specs.Places as search
-use Rattle.mk_graph_search.specs.Ways.{along, Precedes}
 use Rattle.mk_cert_text.specs.declared.certificate.Finish.{Finish}
 use Rattle.mk_cert_text.specs.declared.certificate.Finish.TheVariants.{Written, Source, Always}
-use Rattle.mk_cert.specs.Carried.{carried}
-use Rattle.mk_cert.specs.Paths.{EndsAt, IsPath}
-use Rattle.mk_cert.specs.Subject.{Subject, footprints}
+use Rattle.mk_graph_search.specs.Places as search
+use Rattle.mk_graph_search.specs.Ways.{along, Precedes}
+use Rattle.mk_build.specs.Setting.{IsAlwaysMade}
+use Rattle.mk_subject.specs.Carried.{carried}
+use Rattle.mk_subject.specs.Paths.{EndsAt, IsPath}
+use Rattle.mk_subject.specs.Subject.{Subject, footprints}
 
 -- The order of finishes: `Written`, `Source`, `Always`.
 abbrev pub rank : Finish → ℕ

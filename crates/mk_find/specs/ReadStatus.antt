@@ -1,9 +1,9 @@
 -- Whether a read needs a way and has one.
 use Rattle.std.specs.Prelude.{ℕ, List}
-use Rattle.mk_graph.specs.Ways.{CanChange}
-use Rattle.mk_cert.specs.Conditions.{IsStale}
-use Rattle.mk_cert.specs.Subject.{Subject, footprints}
-use Rattle.mk_cert.specs.Verdict.{NeedsWay}
+use Rattle.mk_build.specs.Ways.{CanChange}
+use Rattle.mk_subject.specs.Subject.{Subject, footprints}
+use Rattle.mk_subject.specs.Reads.{NeedsWay}
+use Rattle.mk_find.specs.Conditions.{IsStale}
 use Rattle.mk_find.specs.FirstPaths.{IsAlongFirstPath}
 use Rattle.mk_find.specs.declared.read_status.ReadStatus.{ReadStatus}
 use Rattle.mk_find.specs.declared.read_status.ReadStatus.TheVariants.{Fixed, HasWay, Stale}

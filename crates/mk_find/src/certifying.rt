@@ -3,19 +3,20 @@
 ghost use Rattle.std.specs.Prelude.{◌≡◌, ◌<◌, ◌∷◌, ◌++◌, [], ℕ, length, map, IfOk, OnOk};
 ghost use Rattle.mk_cert_text.specs.Certificate.{Way as WayValue};
 ghost use Rattle.mk_graph.specs.Membership.{Has};
-ghost use Rattle.mk_cert.specs.Candidates.{static_candidates, stale_candidates};
-ghost use Rattle.mk_cert.specs.NodeRow.{IsEntry};
-ghost use Rattle.mk_cert.specs.Listing.{Lists};
-ghost use Rattle.mk_cert.specs.Subject.{name_of, reads_of};
+ghost use Rattle.mk_find.specs.Candidates.{static_candidates, stale_candidates};
+ghost use Rattle.mk_subject.specs.NodeRow.{IsEntry};
+ghost use Rattle.mk_find.specs.Listing.{Lists};
+ghost use Rattle.mk_subject.specs.Subject.{name_of, reads_of};
 ghost use Rattle.mk_find.specs.Certifying.{HasShortestWays, IsCertificate, IsEntryFor};
 ghost use Rattle.mk_find.specs.FirstPaths.{IsAlongFirstPath};
 
+use crate::finding_laws::list_is_one;
 use crate::first_path::FirstPath;
-use crate::judging::judge_all;
-use crate::laws::certificate_is_shortest;
-use mk_cert::laws::{carried_exactly, list_is_one};
-use mk_cert::{NodeRow, Subject};
+use crate::stale_findings::judge_all;
+use crate::way_laws::certificate_is_shortest;
 use mk_cert_text::{Certificate, PackedNames, Ways};
+use mk_subject::laws::carried_exactly;
+use mk_subject::{NodeRow, Subject};
 use std::alloc::{AllocError, Global};
 use std::marker::Model;
 

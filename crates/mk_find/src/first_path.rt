@@ -5,21 +5,21 @@ ghost use Rattle.mk_graph.specs.Membership.{Has};
 ghost use Rattle.mk_graph_search.specs.Places.{HasAtMost, IsOutBefore};
 ghost use Rattle.mk_graph_search.specs.Ways.{successors};
 ghost use Rattle.mk_cert_text.specs.declared.certificate.Finish.{Finish as FinishValue};
-ghost use Rattle.mk_cert.specs.Carried.{carried};
-ghost use Rattle.mk_cert.specs.WayTables.{AreEnds};
-ghost use Rattle.mk_cert.specs.Paths.{EndsAt};
-ghost use Rattle.mk_cert.specs.Subject.{footprints, writes_of};
-ghost use Rattle.mk_cert.specs.Target.{target_of};
+ghost use Rattle.mk_subject.specs.Carried.{carried};
+ghost use Rattle.mk_subject.specs.WayTables.{AreEnds};
+ghost use Rattle.mk_subject.specs.Paths.{EndsAt};
+ghost use Rattle.mk_subject.specs.Subject.{footprints, writes_of};
+ghost use Rattle.mk_subject.specs.Target.{target_of};
 ghost use Rattle.mk_find.specs.FirstPaths.{AlwaysNoneBefore, EndsNoneBefore, IsEndAt, IsFirstFinish, IsAlongFirstPath, HasNoPath};
 
-use mk_cert::laws::carried_exactly;
-use mk_cert::{EndTables, Subject, Target, ends_at};
 use mk_cert_text::Finish;
 use mk_graph::laws::serial_reaches_each_once;
 use mk_graph_search::Search;
 use mk_graph_search::laws::{
     first_by_places, none_by_places, one_way_at_a_place, places_are_below,
 };
+use mk_subject::laws::carried_exactly;
+use mk_subject::{EndTables, Subject, Target, ends_at};
 use std::alloc::{AllocError, Global};
 
 /// At most this many places are tried one by one, which costs less than a lookup.

@@ -5,10 +5,13 @@ ghost use Rattle.mk_find.specs.Certifying.{HasShortestWays, IsCertificate};
 ghost use Rattle.mk_find.specs.Findings.{AreFindings};
 
 use crate::certifying::names_of;
-use crate::judging::judge_all;
-use crate::laws::certificate_is_shortest;
-use mk_cert::{Finding, Subject, races, static_findings};
+use crate::finding::Finding;
+use crate::race_findings::races;
+use crate::stale_findings::judge_all;
+use crate::static_checks::static_findings;
+use crate::way_laws::certificate_is_shortest;
 use mk_cert_text::Certificate;
+use mk_subject::Subject;
 use std::alloc::{AllocError, Global};
 
 /// The certificate of a build without findings; else the findings, as `findings` returns them. One

@@ -4,23 +4,24 @@ ghost use Rattle.std.specs.Prelude.{◌≡◌, ℕ, IfOk, OnOk};
 ghost use Rattle.mk_lines.specs.Names.{has_name};
 ghost use Rattle.mk_graph.specs.Membership.{Has};
 ghost use Rattle.mk_graph_search.specs.Ways.{successors};
-ghost use Rattle.mk_cert.specs.Candidates.{by_node};
-ghost use Rattle.mk_cert.specs.Carried.{carried};
-ghost use Rattle.mk_cert.specs.Listed.{Adds};
-ghost use Rattle.mk_cert.specs.NodeRow.{IsEntry};
-ghost use Rattle.mk_cert.specs.Subject.{reads_of, writes_of};
-ghost use Rattle.mk_cert.specs.Target.{target_of};
-ghost use Rattle.mk_cert.specs.WayTables.{AreEnds};
+ghost use Rattle.mk_find.specs.Candidates.{by_node};
+ghost use Rattle.mk_subject.specs.Carried.{carried};
+ghost use Rattle.mk_find.specs.Listed.{Adds};
+ghost use Rattle.mk_subject.specs.NodeRow.{IsEntry};
+ghost use Rattle.mk_subject.specs.Subject.{reads_of, writes_of};
+ghost use Rattle.mk_subject.specs.Target.{target_of};
+ghost use Rattle.mk_subject.specs.WayTables.{AreEnds};
 ghost use Rattle.mk_find.specs.Findings.{AreHidden, hidden_read, hidden_reads};
 ghost use Rattle.mk_find.specs.FirstPaths.{AlwaysNoneBefore};
 
-use crate::judging::judge_read;
-use mk_cert::{
-    EndTables, FileNames, Finding, NodeRow, Subject, Target, carried_lists, end_tables_of, races,
-};
+use crate::file_names::FileNames;
+use crate::finding::Finding;
+use crate::race_findings::races;
+use crate::stale_findings::judge_read;
 use mk_graph::Groups;
 use mk_graph::laws::serial_reaches_each_once;
 use mk_graph_search::Search;
+use mk_subject::{EndTables, NodeRow, Subject, Target, carried_lists, end_tables_of};
 use std::alloc::{AllocError, Global};
 
 /// Whether the recipe writes the file.

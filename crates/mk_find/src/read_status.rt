@@ -3,17 +3,17 @@
 ghost use Rattle.std.specs.Prelude.{◌≡◌, ℕ, IfOk};
 ghost use Rattle.mk_graph.specs.Membership.{Has};
 ghost use Rattle.mk_graph_search.specs.Ways.{successors};
-ghost use Rattle.mk_cert.specs.Carried.{carried};
-ghost use Rattle.mk_cert.specs.WayTables.{AreEnds};
-ghost use Rattle.mk_cert.specs.Subject.{reads_of, writes_of};
+ghost use Rattle.mk_subject.specs.Carried.{carried};
+ghost use Rattle.mk_subject.specs.WayTables.{AreEnds};
+ghost use Rattle.mk_subject.specs.Subject.{reads_of, writes_of};
 ghost use Rattle.mk_find.specs.FirstPaths.{AlwaysNoneBefore};
 ghost use Rattle.mk_find.specs.ReadStatus.{IsReadStatus};
-ghost use Rattle.mk_cert.specs.Target.{target_of};
+ghost use Rattle.mk_subject.specs.Target.{target_of};
 
 use crate::first_path::{FirstPath, first_path};
-use mk_cert::laws::paths_are_ways;
-use mk_cert::{EndTables, Subject, Target};
 use mk_graph_search::Search;
+use mk_subject::laws::paths_are_ways;
+use mk_subject::{EndTables, Subject, Target};
 use std::alloc::{AllocError, Global};
 
 /// Whether a read needs a way and has one.

@@ -8,9 +8,9 @@ use Rattle.mk_graph.specs.declared.node.Node.{Node}
 use Rattle.mk_graph.specs.Graph.{Graph, no_node, node}
 use Rattle.mk_graph.specs.Membership.{Has}
 use Rattle.mk_graph.specs.Lists.{has_right}
-use Rattle.mk_graph.specs.Setting.{Setting, name}
-use Rattle.mk_graph.specs.Stale.{Chain, here, further}
-use Rattle.mk_graph.specs.Ways.{Carries}
+use Rattle.mk_build.specs.Setting.{Setting, name}
+use Rattle.mk_build.specs.Stale.{Chain, here, further}
+use Rattle.mk_build.specs.Ways.{Carries}
 use Rattle.mk_graph_search.specs.Ways.{end, IsWay, successors}
 use Rattle.mk_graph_search.specs.Places.{SearchInput, StandsAt, EndsAt, HasAtMost}
 use Rattle.mk_graph_search.specs.Laws.{NoneByPlaces, OneWayAtAPlace, PlacesAreBelow, SaysNoBefore}

@@ -7,8 +7,8 @@ use Rattle.mk_graph.specs.declared.node.Node.{Node}
 use Rattle.mk_graph.specs.Graph.{node}
 use Rattle.mk_foot.specs.Book.{Record}
 use Rattle.mk_foot.specs.Setting as foot
-use Rattle.mk_cert.specs.Subject.{Subject, name_of, writes_of}
-use Rattle.mk_cert.specs.NodeRow.{NodeRow, IsEntry, entry_writes, writes_in}
+use Rattle.mk_subject.specs.Subject.{Subject, name_of, writes_of}
+use Rattle.mk_subject.specs.NodeRow.{NodeRow, IsEntry, entry_writes, writes_in}
 
 -- what is looked up of the files of a record is what the setting says
 writes_by : (s : foot.Setting) (name : List ℕ) (r : Option Record) → foot.record_for s.records name ≡ r → writes_in r ≡ foot.writes s name

@@ -7,7 +7,7 @@ use Rattle.mk_graph.specs.Membership.{Has, IsDistinct}
 use Rattle.mk_graph.specs.Lists.{has_left, has_right}
 use Rattle.mk_graph.specs.Graph.{Graph, node, IsGraph}
 use Rattle.mk_graph.specs.Serial.{serial_order}
-use Rattle.mk_graph.specs.Setting.{Setting, writes, writings}
+use Rattle.mk_build.specs.Setting.{Setting, writes, writings}
 use Rattle.mk_graph.specs.Schedules.{InOpenGroup, Wanted, goal, onward, IsSchedule}
 use Rattle.mk_graph.specs.Laws.{SerialReachesEachOnce}
 

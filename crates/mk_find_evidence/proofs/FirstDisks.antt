@@ -7,8 +7,8 @@ use Rattle.std.specs.Cmp.Lexicographic.{slice_cmp}
 use Rattle.std.proofs.lemmas.Cmp.{nat_list_cmp_total, tied_itself}
 use Rattle.mk_graph.specs.Membership.{Has}
 use Rattle.mk_graph.specs.Graph.{Graph}
-use Rattle.mk_graph.specs.Setting.{FileName, Setting}
-use Rattle.mk_graph.specs.World.{Disk, AreAscending, IsFirstDisk, numbered_disk}
+use Rattle.mk_build.specs.Setting.{FileName, Setting}
+use Rattle.mk_build.specs.World.{Disk, AreAscending, IsFirstDisk, numbered_disk}
 
 rest_ascends : (f : FileName) (names : List FileName) → AreAscending (f ∷ names) → AreAscending names
 rest_ascends f [] h = tt

@@ -3,10 +3,10 @@ use Rattle.std.proofs.Common.{◌≡◌, ℕ, List, [], ◌∷◌, ◌++◌, map
 use Rattle.std.proofs.lemmas.List.{append-nil, map-append}
 use Rattle.mk_graph.specs.Membership.{Has}
 use Rattle.mk_graph.specs.Graph.{node}
-use Rattle.mk_graph.specs.World.{World}
-use Rattle.mk_graph.specs.Steps.{Step, Pass, IsLegal, after, after_all}
-use Rattle.mk_graph.specs.SerialMake.{whole_run}
-use Rattle.mk_graph.specs.NodeByNode.{MakesAllBut, ends, passes, runs}
+use Rattle.mk_build.specs.World.{World}
+use Rattle.mk_build.specs.Steps.{Step, Pass, IsLegal, after, after_all}
+use Rattle.mk_build.specs.SerialMake.{whole_run}
+use Rattle.mk_build.specs.NodeByNode.{MakesAllBut, ends, passes, runs}
 use Rattle.mk_world.specs.State.{Scene, setting, world_of}
 use Rattle.mk_world.specs.Steps.{step_of}
 use Rattle.mk_world.specs.NamedStep as named

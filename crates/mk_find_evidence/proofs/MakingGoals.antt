@@ -4,23 +4,22 @@ use Rattle.std.proofs.lemmas.List.{map-append}
 use Rattle.mk_graph.specs.Membership.{Has}
 use Rattle.mk_graph.specs.Graph.{Graph, IsGraph, Reached, goal, onward}
 use Rattle.mk_graph.specs.Laws.{OrderOfAllGoals, SerialReachesEachOnce}
-use Rattle.mk_graph.specs.Serial.{serial_order}
-use Rattle.mk_graph.specs.Setting.{FileName, Setting, writings}
-use Rattle.mk_graph.specs.BuildLaws.{FirstIsAStart, StaleIsShown}
-use Rattle.mk_graph.specs.World.{Disk, World, Idle, Busy, IsFirstDisk, last_stamp}
-use Rattle.mk_graph.specs.World as model_world
-use Rattle.mk_graph.specs.Steps as model
-use Rattle.mk_graph.specs.Clean.{order_from}
-use Rattle.mk_graph.specs.NodeByNode.{MakesAllBut}
-use Rattle.mk_graph.specs.SerialMake.{one_make}
-use Rattle.mk_graph.specs.Stale.{Chain, IsEditOf, stale_history, MakesGoalsBut, ShowsStale}
+use Rattle.mk_graph.specs.Serial.{serial_order, order_from}
+use Rattle.mk_build.specs.Setting.{FileName, Setting, writings}
+use Rattle.mk_build.specs.BuildLaws.{FirstIsAStart, StaleIsShown}
+use Rattle.mk_build.specs.World.{Disk, World, Idle, Busy, IsFirstDisk, last_stamp}
+use Rattle.mk_build.specs.World as model_world
+use Rattle.mk_build.specs.Steps as model
+use Rattle.mk_build.specs.NodeByNode.{MakesAllBut}
+use Rattle.mk_build.specs.SerialMake.{one_make}
+use Rattle.mk_build.specs.Stale.{Chain, IsEditOf, stale_history, MakesGoalsBut, ShowsStale}
 use Rattle.mk_world.specs.State.{Scene, DiskState, MakeState, setting, disk_of, world_in, world_of}
 use Rattle.mk_world.specs.Steps.{step_of, IsFirstOf}
-use Rattle.mk_cert.specs.Candidates.{static_candidates}
-use Rattle.mk_cert.specs.Conditions.{IsStale}
-use Rattle.mk_cert.specs.Laws.{NothingFoundIsSound}
-use Rattle.mk_cert.specs.Listing.{Lists}
-use Rattle.mk_cert.specs.Subject.{Subject, IsSubject, footprints}
+use Rattle.mk_find.specs.Candidates.{static_candidates}
+use Rattle.mk_find.specs.Conditions.{IsStale}
+use Rattle.mk_find.specs.FindingLaws.{NothingFoundIsSound}
+use Rattle.mk_find.specs.Listing.{Lists}
+use Rattle.mk_subject.specs.Subject.{Subject, IsSubject, footprints}
 use Rattle.mk_find_evidence.specs.Histories.{History, MayGoOn, GoesOn, MakesOn, GoesOnMaking}
 use Rattle.mk_find_evidence.specs.Makes.{HasNoMake, MakesGoalsOn, MayMakeGoals, GoesOnMakingGoals, MayEdit, GoesOnEditing}
 use Rattle.mk_find_evidence.specs.Shown.{EndsStale}

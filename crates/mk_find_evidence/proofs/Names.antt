@@ -8,7 +8,7 @@ use Rattle.mk_lines.specs.Names.{place_from}
 use Rattle.mk_graph.specs.Membership.{Has, IsDistinct}
 use Rattle.mk_graph.specs.declared.node.Node.{Node}
 use Rattle.mk_graph.specs.Graph.{Graph, IsSound, no_node}
-use Rattle.mk_graph.specs.Setting.{name}
+use Rattle.mk_build.specs.Setting.{name}
 use Rattle.mk_world.specs.State.{number_of}
 
 name_at : List Node → ℕ → List ℕ

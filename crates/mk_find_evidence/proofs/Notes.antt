@@ -1,7 +1,7 @@
 -- Steps that are noted.
 use Rattle.std.proofs.Common.{◌≡◌, List, [], ◌∷◌, ◌++◌, map, refl, sym, ap, ◌∙◌, subst, append_assoc}
 use Rattle.std.proofs.lemmas.List.{append-nil, map-append}
-use Rattle.mk_graph.specs.Steps.{Step, after_all}
+use Rattle.mk_build.specs.Steps.{Step, after_all}
 use Rattle.mk_world.specs.State.{Scene, State, setting, world_of}
 use Rattle.mk_world.specs.Steps.{step_of}
 use Rattle.mk_world.specs.NamedStep as named

@@ -11,12 +11,12 @@ use Rattle.mk_foot.specs.Setting as recorded
 use Rattle.mk_graph.specs.declared.node.Node.{Node}
 use Rattle.mk_graph.specs.Graph.{Graph, node, no_node}
 use Rattle.mk_graph.specs.Membership.{Has}
-use Rattle.mk_graph.specs.Setting.{FileName, name, reads, writes}
-use Rattle.mk_graph.specs.World.{IsOfWorld}
+use Rattle.mk_build.specs.Setting.{FileName, name, reads, writes}
+use Rattle.mk_build.specs.World.{IsOfWorld}
 use Rattle.mk_infer.specs.NameLaws.{GoalsArePlain, HavePlainNames, NodesHavePlainNames}
 use Rattle.mk_lines.specs.Paths.{is_plain_path}
 use Rattle.mk_read.specs.RuleLaws.{RuleLinesAreWellNamed, TextsArePlain}
-use Rattle.mk_cert.specs.Subject.{footprints}
+use Rattle.mk_subject.specs.Subject.{footprints}
 use Rattle.mk_find_evidence.specs.PlanLaws.{IsBookFor, NamesOfSubjectArePlain}
 
 abbrev pub ArePlain : List (List ℕ) → Type 0

@@ -5,12 +5,13 @@ use Rattle.mk_foot.specs.Setting as recorded
 use Rattle.mk_graph.specs.Membership.{Has}
 use Rattle.mk_graph.specs.Graph.{Graph, IsGraph, node}
 use Rattle.mk_graph.specs.Serial.{serial_order}
-use Rattle.mk_graph.specs.Setting.{writings}
-use Rattle.mk_graph.specs.World.{Disk, Idle, Busy, IsFirstDisk, last_stamp}
-use Rattle.mk_graph.specs.SchedulesWithout.{until_begin, RunsAlone, IsScheduleWithout}
-use Rattle.mk_graph.specs.Steps.{Step, Make, Begin, make_of, IsLegal, after_all}
-use Rattle.mk_graph.specs.NodeByNode.{MakesAllBut}
-use Rattle.mk_graph.specs.BuildLaws.{FirstIsAStart, SchedulesRun}
+use Rattle.mk_build.specs.Setting.{writings}
+use Rattle.mk_build.specs.World.{Disk, Idle, Busy, IsFirstDisk, last_stamp}
+use Rattle.mk_build.specs.ScheduleMake.{until_begin, RunsAlone}
+use Rattle.mk_graph.specs.Schedules.{IsScheduleWithout}
+use Rattle.mk_build.specs.Steps.{Step, Make, Begin, make_of, IsLegal, after_all}
+use Rattle.mk_build.specs.NodeByNode.{MakesAllBut}
+use Rattle.mk_build.specs.BuildLaws.{FirstIsAStart, SchedulesRun}
 use Rattle.mk_graph.specs.Laws.{SerialReachesEachOnce}
 use Rattle.mk_world.specs.State.{Scene, setting_of, disk_of}
 use Rattle.mk_world.specs.Steps.{step_of, IsFirstOf}

@@ -8,13 +8,13 @@ use Rattle.mk_graph.specs.Membership.{Has}
 use Rattle.mk_graph.specs.Lists.{has_left, has_right}
 use Rattle.mk_graph.specs.Graph.{Graph, IsGraph, node}
 use Rattle.mk_graph.specs.Serial.{serial_order}
-use Rattle.mk_graph.specs.Setting.{Setting, writes, writings}
-use Rattle.mk_graph.specs.World.{Disk, World, Idle, Busy, IsStartDisk, last_stamp}
-use Rattle.mk_graph.specs.Schedules.{HasAll, Wanted, goal, onward, IsPart}
-use Rattle.mk_graph.specs.SchedulesWithout.{until_begin, RunsAlone, IsScheduleWithout}
-use Rattle.mk_graph.specs.Steps.{Step, Begin, make_of, IsLegal, after, after_all}
-use Rattle.mk_graph.specs.NodeByNode.{MakesAllBut}
-use Rattle.mk_graph.specs.BuildLaws.{SchedulesRun}
+use Rattle.mk_build.specs.Setting.{Setting, writes, writings}
+use Rattle.mk_build.specs.World.{Disk, World, Idle, Busy, IsStartDisk, last_stamp}
+use Rattle.mk_graph.specs.Schedules.{HasAll, Wanted, goal, onward, IsPart, IsScheduleWithout}
+use Rattle.mk_build.specs.ScheduleMake.{until_begin, RunsAlone}
+use Rattle.mk_build.specs.Steps.{Step, Begin, make_of, IsLegal, after, after_all}
+use Rattle.mk_build.specs.NodeByNode.{MakesAllBut}
+use Rattle.mk_build.specs.BuildLaws.{SchedulesRun}
 use Rattle.mk_graph.specs.Laws.{SerialReachesEachOnce}
 use Rattle.mk_find_evidence.specs.Shown.{IsDoneIn}
 use Rattle.mk_find_evidence.proofs.Steps.{after_appended, makes_alike}

@@ -3,12 +3,12 @@ use Rattle.std.proofs.Common.{◌≡◌, ◌≤◌, true, List, length, map, Ok,
 use Rattle.mk_lines.specs.Names.{has_name}
 use Rattle.mk_lines.specs.Paths.{is_plain_path}
 use Rattle.mk_graph.specs.Graph.{IsGraph}
-use Rattle.mk_graph.specs.Steps as model
-use Rattle.mk_graph.specs.Setting.{FileName}
-use Rattle.mk_graph.specs.World.{Disk, Idle, IsOfWorld, World}
-use Rattle.mk_cert.specs.Subject.{Subject, footprints}
-use Rattle.mk_cert.specs.declared.finding.Finding.{Finding}
-use Rattle.mk_cert.specs.declared.finding.Finding.TheVariants.{Race, Stale}
+use Rattle.mk_build.specs.Steps as model
+use Rattle.mk_build.specs.Setting.{FileName}
+use Rattle.mk_build.specs.World.{Disk, Idle, IsOfWorld, World}
+use Rattle.mk_subject.specs.Subject.{Subject, footprints}
+use Rattle.mk_find.specs.declared.finding.Finding.{Finding}
+use Rattle.mk_find.specs.declared.finding.Finding.TheVariants.{Race, Stale}
 use Rattle.mk_world.specs.NamedStep.{Step, Edit, Make, Begin, Look, Put, End, Pass, Stop, EndMake}
 use Rattle.mk_world.specs.RunLaws.{AreLegal}
 use Rattle.mk_world.specs.State.{Scene, disk_of, setting, world_in, world_of}

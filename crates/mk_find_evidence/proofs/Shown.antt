@@ -1,24 +1,24 @@
 -- Each race and each stale read among the findings can be shown.
 use Rattle.std.proofs.Common.{◌≡◌, ℕ, ◌+◌, ◌*◌, ◌<◌, ◌≤◌, Bool, true, false, not, nat_eq, cond, List, [], ◌∷◌, ◌++◌, length, map, filter, reverse, inl, inr, refl, sym, ap, subst}
 use Rattle.std.proofs.lemmas.List.{reverse-reverse}
-use Rattle.mk_graph.specs.EmptyInputs.{empty_setting, empty_disk, steps_of, node_steps, ShowsNotBefore}
-use Rattle.mk_graph.specs.BuildLaws.{FirstIsAStart, NotBeforeIsShown, StaleHistoryExists, StaleIsShown, SchedulesRun}
+use Rattle.mk_build.specs.EmptyInputs.{empty_setting, empty_disk, steps_of, node_steps, ShowsNotBefore}
+use Rattle.mk_build.specs.BuildLaws.{FirstIsAStart, NotBeforeIsShown, StaleHistoryExists, StaleIsShown, SchedulesRun}
 use Rattle.mk_graph.specs.Graph.{Graph, IsGraph, IsSound, node}
-use Rattle.mk_graph.specs.GrowthLaws.{CanStartStays}
+use Rattle.mk_graph.specs.ScheduleLaws.{CanStartStays}
 use Rattle.mk_graph.specs.Laws.{OrderOfAllGoals, SerialReachesEachOnce}
 use Rattle.mk_graph.specs.Membership.{Has, IsWithin}
-use Rattle.mk_graph.specs.Setting.{Setting, name, writings}
-use Rattle.mk_graph.specs.World.{Disk, World, Idle, Busy, IsFirstDisk, last_stamp}
-use Rattle.mk_graph.specs.Steps.{Step, Edit, Make, Begin, Look, Put, End, Pass, Stop, EndMake, Allowed, IsLegal, after, after_all, make_of}
-use Rattle.mk_graph.specs.Stale.{stale_history}
-use Rattle.mk_graph.specs.SchedulesWithout.{until_begin, IsScheduleWithout}
-use Rattle.mk_graph.specs.Schedules.{HasAll, CanStart, IsSchedule, Wanted, goal, onward}
+use Rattle.mk_build.specs.Setting.{Setting, name, writings}
+use Rattle.mk_build.specs.World.{Disk, World, Idle, Busy, IsFirstDisk, last_stamp}
+use Rattle.mk_build.specs.Steps.{Step, Edit, Make, Begin, Look, Put, End, Pass, Stop, EndMake, Allowed, IsLegal, after, after_all, make_of}
+use Rattle.mk_build.specs.Stale.{stale_history}
+use Rattle.mk_build.specs.ScheduleMake.{until_begin}
+use Rattle.mk_graph.specs.Schedules.{IsScheduleWithout, HasAll, CanStart, IsSchedule, Wanted, goal, onward}
 use Rattle.mk_world.specs.Steps.{step_of}
 use Rattle.mk_world.specs.NamedStep as by_name
-use Rattle.mk_cert.specs.Laws.{ListedExactly, NothingFoundIsSound}
-use Rattle.mk_cert.specs.Subject.{Subject, IsSubject, footprints}
-use Rattle.mk_cert.specs.declared.finding.Finding.{Finding}
-use Rattle.mk_cert.specs.declared.finding.Finding.TheVariants as found
+use Rattle.mk_find.specs.FindingLaws.{ListedExactly, NothingFoundIsSound}
+use Rattle.mk_subject.specs.Subject.{Subject, IsSubject, footprints}
+use Rattle.mk_find.specs.declared.finding.Finding.{Finding}
+use Rattle.mk_find.specs.declared.finding.Finding.TheVariants as found
 use Rattle.mk_find_evidence.specs.Shown.{EndsInRace, EndsStale, HasStamps, IsRaceOrStale, IsReported, ShowsFrom}
 use Rattle.mk_find_evidence.proofs.Counts.{wanted_low}
 use Rattle.mk_find_evidence.proofs.Names.{number_is, numbers_are}

@@ -3,12 +3,12 @@ use Rattle.std.proofs.Common.{ℕ, ◌+◌, List, [], ◌∷◌, ◌++◌, inl, 
 use Rattle.std.proofs.lemmas.Bool.{cases_Bool}
 use Rattle.mk_graph.specs.Membership.{Has}
 use Rattle.mk_graph.specs.Graph.{Graph}
-use Rattle.mk_graph.specs.Setting.{FileName, Setting, is_editable}
-use Rattle.mk_graph.specs.World.{Disk, Idle, Busy}
-use Rattle.mk_graph.specs.Steps.{Step, Edit, make_of, IsLegal, after_all, disk_after}
-use Rattle.mk_graph.specs.Clean.{order_from}
-use Rattle.mk_graph.specs.SerialMake.{one_make}
-use Rattle.mk_graph.specs.Stale.{Chain, IsEditOf, stale_history, MakesGoalsBut, ShowsStale, IsLaterThanAll}
+use Rattle.mk_build.specs.Setting.{FileName, Setting, is_editable}
+use Rattle.mk_build.specs.World.{Disk, Idle, Busy}
+use Rattle.mk_build.specs.Steps.{Step, Edit, make_of, IsLegal, after_all, disk_after}
+use Rattle.mk_graph.specs.Serial.{order_from}
+use Rattle.mk_build.specs.SerialMake.{one_make}
+use Rattle.mk_build.specs.Stale.{Chain, IsEditOf, stale_history, MakesGoalsBut, ShowsStale, IsLaterThanAll}
 use Rattle.mk_find_evidence.proofs.Steps.{makes_alike, makes_exist, legal_front, legal_behind}
 
 -- there is an edit of an editable file, or none of another

@@ -4,11 +4,11 @@ use Rattle.std.proofs.lemmas.Bool.{cases_Bool, cases_eq}
 use Rattle.std.proofs.lemmas.List.Sums.{fold-append}
 use Rattle.mk_graph.specs.Membership.{Has}
 use Rattle.mk_graph.specs.Graph.{Graph, node}
-use Rattle.mk_graph.specs.Setting.{Setting}
-use Rattle.mk_graph.specs.World.{World, disk_of}
-use Rattle.mk_graph.specs.Steps.{Step, Pass, IsLegal, after, after_all}
-use Rattle.mk_graph.specs.SerialMake.{whole_run}
-use Rattle.mk_graph.specs.NodeByNode.{MakesAllBut, ends, passes, runs, to_put}
+use Rattle.mk_build.specs.Setting.{Setting}
+use Rattle.mk_build.specs.World.{World, disk_of}
+use Rattle.mk_build.specs.Steps.{Step, Pass, IsLegal, after, after_all}
+use Rattle.mk_build.specs.SerialMake.{whole_run}
+use Rattle.mk_build.specs.NodeByNode.{MakesAllBut, ends, passes, runs, to_put}
 
 -- the world that steps leave behind others
 pub after_appended : (g : Graph) (s : Setting) (w : World) (xs ys : List Step) → after_all g s w (xs ++ ys) ≡ after_all g s (after_all g s w xs) ys

@@ -5,9 +5,9 @@ use Rattle.std.proofs.lemmas.List.{map-append}
 use Rattle.mk_foot.specs.Setting as recorded
 use Rattle.mk_graph.specs.Membership.{Has}
 use Rattle.mk_graph.specs.Graph.{Graph}
-use Rattle.mk_graph.specs.World.{Disk, World, Idle}
-use Rattle.mk_graph.specs.Steps.{Step, IsLegal, after_all}
-use Rattle.mk_graph.specs.NodeByNode.{MakesAllBut}
+use Rattle.mk_build.specs.World.{Disk, World, Idle}
+use Rattle.mk_build.specs.Steps.{Step, IsLegal, after_all}
+use Rattle.mk_build.specs.NodeByNode.{MakesAllBut}
 use Rattle.mk_world.specs.State.{Scene, MakeState, setting, setting_of, disk_of, world_in, world_of}
 use Rattle.mk_world.specs.Steps.{step_of, IsFirstOf}
 use Rattle.mk_find_evidence.specs.Histories.{History, MayGoOn, GoesOn, MakesOn}

@@ -8,17 +8,17 @@ use Rattle.mk_graph.specs.Membership.{Has}
 use Rattle.mk_graph.specs.Lists.{mapped_from}
 use Rattle.mk_graph.specs.Graph.{node}
 use Rattle.mk_graph.specs.Serial.{serial_order}
-use Rattle.mk_graph.specs.Setting.{IsNumberOf}
+use Rattle.mk_build.specs.Setting.{IsNumberOf}
 use Rattle.mk_world.specs.NamedStep.{step_view}
 use Rattle.mk_world.specs.declared.step.Step.{Step}
-use Rattle.mk_cert.specs.Candidates.{Candidate, IsFinding, no_record, other_commands, varying_commands, no_target, two_writers, given_written, own_read, unknown_read, loose, race, stale, selection, pairs_of_writers, choice_with_writes, static_candidates}
-use Rattle.mk_cert.specs.Conditions.{RacesWith, IsStale}
-use Rattle.mk_cert.specs.Laws.{ListedExactly}
-use Rattle.mk_cert.specs.Listed.{named, Adds}
-use Rattle.mk_cert.specs.Listing.{Lists}
-use Rattle.mk_cert.specs.Subject.{Subject, footprints, name_of, reads_of, writes_of}
-use Rattle.mk_cert.specs.declared.finding.Finding.{Finding}
-use Rattle.mk_cert.specs.declared.finding.Finding.TheVariants as found
+use Rattle.mk_find.specs.Candidates.{Candidate, IsFinding, no_record, other_commands, varying_commands, no_target, two_writers, given_written, own_read, unknown_read, loose, race, stale, selection, pairs_of_writers, choice_with_writes, static_candidates}
+use Rattle.mk_find.specs.Conditions.{RacesWith, IsStale}
+use Rattle.mk_find.specs.FindingLaws.{ListedExactly}
+use Rattle.mk_find.specs.Listed.{named, Adds}
+use Rattle.mk_find.specs.Listing.{Lists}
+use Rattle.mk_subject.specs.Subject.{Subject, footprints, name_of, reads_of, writes_of}
+use Rattle.mk_find.specs.declared.finding.Finding.{Finding}
+use Rattle.mk_find.specs.declared.finding.Finding.TheVariants as found
 use Rattle.mk_find_evidence.specs.Shown.{HasStamps, IsNotShown, IsReported, Shows, ShowsRace, ShowsStaleRead}
 use Rattle.mk_find_evidence.proofs.Chains.{has_recipe, recipe_is_node}
 

@@ -1,11 +1,11 @@
 -- Recipes that are run whole.
 use Rattle.std.proofs.Common.{◌≡◌, ℕ, ◌-◌, ◌<◌, ◌≤◌, List, [], ◌∷◌, ◌++◌, length, map, take, drop, get_or, Option, Some, None, refl, sym, ap, ◌∙◌, subst, append_assoc, arith, inr}
 use Rattle.std.proofs.lemmas.List.{take_rest}
-use Rattle.mk_graph.specs.Setting.{FileName, reads, writes}
-use Rattle.mk_graph.specs.World as world
-use Rattle.mk_graph.specs.World.{Disk}
-use Rattle.mk_graph.specs.Steps.{Step, Begin, Look, Put, End}
-use Rattle.mk_graph.specs.SerialMake.{puts, whole_run}
+use Rattle.mk_build.specs.Setting.{FileName, reads, writes}
+use Rattle.mk_build.specs.World as world
+use Rattle.mk_build.specs.World.{Disk}
+use Rattle.mk_build.specs.Steps.{Step, Begin, Look, Put, End}
+use Rattle.mk_build.specs.SerialMake.{puts, whole_run}
 use Rattle.mk_world.specs.Running.{contents_of}
 use Rattle.mk_world.specs.RunLaws.{WholeRunsAgree}
 use Rattle.mk_world.specs.State.{Scene, State, DiskState, MakeState, setting, disk_of, world_in, world_of}

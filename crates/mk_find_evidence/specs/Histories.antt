@@ -1,11 +1,11 @@
 -- Schedules that are built step by step: the steps, and the world that they lead to.
 use Rattle.std.specs.Prelude.{◌≡◌, ℕ, List, ◌++◌, map}
 use Rattle.mk_graph.specs.Membership.{Has}
-use Rattle.mk_graph.specs.Setting.{reads, writes}
-use Rattle.mk_graph.specs.World as world
-use Rattle.mk_graph.specs.Steps as model
-use Rattle.mk_graph.specs.SerialMake.{puts}
-use Rattle.mk_graph.specs.NodeByNode.{MakesAllBut, to_put}
+use Rattle.mk_build.specs.Setting.{reads, writes}
+use Rattle.mk_build.specs.World as world
+use Rattle.mk_build.specs.Steps as model
+use Rattle.mk_build.specs.SerialMake.{puts}
+use Rattle.mk_build.specs.NodeByNode.{MakesAllBut, to_put}
 use Rattle.mk_world.specs.NamedStep.{Step}
 use Rattle.mk_world.specs.State.{State, setting, world_of}
 use Rattle.mk_world.specs.Steps.{step_of}

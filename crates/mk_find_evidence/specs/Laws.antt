@@ -1,9 +1,9 @@
 -- Laws about evidence.
 use Rattle.std.specs.Prelude.{List, map}
-use Rattle.mk_cert.specs.Subject.{Subject, IsSubject, footprints}
-use Rattle.mk_cert.specs.declared.finding.Finding.{Finding}
+use Rattle.mk_subject.specs.Subject.{Subject, IsSubject, footprints}
+use Rattle.mk_find.specs.declared.finding.Finding.{Finding}
 use Rattle.mk_graph.specs.Graph.{IsGraph}
-use Rattle.mk_graph.specs.World.{Disk, IsFirstDisk}
+use Rattle.mk_build.specs.World.{Disk, IsFirstDisk}
 use Rattle.mk_world.specs.NamedStep.{Step}
 use Rattle.mk_world.specs.Steps.{step_of}
 use Rattle.mk_find_evidence.specs.Shown.{IsReported, IsRaceOrStale, HasStamps, ShowsFrom}

@@ -1,10 +1,10 @@
 -- Makes of all goals, and edits, in a history.
 use Rattle.std.specs.Prelude.{◌≡◌, ℕ, List, None}
 use Rattle.mk_graph.specs.Membership.{Has}
-use Rattle.mk_graph.specs.Setting.{FileName}
-use Rattle.mk_graph.specs.Steps as model
-use Rattle.mk_graph.specs.SerialMake.{one_make}
-use Rattle.mk_graph.specs.Stale.{IsEditOf, MakesGoalsBut}
+use Rattle.mk_build.specs.Setting.{FileName}
+use Rattle.mk_build.specs.Steps as model
+use Rattle.mk_build.specs.SerialMake.{one_make}
+use Rattle.mk_build.specs.Stale.{IsEditOf, MakesGoalsBut}
 use Rattle.mk_world.specs.State.{setting, disk_of}
 use Rattle.mk_find_evidence.specs.Histories.{History, MayGoOn, GoesOn}
 

@@ -6,12 +6,12 @@ use Rattle.mk_read.specs.Reading as reading
 use Rattle.mk_foot.specs.Book.{Book, no_book}
 use Rattle.mk_foot.specs.Reading.{book_from}
 use Rattle.mk_graph.specs.Graph.{IsGraph}
-use Rattle.mk_graph.specs.Setting.{FileName}
-use Rattle.mk_graph.specs.World.{IsOfWorld}
+use Rattle.mk_build.specs.Setting.{FileName}
+use Rattle.mk_build.specs.World.{IsOfWorld}
 use Rattle.mk_infer.specs.Goals.{goal_names}
 use Rattle.mk_infer.specs.Selection.{Selects}
-use Rattle.mk_cert.specs.Subject.{Subject, footprints}
-use Rattle.mk_cert.specs.declared.finding.Finding.{Finding}
+use Rattle.mk_subject.specs.Subject.{Subject, footprints}
+use Rattle.mk_find.specs.declared.finding.Finding.{Finding}
 use Rattle.mk_world.specs.NamedStep.{Step}
 use Rattle.mk_world.specs.Running.{stage_of}
 use Rattle.mk_world.specs.State.{State, world_of}

@@ -3,15 +3,15 @@ use Rattle.std.specs.Prelude.{◌≡◌, ℕ, ◌+◌, ◌*◌, List, [], ◌∷
 use Rattle.mk_graph.specs.Membership.{Has}
 use Rattle.mk_graph.specs.Graph.{Graph}
 use Rattle.mk_graph.specs.Serial.{serial_order}
-use Rattle.mk_graph.specs.Setting.{FileName, Setting, IsNumberOf, writings}
-use Rattle.mk_graph.specs.World.{Disk, World, Idle, Busy, IsFirstDisk, HasStampsFor}
-use Rattle.mk_graph.specs.Steps as model
-use Rattle.mk_graph.specs.Stale.{stale_history, ShowsStale, IsLaterThanAll}
+use Rattle.mk_build.specs.Setting.{FileName, Setting, IsNumberOf, writings}
+use Rattle.mk_build.specs.World.{Disk, World, Idle, Busy, IsFirstDisk, HasStampsFor}
+use Rattle.mk_build.specs.Steps as model
+use Rattle.mk_build.specs.Stale.{stale_history, ShowsStale, IsLaterThanAll}
 use Rattle.mk_world.specs.NamedStep.{Step}
 use Rattle.mk_world.specs.Steps.{step_of}
-use Rattle.mk_cert.specs.Subject.{Subject, footprints}
-use Rattle.mk_cert.specs.declared.finding.Finding.{Finding}
-use Rattle.mk_cert.specs.declared.finding.Finding.TheVariants.{Race, Stale}
+use Rattle.mk_subject.specs.Subject.{Subject, footprints}
+use Rattle.mk_find.specs.declared.finding.Finding.{Finding}
+use Rattle.mk_find.specs.declared.finding.Finding.TheVariants.{Race, Stale}
 use Rattle.mk_find.specs.Findings.{AreFindings}
 
 -- The node is done in the make in progress.

@@ -2,11 +2,11 @@
 
 ghost use Rattle.std.specs.Prelude.{◌≡◌, ◌+◌, ◌*◌, ◌≤◌, ◌↔◌, true};
 ghost use Rattle.mk_graph.specs.Serial.{serial_order};
-ghost use Rattle.mk_graph.specs.Setting.{writings};
-ghost use Rattle.mk_graph.specs.World.{last_stamp};
-ghost use Rattle.mk_cert.specs.Subject.{footprints};
+ghost use Rattle.mk_build.specs.Setting.{writings};
+ghost use Rattle.mk_build.specs.World.{last_stamp};
+ghost use Rattle.mk_subject.specs.Subject.{footprints};
 
-use mk_cert::Subject;
+use mk_subject::Subject;
 
 /// How many files the recipes write; a file counts once for each recipe that writes it.
 fn writings(subject: &Subject<'_>) -> u128

@@ -3,10 +3,10 @@
 ghost use Rattle.std.specs.Prelude.{◌≡◌, ◌∷◌, ◌<◌, ◌+◌, [], length, map, true, IfOk, OnOk};
 ghost use Rattle.std.specs.String.{string_bytes};
 ghost use Rattle.mk_graph.specs.Graph.{IsGraph, node};
-ghost use Rattle.mk_graph.specs.Steps as model;
-ghost use Rattle.mk_graph.specs.Setting.{name};
-ghost use Rattle.mk_graph.specs.SerialMake.{puts, whole_run};
-ghost use Rattle.mk_graph.specs.World.{last_stamp};
+ghost use Rattle.mk_build.specs.Steps as model;
+ghost use Rattle.mk_build.specs.Setting.{name};
+ghost use Rattle.mk_build.specs.SerialMake.{puts, whole_run};
+ghost use Rattle.mk_build.specs.World.{last_stamp};
 ghost use Rattle.mk_world.specs.NamedStep.{step_view};
 ghost use Rattle.mk_world.specs.Running.{contents_of};
 ghost use Rattle.mk_world.specs.State.{disk_of, number_of, setting};

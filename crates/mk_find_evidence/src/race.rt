@@ -11,10 +11,10 @@ ghost use Rattle.mk_find_evidence.specs.Shown.{HasStamps, ShowsRace};
 use crate::bound::has_stamps;
 use crate::history::History;
 use crate::making::make_but;
-use mk_cert::Subject;
-use mk_graph::build_laws::{first_is_a_start, schedules_run};
+use mk_build::build_laws::{first_is_a_start, schedules_run};
 use mk_graph::laws::serial_reaches_each_once;
 use mk_graph::{NodeSet, schedule_without};
+use mk_subject::Subject;
 use mk_world::Step;
 use std::alloc::{AllocError, Global};
 

@@ -1,17 +1,18 @@
 //! Evidence of a finding.
 
 ghost use Rattle.std.specs.Prelude.{◌≡◌, ℕ, map, IfOk, IfSome, MatchOption};
-ghost use Rattle.mk_graph.specs.Setting.{IsNumberOf};
+ghost use Rattle.mk_build.specs.Setting.{IsNumberOf};
 ghost use Rattle.mk_world.specs.NamedStep.{step_view};
 ghost use Rattle.mk_find_evidence.specs.Numbers.{HaveSmallNumbers};
 ghost use Rattle.mk_find_evidence.specs.Shown.{IsNotShown, IsReported, Shows};
 
 use crate::race::race;
 use crate::stale::stale;
-use mk_cert::laws::listed_exactly;
-use mk_cert::{Finding, SharedName, Subject};
+use mk_build::build_laws::names_have_one_number;
+use mk_find::Finding;
+use mk_find::finding_laws::listed_exactly;
 use mk_graph::Graph;
-use mk_graph::growth_laws::names_have_one_number;
+use mk_subject::{SharedName, Subject};
 use mk_world::Step;
 use std::alloc::{AllocError, Global};
 

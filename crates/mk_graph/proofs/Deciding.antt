@@ -7,12 +7,10 @@ use Rattle.mk_graph.specs.Graph.{Graph, node, prerequisites, IsGraph}
 use Rattle.mk_graph.specs.Serial.{serial_order}
 use Rattle.mk_graph.specs.Schedules.{HasAll, InOpenGroup, Wanted, CanStart, IsSchedule, Before}
 use Rattle.mk_graph.specs.Without.{AreFree}
-use Rattle.mk_graph.specs.BuildLaws.{NotBeforeIsShown}
 use Rattle.mk_graph.specs.Lists.{has_left, has_right, has_cases}
 use Rattle.mk_graph.proofs.Members.{cases_Has}
-use Rattle.mk_graph.proofs.AllButOne.{is_before, is_not_before, turn_comes, wanted_part}
+use Rattle.mk_graph.proofs.AllButOne.{is_before, is_not_before, turn_comes}
 use Rattle.mk_graph.proofs.Rounds.{AreFreeUpTo, free_joins, free_stays, all_free, AreWantedFrom, goals_wanted, opens_this, passes_this, all_wanted}
-use Rattle.mk_graph.proofs.BareBuilds.{begins_last}
 
 -- all of a list stands in another one or doesn't
 cases_HasAll : (ns ms : List ℕ) → HasAll ns ms ⊎ (¬ (HasAll ns ms))
@@ -135,18 +133,12 @@ module _ (g : Graph) (is : IsGraph g) where
       ]
 
   -- where o isn't before t, the turn of t comes without o
-  comes_without : (o t : ℕ) → ¬ (Before g o t) → (ns : List ℕ) × IsSchedule g g.goals ns × (¬ (Has ns o)) × CanStart g g.goals ns t
+  pub comes_without : (o t : ℕ) → ¬ (Before g o t) → (ns : List ℕ) × IsSchedule g g.goals ns × (¬ (Has ns o)) × CanStart g g.goals ns t
   comes_without o t not_before =
       let free = free_nodes o in
       let would = would_turn o t free.0 free.1 not_before in
       turn_comes g o is free.0 free.1 t would.0 would.1
 
 -- and t has a recipe
-has_recipe : (g : Graph) (o t : ℕ) → ¬ (Before g o t) → (node g t).recipe ≡ true
+pub has_recipe : (g : Graph) (o t : ℕ) → ¬ (Before g o t) → (node g t).recipe ≡ true
 has_recipe g o t not_before = ⊎_elim (λ e. e) (λ none. absurd (not_before (λ recipe. absurd (false≢true (sym none ∙ recipe))))) (cases_Bool (node g t).recipe)
-
--- so a legal history shows it
-pub not_before_is_shown : NotBeforeIsShown
-not_before_is_shown g o t is not_before =
-    let shown = comes_without g is o t not_before in
-    (g.goals, shown.0, begins_last g g.goals o t (wanted_part g g.goals shown.0 t shown.3.wanted) shown.0 shown.1 shown.2 shown.3 (has_recipe g o t not_before))

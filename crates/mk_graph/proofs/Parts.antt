@@ -3,7 +3,7 @@ use Rattle.std.proofs.Common.{ℕ, List, [], ◌∷◌, inl, inr, refl, subst}
 use Rattle.mk_graph.specs.Membership.{Has, IsWithin}
 use Rattle.mk_graph.specs.Graph.{Graph, node}
 use Rattle.mk_graph.specs.Schedules.{HasAll, InOpenGroup, Wanted, goal, onward, CanStart, IsSchedule, IsPart}
-use Rattle.mk_graph.specs.BuildLaws.{AllGoalsSuffice}
+use Rattle.mk_graph.specs.ScheduleLaws.{AllGoalsSuffice}
 
 -- all of a list stands there, element by element
 pub HasAll-from_Has : (ns ms : List ℕ) → IsWithin ms ns → HasAll ns ms

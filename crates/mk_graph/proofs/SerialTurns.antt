@@ -5,9 +5,8 @@ use Rattle.std.proofs.lemmas.Bool.{cases_Bool, cond-true, cond-false}
 use Rattle.std.proofs.lemmas.List.{reverse-reverse}
 use Rattle.mk_graph.specs.Membership.{Has, has, IsWithin}
 use Rattle.mk_graph.specs.Graph.{Graph, node, prerequisites, HasNoCycle}
-use Rattle.mk_graph.specs.Serial.{visit, visits, serial_from}
+use Rattle.mk_graph.specs.Serial.{visit, visits, serial_from, order_from}
 use Rattle.mk_graph.specs.Schedules.{HasAll, InOpenGroup, Wanted, goal, onward, CanStart, IsSchedule}
-use Rattle.mk_graph.specs.Clean.{order_from}
 use Rattle.mk_graph.specs.Lists.{has_right}
 use Rattle.mk_graph.proofs.Members.{Has-from_has, not-from_has}
 use Rattle.mk_graph.proofs.SerialOrder.{visit_old, visit_new, cut_height, cut_low, cut_falls}

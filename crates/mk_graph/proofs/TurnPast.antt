@@ -9,8 +9,7 @@ use mathlib.Core.Path.{fun_ext}
 use Rattle.mk_graph.specs.Membership.{Has, has, IsWithin}
 use Rattle.mk_graph.specs.Graph.{Graph, node, prerequisites, IsGraph}
 use Rattle.mk_graph.specs.Walk.{Through, Closes, Walks, ends, passes, finishes}
-use Rattle.mk_graph.specs.Schedules.{HasAll, InOpenGroup, Wanted, goal, onward, CanStart, IsSchedule, Before}
-use Rattle.mk_graph.specs.SchedulesWithout.{IsScheduleWithout}
+use Rattle.mk_graph.specs.Schedules.{HasAll, InOpenGroup, Wanted, goal, onward, CanStart, IsSchedule, Before, IsScheduleWithout}
 use Rattle.mk_graph.specs.Without.{AreFree, AreOpened, joined, opened, until}
 use Rattle.mk_graph.specs.Lists.{has_left, has_right, has_cases}
 use Rattle.mk_graph.proofs.Members.{Has-from_has, has-from_Has, Has-from_reverse}

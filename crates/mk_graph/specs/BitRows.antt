@@ -1,7 +1,6 @@
 -- A bit matrix in one list of words, with a row for each number. The stride is the number of words
 -- in a row.
-use Rattle.std.specs.Prelude.{◌≡◌, ℕ, ◌+◌, ◌*◌, ◌<◌, ◌≤◌, false, ◌⊎◌, ◌↔◌}
-use Rattle.std.specs.Prelude.{List, [], ◌∷◌, length, map, take, drop, Vec}
+use Rattle.std.specs.Prelude.{◌≡◌, ℕ, ◌+◌, ◌*◌, ◌<◌, ◌≤◌, false, ◌⊎◌, ◌↔◌, List, [], ◌∷◌, length, map, take, drop, Vec}
 use Rattle.std.specs.declared.alloc.Global.{Global}
 use Rattle.mk_graph.specs.Bits.{is_set}
 use Rattle.mk_graph.specs.Graph.{Graph, node, prerequisites}

@@ -4,8 +4,7 @@ use Rattle.mk_graph.specs.Membership.{Has, has, IsDistinct}
 use Rattle.mk_graph.specs.Graph.{Graph, prerequisites, Reached, HasPath, HasNoCycle, IsSound}
 use Rattle.mk_graph.specs.Walk.{WalkEnd, Through, Closes}
 use Rattle.mk_graph.specs.Build.{WalksAll}
-use Rattle.mk_graph.specs.Clean.{order_from}
-use Rattle.mk_graph.specs.Serial.{serial_from, serial_order}
+use Rattle.mk_graph.specs.Serial.{order_from, serial_from, serial_order}
 
 -- In a graph without cycles the serial order contains exactly the nodes that the goals reach, each
 -- once.

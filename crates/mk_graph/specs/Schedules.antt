@@ -43,3 +43,9 @@ abbrev pub Before : Graph → (o t : ℕ) → Type 0
 Before g o t =
     (node g t).recipe ≡ true → (goals ns : List ℕ) → IsPart goals g.goals → IsSchedule g goals ns →
     CanStart g goals ns t → Has ns o
+
+-- A schedule for all goals without o, after which t can start.
+pub record IsScheduleWithout (g : Graph) (o t : ℕ) (ns : List ℕ) : Type 0 where
+  pub turns : IsSchedule g g.goals ns
+  pub can_start : CanStart g g.goals ns t
+  pub lacks : ¬ (Has ns o)

@@ -1,6 +1,6 @@
 -- The serial order: depth first, left to right, each node once and after its prerequisites (IEEE
 -- Std 1003.1-2024, XCU make, "Target Rules").
-use Rattle.std.specs.Prelude.{ℕ, zero, suc, List, [], ◌∷◌, length, fold, reverse, if◌then◌else◌}
+use Rattle.std.specs.Prelude.{ℕ, zero, suc, List, [], ◌∷◌, length, fold, reverse, filter, if◌then◌else◌}
 use Rattle.mk_graph.specs.Graph.{Graph, prerequisites}
 use Rattle.mk_graph.specs.Membership.{has}
 
@@ -23,3 +23,7 @@ serial_from g ns = reverse (visits g [] ns)
 -- The serial order of the graph.
 unfoldable pub serial_order : Graph → List ℕ
 serial_order g = serial_from g g.goals
+
+-- The serial order of what these goals reach, with the goals in the graph's order.
+abbrev pub order_from : Graph → (goals : List ℕ) → List ℕ
+order_from g goals = serial_from g (filter (has goals) g.goals)

@@ -8,14 +8,11 @@
 //! rows of its prerequisites. All rows begin full. Rounds over the serial order clear bits until a
 //! round clears none.
 
-ghost use Rattle.std.specs.Prelude.{◌≡◌, ℕ, ◌+◌, ◌*◌, ◌^◌, ◌<◌, ◌≤◌, ◌↔◌, false};
-ghost use Rattle.std.specs.Prelude.{length, replicate, sum, slice_index, IfOk, MatchOption};
+ghost use Rattle.std.specs.Prelude.{◌≡◌, ℕ, ◌+◌, ◌*◌, ◌^◌, ◌<◌, ◌≤◌, ◌↔◌, false, length, replicate, sum, slice_index, IfOk, MatchOption};
 ghost use Rattle.mk_graph.specs.Membership.{Has};
 ghost use Rattle.mk_graph.specs.Schedules.{Before};
 ghost use Rattle.mk_graph.specs.Graph.{IsGraph};
-ghost use Rattle.mk_graph.specs.BitRows.{Lacks, RowLacks, RowsLack, LackMore, HaveRows, IsSized};
-ghost use Rattle.mk_graph.specs.BitRows.{lists, listed, GateLacks, TargetLacks, Stays, PassesGates};
-ghost use Rattle.mk_graph.specs.BitRows.{PassesTargets, OnlyIfWanted, OnlyIfFree, AreSettled};
+ghost use Rattle.mk_graph.specs.BitRows.{Lacks, RowLacks, RowsLack, LackMore, HaveRows, IsSized, lists, listed, GateLacks, TargetLacks, Stays, PassesGates, PassesTargets, OnlyIfWanted, OnlyIfFree, AreSettled};
 
 use crate::graph::Graph;
 use crate::node_set::NodeSet;

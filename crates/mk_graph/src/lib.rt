@@ -3,12 +3,10 @@
 
 mod bit_rows;
 mod bit_words;
-pub mod build_laws;
 mod fault;
 mod graph;
 mod greedy;
 mod groups;
-pub mod growth_laws;
 pub mod laws;
 pub mod list_laws;
 mod node;
@@ -16,8 +14,8 @@ mod node_set;
 mod order;
 mod prerequisites;
 mod rows;
-pub mod run_laws;
 mod schedule;
+pub mod schedule_laws;
 mod walk;
 mod wanted;
 mod without;

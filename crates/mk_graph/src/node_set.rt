@@ -1,6 +1,6 @@
 //! Sets of node numbers, stored inline.
 
-ghost use Rattle.std.specs.Prelude.{◌≡◌, ℕ, ◌<◌, [], List, true, ◌⊎◌, ◌↔◌, map};
+ghost use Rattle.std.specs.Prelude.{◌≡◌, ℕ, ◌<◌, List, true, ◌⊎◌, ◌↔◌, map};
 ghost use Rattle.mk_graph.specs.Bits.{is_set};
 ghost use Rattle.mk_graph.specs.Graph.{max_nodes};
 ghost use Rattle.mk_graph.specs.Membership.{Has};

@@ -12,7 +12,7 @@ pub trait Order {
 
     /// Whether `o` runs before `t`: `o` is done whenever the recipe of `t` may begin, in every make
     /// of any part of the goals with any number of jobs. True for each `t` that has no recipe or
-    /// isn't a node. `build_laws` says what this means for traces. It can't fail.
+    /// isn't a node. `mk_build` says what this means for traces. It can't fail.
     ///
     /// Targets may be made in parallel, so the order of two names in a list of prerequisites says
     /// nothing about which runs first. A prerequisite is made before its target. What comes after a

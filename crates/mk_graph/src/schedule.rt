@@ -1,10 +1,9 @@
 //! Schedules that avoid a node.
 
-ghost use Rattle.std.specs.Prelude.{◌≡◌, ℕ, ◌<◌, filter, length, map, reverse, IfOk, MatchOption};
-ghost use Rattle.mk_graph.specs.Membership.{Has, has};
+ghost use Rattle.std.specs.Prelude.{◌≡◌, ◌<◌, filter, length, map, reverse, IfOk, MatchOption};
+ghost use Rattle.mk_graph.specs.Membership.{has};
 ghost use Rattle.mk_graph.specs.Progress.{row, AreRows};
-ghost use Rattle.mk_graph.specs.Schedules.{Before};
-ghost use Rattle.mk_graph.specs.SchedulesWithout.{IsScheduleWithout};
+ghost use Rattle.mk_graph.specs.Schedules.{Before, IsScheduleWithout};
 ghost use Rattle.mk_graph.specs.Without.{AreOpened, opened, until};
 
 use crate::graph::Graph;
@@ -18,7 +17,7 @@ use std::alloc::{AllocError, Global};
 /// A schedule for all goals without `o`, after which the recipe of `t` can start, or `None` if `o`
 /// runs before `t`. The only error is out of memory.
 ///
-/// A make that follows the schedule is legal over any build inputs (`build_laws::schedules_run`).
+/// A make that follows the schedule is legal over any build inputs (`schedules_run` of mk_build).
 /// The time is linear in the number of nodes and prerequisites.
 pub fn schedule_without(
     alloc: Global,

@@ -8,7 +8,7 @@ use Rattle.std.proofs.lemmas.List.{get_or-set_same, get_or-set_other, length-set
 use Rattle.mk_graph.specs.declared.node.Node.{Node}
 use Rattle.mk_graph.specs.Membership.{Has}
 use Rattle.mk_graph.specs.Graph.{Graph, IsGraph, node, no_node, prerequisites}
-use Rattle.mk_graph.specs.GrowthLaws.{WantedGrows, CanStartStays}
+use Rattle.mk_graph.specs.ScheduleLaws.{WantedGrows, CanStartStays}
 use Rattle.mk_graph.specs.Serial.{serial_order}
 use Rattle.mk_graph.specs.Schedules.{Wanted, goal, onward}
 use Rattle.mk_graph.specs.Without.{joined}

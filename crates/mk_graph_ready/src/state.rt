@@ -12,7 +12,7 @@ ghost use Rattle.mk_graph_ready.specs.State.{IsAtRest, Stands, fresh};
 use crate::bytes::Bytes;
 use crate::layout::Layout;
 use crate::remaining_groups::RemainingGroups;
-use mk_graph::{Graph, NodeSet, growth_laws};
+use mk_graph::{Graph, NodeSet, schedule_laws};
 use std::alloc::{AllocError, Global};
 
 /// The stage of a node that isn't wanted.
@@ -203,8 +203,8 @@ impl<'a> State<'a> {
         ensures goals { self.new.goals ≡ self.old.goals }
         ensures done { (n : ℕ) → Has self.new.done n ↔ ((n ≡ number) ⊎ Has self.old.done n) }
     {
-        growth_laws::wanted_grows();
-        growth_laws::can_start_stays();
+        schedule_laws::wanted_grows();
+        schedule_laws::can_start_stays();
         let place = layout.place(number);
         self.done.insert(number);
         self.marks.write(place, 0);

@@ -4,8 +4,8 @@ use Rattle.std.specs.Borrow.{Bor}
 use Rattle.std.proofs.lemmas.List.{get_or-map, get_or_past, length-map}
 use Rattle.mk_graph.specs.declared.node.Node.{Node}
 use Rattle.mk_graph.specs.Graph.{no_node}
-use Rattle.mk_cert.specs.FileInfo.{all_names}
-use Rattle.mk_cert.specs.Subject.{Subject, name_of}
+use Rattle.mk_subject.specs.FileInfo.{all_names}
+use Rattle.mk_subject.specs.Subject.{Subject, name_of}
 
 -- what a function gives at an index, also past the end
 map_default : {A B : Type 0} (f : A → B) (xs : List A) (i : ℕ) (d : A) → get_or (map f xs) i (f d) ≡ f (get_or xs i d)

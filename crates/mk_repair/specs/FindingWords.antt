@@ -5,9 +5,9 @@ use Rattle.mk_lines.specs.Names.{has_name}
 use Rattle.mk_graph.specs.declared.node.Node.{Node}
 use Rattle.mk_read.specs.Names.{is_make_name}
 use Rattle.mk_read.specs.Rules.{is_commanded}
-use Rattle.mk_cert.specs.Subject.{Subject, name_of}
-use Rattle.mk_cert.specs.declared.finding.Finding.{Finding}
-use Rattle.mk_cert.specs.declared.finding.Finding.TheVariants.{NoRecord, OtherCommands, VaryingCommands, NoTarget, TwoWriters, GivenWritten, OwnRead, UnknownRead, Loose, Race, Stale, Selection}
+use Rattle.mk_subject.specs.Subject.{Subject, name_of}
+use Rattle.mk_find.specs.declared.finding.Finding.{Finding}
+use Rattle.mk_find.specs.declared.finding.Finding.TheVariants.{NoRecord, OtherCommands, VaryingCommands, NoTarget, TwoWriters, GivenWritten, OwnRead, UnknownRead, Loose, Race, Stale, Selection}
 use Rattle.mk_repair.specs.Word.{Word, needs, phony, with_word}
 use Rattle.mk_repair.specs.Provider.{provider}
 

@@ -1,9 +1,9 @@
 -- What a recipe needs before it that reads a file.
 use Rattle.std.specs.Prelude.{ℕ, ◌||◌, List, [], ◌∷◌, Option, None, Some, if◌then◌else◌}
 use Rattle.mk_lines.specs.Names.{has_name}
-use Rattle.mk_cert.specs.FileInfo.{all_names}
-use Rattle.mk_cert.specs.NodeRow.{writers_of}
-use Rattle.mk_cert.specs.Subject.{Subject, name_of}
+use Rattle.mk_subject.specs.FileInfo.{all_names}
+use Rattle.mk_subject.specs.NodeRow.{writers_of}
+use Rattle.mk_subject.specs.Subject.{Subject, name_of}
 
 -- The name of the first of these nodes, if there is one.
 abbrev pub first_name : Subject → List ℕ → Option (List ℕ)

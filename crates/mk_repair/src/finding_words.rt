@@ -13,8 +13,9 @@ use crate::needed::needed_names;
 use crate::provider::provider;
 use crate::word::Word;
 use crate::words::Words;
-use mk_cert::{Finding, Subject};
+use mk_find::Finding;
 use mk_lines::BorrowedNames;
+use mk_subject::Subject;
 use std::alloc::{AllocError, Global};
 
 /// The word that the recipe needs what provides the file, if something does.

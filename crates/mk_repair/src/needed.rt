@@ -2,13 +2,13 @@
 
 ghost use Rattle.std.specs.Prelude.{◌≡◌, ◌&&◌, not, fold, map, IfOk, OnOk};
 ghost use Rattle.mk_lines.specs.Names.{HoldsNames, with_name};
-ghost use Rattle.mk_cert.specs.Subject.{name_of};
+ghost use Rattle.mk_subject.specs.Subject.{name_of};
 ghost use Rattle.mk_repair.specs.FindingWords.{needed};
 
 use crate::node_name;
-use mk_cert::Subject;
 use mk_graph::Node;
 use mk_lines::BorrowedNames;
+use mk_subject::Subject;
 use std::alloc::{AllocError, Global};
 
 /// Whether a node has a recipe and isn't phony.

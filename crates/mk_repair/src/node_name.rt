@@ -1,9 +1,9 @@
 //! The names of nodes.
 
 ghost use Rattle.std.specs.Prelude.{◌≡◌};
-ghost use Rattle.mk_cert.specs.Subject.{name_of};
+ghost use Rattle.mk_subject.specs.Subject.{name_of};
 
-use mk_cert::Subject;
+use mk_subject::Subject;
 
 /// The name of a node; empty if there is no such node. Allocates nothing.
 pub fn name_of<'a>(subject: &'a Subject<'_>, number: usize) -> &'a str

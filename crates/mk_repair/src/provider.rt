@@ -4,7 +4,7 @@ ghost use Rattle.std.specs.Prelude.{◌≡◌, option_map};
 ghost use Rattle.mk_repair.specs.Provider.{provider};
 
 use crate::node_name::name_of;
-use mk_cert::Subject;
+use mk_subject::Subject;
 
 /// What a recipe needs that reads the file: the file itself where it is a source or the name of a
 /// node; else the first recipe in the serial order that writes it; `None` where no recipe does.

@@ -1,9 +1,9 @@
 -- What each finding says, as groups gather it.
 use Rattle.std.specs.Prelude.{ℕ, Bool, true, false, List, [], Option, None, Some, is_some, if◌then◌else◌}
 use Rattle.std.specs.Str.{bytes_eq}
-use Rattle.mk_cert.specs.Subject.{Subject}
-use Rattle.mk_cert.specs.declared.finding.Finding.{Finding}
-use Rattle.mk_cert.specs.declared.finding.Finding.TheVariants as finding
+use Rattle.mk_subject.specs.Subject.{Subject}
+use Rattle.mk_find.specs.declared.finding.Finding.{Finding}
+use Rattle.mk_find.specs.declared.finding.Finding.TheVariants as finding
 use Rattle.mk_repair.specs.FindingWords.{word_of}
 use Rattle.mk_repair.specs.Word.{Word, needs, phony}
 use Rattle.mk_sentences.specs.Topics.{Topic, topic_view}

@@ -2,9 +2,9 @@
 use Rattle.std.specs.Prelude.{ℕ, Bool, true, false, List, [], ◌∷◌, ◌++◌, codes, map, if◌then◌else◌}
 use Rattle.std.specs.List.{flat_map, list_any}
 use Rattle.mk_read.specs.Reading.{Makefile}
-use Rattle.mk_cert.specs.Subject.{Subject}
-use Rattle.mk_cert.specs.declared.finding.Finding.{Finding}
-use Rattle.mk_cert.specs.declared.finding.Finding.TheVariants as finding
+use Rattle.mk_subject.specs.Subject.{Subject}
+use Rattle.mk_find.specs.declared.finding.Finding.{Finding}
+use Rattle.mk_find.specs.declared.finding.Finding.TheVariants as finding
 use Rattle.mk_sentences.specs.Topics.{Topic, kind_word}
 use Rattle.mk_sentences.specs.Claims.{Claim, claim_of}
 use Rattle.mk_sentences.specs.Grouping.{Group, groups}

@@ -7,9 +7,10 @@ ghost use Rattle.mk_repair.specs.Words.{word_view};
 ghost use Rattle.mk_sentences.specs.Claims.{about, between, claim_of, claim_view, is_repaired, read_claim};
 
 use crate::topic::{Kind, Topic};
-use mk_cert::{Finding, Subject};
+use mk_find::Finding;
 use mk_lines::BorrowedNames;
 use mk_repair::{Word, needed_names, word_of};
+use mk_subject::Subject;
 use std::alloc::{AllocError, Global};
 
 /// What a finding says.

@@ -22,8 +22,9 @@ use crate::places::{Places, push_head};
 use crate::sentence::push_sentence;
 use crate::topic::{Kind, Topic, kind_word};
 use crate::untouched::untouched;
-use mk_cert::{Finding, Subject};
+use mk_find::Finding;
 use mk_read::Makefile;
+use mk_subject::Subject;
 use std::alloc::{AllocError, Global};
 
 /// The first of some names; empty if there is none.

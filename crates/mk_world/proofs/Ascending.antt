@@ -17,7 +17,7 @@ use Rattle.std.proofs.lemmas.List.Sorted.{Contains-permutation, IsPermutation-ma
 use Rattle.mk_lines.specs.Names.{has_name, with_name}
 use Rattle.mk_graph.specs.Membership.{Has}
 use Rattle.mk_graph.specs.Lists.{has_left, has_right, has_cases}
-use Rattle.mk_graph.specs.World.{AreAscending}
+use Rattle.mk_build.specs.World.{AreAscending}
 use Rattle.mk_world.specs.First.{AreSorted}
 use Rattle.mk_world.proofs.Tables.{name_there, there_name}
 

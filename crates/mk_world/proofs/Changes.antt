@@ -8,12 +8,12 @@ use Rattle.std.proofs.lemmas.List.{get_or-set_same, get_or-set_other, length-set
 use Rattle.mk_graph.specs.Membership.{Has}
 use Rattle.mk_graph.specs.Lists.{has_left, has_right}
 use Rattle.mk_graph.specs.Graph.{Graph, node, IsGraph}
-use Rattle.mk_graph.specs.Setting.{FileName, reads, writes}
-use Rattle.mk_graph.specs.World.{Disk, Busy, changed, outcome}
+use Rattle.mk_build.specs.Setting.{FileName, reads, writes}
+use Rattle.mk_build.specs.World.{Disk, Busy, changed, outcome}
 use Rattle.mk_graph.specs.Schedules.{Wanted, goal, onward, InOpenGroup, HasAll, IsPart}
 use Rattle.mk_world.specs.Steps.{Takes}
-use Rattle.mk_graph.specs.Steps.{changed_at, looked, has_put, HasSeenAll, HasPutAll, HasPutWhatIsKnown, seen_by, put_by}
-use Rattle.mk_graph.specs.Steps as model
+use Rattle.mk_build.specs.Steps.{changed_at, looked, has_put, HasSeenAll, HasPutAll, HasPutWhatIsKnown, seen_by, put_by}
+use Rattle.mk_build.specs.Steps as model
 use Rattle.mk_world.specs.Tables.{look}
 use Rattle.mk_world.specs.State.{Scene, MakeState, RunState, setting, making_of, run_at, no_run, begun, finished, start_of, DiskState, disk_of, busy, world_in, HasLooked, HasPut}
 use Rattle.mk_world.specs.Fits.{Fits}

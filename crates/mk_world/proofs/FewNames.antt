@@ -3,7 +3,7 @@ use Rattle.std.proofs.Common.{◌≡◌, ℕ, ◌+◌, List, [], ◌∷◌, Some
 use Rattle.std.proofs.lemmas.Bool.{cond-true, cond-false}
 use Rattle.std.specs.Str.{bytes_eq}
 use Rattle.mk_lines.specs.Names.{place_from}
-use Rattle.mk_graph.specs.Setting.{FileName}
+use Rattle.mk_build.specs.Setting.{FileName}
 
 -- a name that is the next one stands there,
 pub place_here : (i : ℕ) (names rest : List FileName) (h f : FileName) → names ≡ h ∷ rest → bytes_eq f h ≡ true → place_from i names f ≡ Some i

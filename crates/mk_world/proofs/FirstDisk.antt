@@ -15,9 +15,9 @@ use Rattle.mk_foot.specs.Setting as recorded
 use Rattle.mk_graph.specs.Membership.{Has}
 use Rattle.mk_graph.specs.Graph.{Graph, node, no_node}
 use Rattle.mk_graph.specs.declared.node.Node.{Node}
-use Rattle.mk_graph.specs.Setting.{FileName}
-use Rattle.mk_graph.specs.World as world
-use Rattle.mk_graph.specs.World.{numbered_disk, IsFirstDisk, IsOfWorld}
+use Rattle.mk_build.specs.Setting.{FileName}
+use Rattle.mk_build.specs.World as world
+use Rattle.mk_build.specs.World.{numbered_disk, IsFirstDisk, IsOfWorld}
 use Rattle.mk_world.specs.declared.file.File.{File}
 use Rattle.mk_world.specs.Tables.{look}
 use Rattle.mk_world.specs.State.{disk_of, file_of, setting_of}

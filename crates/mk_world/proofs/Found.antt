@@ -5,7 +5,7 @@ use Rattle.std.specs.Bool.{Decides}
 use Rattle.std.specs.Option.{option_eq}
 use Rattle.std.proofs.lemmas.Bool.{eqb-true, eq-eqb}
 use Rattle.std.proofs.lemmas.Slice.Eq.{slice_eq-Decides}
-use Rattle.mk_graph.specs.World.{outcome, same_seen}
+use Rattle.mk_build.specs.World.{outcome, same_seen}
 use Rattle.std.specs.Map.{lookup}
 use Rattle.std.proofs.lemmas.List.{map_push, reverse-append}
 use Rattle.indexmap.specs.IndexMap.{insert_entry}

@@ -4,10 +4,10 @@ use Rattle.std.proofs.lemmas.Bool.{false≢true}
 use Rattle.mk_graph.specs.Membership.{Has}
 use Rattle.mk_graph.specs.Graph.{Graph}
 use Rattle.mk_graph.specs.Serial.{serial_order}
-use Rattle.mk_graph.specs.Setting.{Setting}
-use Rattle.mk_graph.specs.World.{World, Disk, Making, Idle, Busy, disk_of}
-use Rattle.mk_graph.specs.Steps as model
-use Rattle.mk_graph.specs.Steps.{IsLegal, after, after_all, finished}
+use Rattle.mk_build.specs.Setting.{Setting}
+use Rattle.mk_build.specs.World.{World, Disk, Making, Idle, Busy, disk_of}
+use Rattle.mk_build.specs.Steps as model
+use Rattle.mk_build.specs.Steps.{IsLegal, after, after_all, finished}
 use Rattle.mk_world.specs.NamedStep as code
 use Rattle.mk_world.specs.declared.fault.StepFault.{StepFault}
 use Rattle.mk_world.specs.declared.fault.StepFault.TheVariants as faults

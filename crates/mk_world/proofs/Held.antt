@@ -7,9 +7,9 @@ use Rattle.std.specs.Prelude.{if◌then◌else◌}
 use Rattle.mk_lines.specs.Names.{place_from}
 use Rattle.mk_graph.specs.declared.node.Node.{Node}
 use Rattle.mk_graph.specs.Graph.{Graph, no_node}
-use Rattle.mk_graph.specs.Setting.{FileName, Setting, reads}
-use Rattle.mk_graph.specs.World.{content}
-use Rattle.mk_graph.specs.World as world
+use Rattle.mk_build.specs.Setting.{FileName, Setting, reads}
+use Rattle.mk_build.specs.World.{content}
+use Rattle.mk_build.specs.World as world
 use Rattle.mk_world.specs.declared.file.File.{File}
 use Rattle.mk_world.specs.Places.{place_among, content_at}
 use Rattle.mk_world.specs.State.{DiskState, disk_of, file_of}

@@ -5,9 +5,9 @@ use Rattle.std.proofs.lemmas.List.{at_drop_more}
 use Rattle.mk_graph.specs.Membership.{Has, has}
 use Rattle.mk_graph.specs.Graph.{Graph, IsGraph}
 use Rattle.mk_graph.specs.Serial.{serial_order}
-use Rattle.mk_graph.specs.Setting.{Setting}
-use Rattle.mk_graph.specs.World.{Making, Disk, Busy}
-use Rattle.mk_graph.specs.Steps.{Pass, IsLegal, after_all, finished}
+use Rattle.mk_build.specs.Setting.{Setting}
+use Rattle.mk_build.specs.World.{Making, Disk, Busy}
+use Rattle.mk_build.specs.Steps.{Pass, IsLegal, after_all, finished}
 use Rattle.mk_world.specs.State.{Scene, MakeState, making_of}
 use Rattle.mk_world.specs.State as lists
 use Rattle.mk_world.specs.Fits.{Fits}

@@ -3,10 +3,10 @@ use Rattle.std.proofs.Common.{◌≡◌, ◌<◌, ◌-◌, ℕ, List, [], ◌∷
 use Rattle.std.proofs.lemmas.List.{take_all}
 use Rattle.std.specs.Prelude.{OnErr}
 use Rattle.mk_graph.specs.Graph.{Graph}
-use Rattle.mk_graph.specs.Setting.{FileName, Setting}
-use Rattle.mk_graph.specs.World.{World}
-use Rattle.mk_graph.specs.Steps.{Step, Put, IsLegal, after, after_all}
-use Rattle.mk_graph.specs.SerialMake.{puts}
+use Rattle.mk_build.specs.Setting.{FileName, Setting}
+use Rattle.mk_build.specs.World.{World}
+use Rattle.mk_build.specs.Steps.{Step, Put, IsLegal, after, after_all}
+use Rattle.mk_build.specs.SerialMake.{puts}
 use Rattle.mk_world.specs.declared.fault.StepFault.{StepFault}
 use Rattle.mk_world.specs.declared.fault.StepFault.TheVariants.{Memory}
 use Rattle.mk_world.specs.State.{State, Scene, setting, world_of}

@@ -5,9 +5,9 @@ use Rattle.std.proofs.lemmas.List.{get_or_default}
 use Rattle.mk_graph.specs.declared.node.Node.{Node}
 use Rattle.mk_graph.specs.Membership.{Has}
 use Rattle.mk_graph.specs.Graph.{Graph, node, no_node, prerequisites}
-use Rattle.mk_graph.specs.Setting.{name}
-use Rattle.mk_graph.specs.World.{Disk, File, HasStamp}
-use Rattle.mk_graph.specs.Steps.{MustRun}
+use Rattle.mk_build.specs.Setting.{name}
+use Rattle.mk_build.specs.World.{Disk, File, HasStamp}
+use Rattle.mk_build.specs.Steps.{MustRun}
 use Rattle.mk_world.specs.Fits.{Forces}
 
 -- the node at a number

@@ -3,13 +3,13 @@ use Rattle.std.proofs.Common.{◌≡◌, ℕ, ◌<◌, true, false, List, [], �
 use Rattle.std.proofs.lemmas.Bool.{true≢false}
 use Rattle.mk_graph.specs.Membership.{Has}
 use Rattle.mk_graph.specs.Graph.{Graph, node}
-use Rattle.mk_graph.specs.GrowthLaws.{CanStartStays}
-use Rattle.mk_graph.specs.Steps.{Step, Edit, Make, Begin, Look, Put, End, Pass, Stop, EndMake, looked, has_put}
-use Rattle.mk_graph.specs.SerialMake.{puts, rest_of_run}
-use Rattle.mk_graph.specs.Setting.{FileName, Setting, reads, writes}
+use Rattle.mk_graph.specs.ScheduleLaws.{CanStartStays}
+use Rattle.mk_build.specs.Steps.{Step, Edit, Make, Begin, Look, Put, End, Pass, Stop, EndMake, looked, has_put}
+use Rattle.mk_build.specs.SerialMake.{puts, rest_of_run}
+use Rattle.mk_build.specs.Setting.{FileName, Setting, reads, writes}
 use Rattle.mk_graph.specs.Serial.{serial_order}
 use Rattle.mk_graph.specs.Schedules.{CanStart}
-use Rattle.mk_graph.specs.World.{Disk, Making, World, Idle, Busy, content, written}
+use Rattle.mk_build.specs.World.{Disk, Making, World, Idle, Busy, content, written}
 use Rattle.mk_graph_ready.specs.Progress.{Progress, Starts, GoesOn}
 use Rattle.mk_graph_ready.specs.Progress as ready
 use Rattle.mk_world.specs.declared.fault.StepFault.{StepFault}

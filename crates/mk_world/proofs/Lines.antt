@@ -10,12 +10,12 @@ use Rattle.mk_lines.specs.Names.{place_from}
 use Rattle.mk_graph.specs.declared.node.Node.{Node}
 use Rattle.mk_graph.specs.Membership.{Has}
 use Rattle.mk_graph.specs.Graph.{Graph}
-use Rattle.mk_graph.specs.Setting.{FileName, Setting, reads, writes}
-use Rattle.mk_graph.specs.World.{World, Disk, Idle, Busy}
-use Rattle.mk_graph.specs.World as model
+use Rattle.mk_build.specs.Setting.{FileName, Setting, reads, writes}
+use Rattle.mk_build.specs.World.{World, Disk, Idle, Busy}
+use Rattle.mk_build.specs.World as model
 use Rattle.mk_graph.specs.Schedules.{HasAll, IsPart}
-use Rattle.mk_graph.specs.Steps.{Begin, Look, End, after}
-use Rattle.mk_graph.specs.SerialMake.{puts, rest_of_run}
+use Rattle.mk_build.specs.Steps.{Begin, Look, End, after}
+use Rattle.mk_build.specs.SerialMake.{puts, rest_of_run}
 use Rattle.mk_world.specs.declared.fault.StepFault.{StepFault}
 use Rattle.mk_world.specs.declared.fault.StepFault.TheVariants.{NoMake, Memory, ClockSpent, OtherOutcome, MakeRuns, NotReady, NoJobFree, OutOfDate, NotRunning, NotInFootprint, NotAllDone, PlanLine, NotEditable, NotAGoal}
 use Rattle.mk_world.specs.declared.file.File.{File}

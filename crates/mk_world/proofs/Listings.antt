@@ -6,7 +6,7 @@ use Rattle.std.specs.Cmp.Lexicographic.{slice_cmp}
 use Rattle.std.specs.List.Sorted.{IsStrictlySortedBy}
 use Rattle.std.specs.List.{AllByRecursion}
 use Rattle.std.proofs.lemmas.List.{append_assoc}
-use Rattle.mk_graph.specs.Setting.{FileName}
+use Rattle.mk_build.specs.Setting.{FileName}
 use Rattle.mk_world.specs.declared.file.Listed.{Listed}
 use Rattle.mk_world.specs.declared.file.File.{File}
 use Rattle.mk_world.specs.First.{AreSorted}

@@ -8,10 +8,10 @@ use Rattle.std.proofs.lemmas.Slice.Eq.{bytes_eq-Decides}
 use Rattle.mk_lines.specs.Names.{has_name}
 use Rattle.mk_graph.specs.Membership.{Has}
 use Rattle.mk_graph.specs.Graph.{Graph}
-use Rattle.mk_graph.specs.Setting.{FileName, Setting, reads}
-use Rattle.mk_graph.specs.World.{Disk, Making, World, Idle, Busy, content, changed, written}
-use Rattle.mk_graph.specs.Steps.{Look, End, changed_at, looked, has_put}
-use Rattle.mk_graph.specs.SerialMake.{puts}
+use Rattle.mk_build.specs.Setting.{FileName, Setting, reads}
+use Rattle.mk_build.specs.World.{Disk, Making, World, Idle, Busy, content, changed, written}
+use Rattle.mk_build.specs.Steps.{Look, End, changed_at, looked, has_put}
+use Rattle.mk_build.specs.SerialMake.{puts}
 use Rattle.mk_world.specs.declared.fault.StepFault.TheVariants.{NotRunning}
 use Rattle.mk_world.specs.Tables.{look}
 use Rattle.mk_world.specs.State.{Scene, MakeState, RunState, DiskState, setting, making_of, disk_of, busy, run_at, no_run, with_run}

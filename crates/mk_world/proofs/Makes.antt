@@ -6,7 +6,7 @@ use Rattle.std.proofs.lemmas.List.{get_or-set_same, get_or-set_other, get_or_def
 use Rattle.std.proofs.lemmas.Bool.{cases_Bool, eqb-true, eq-eqb, cond-true, cond-false}
 use Rattle.mk_graph.specs.Membership.{Has, IsWithin}
 use Rattle.mk_graph.specs.Schedules.{HasAll}
-use Rattle.mk_graph.specs.Steps.{changed_at}
+use Rattle.mk_build.specs.Steps.{changed_at}
 use Rattle.mk_world.specs.State.{RunState, no_run, run_at}
 
 -- what the test finds stands in the list

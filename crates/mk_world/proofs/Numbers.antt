@@ -7,7 +7,7 @@ use Rattle.std.specs.Str.{bytes_eq}
 use Rattle.mk_lines.specs.Names.{has_name, number_of, place_from, with_name}
 use Rattle.mk_graph.specs.declared.node.Node.{Node}
 use Rattle.mk_graph.specs.Membership.{Has, IsDistinct}
-use Rattle.mk_graph.specs.Setting.{FileName}
+use Rattle.mk_build.specs.Setting.{FileName}
 use Rattle.mk_world.specs.Tables.{look}
 use Rattle.mk_world.proofs.Tables.{Placed, name_there, placed, unplaced}
 

@@ -3,15 +3,14 @@ use Rattle.std.proofs.Common.{◌≡◌, ℕ, List, [], ◌∷◌, Option, None,
 use Rattle.std.specs.Prelude.{◌↔◌}
 use Rattle.std.specs.List.{AllByRecursion}
 use Rattle.std.specs.List.Sorted.{IsStrictlySortedBy}
-use Rattle.std.specs.Ordering.{nat_cmp}
-use Rattle.std.specs.Ordering.{ordering_reverse}
+use Rattle.std.specs.Ordering.{nat_cmp, ordering_reverse}
 use Rattle.std.specs.Cmp.Lexicographic.{slice_cmp}
 use Rattle.std.specs.declared.cmp.Ordering.TheVariants.{Less}
 use Rattle.std.proofs.lemmas.Cmp.{nat_list_cmp_total}
 use Rattle.mk_graph.specs.Graph.{Graph}
 use Rattle.mk_graph.specs.Membership.{Has}
-use Rattle.mk_graph.specs.Setting as model
-use Rattle.mk_graph.specs.World.{Disk, Idle, AreAscending, IsFirstDisk, numbered_disk}
+use Rattle.mk_build.specs.Setting as model
+use Rattle.mk_build.specs.World.{Disk, Idle, AreAscending, IsFirstDisk, numbered_disk}
 use Rattle.mk_world.specs.First.{AreNamesOf, AreSorted}
 use Rattle.mk_world.specs.OneRun.{FirstWorldIsOne}
 use Rattle.mk_world.specs.Running.{Stage}

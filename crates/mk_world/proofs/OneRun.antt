@@ -2,9 +2,9 @@
 use Rattle.std.proofs.Common.{◌≡◌, ℕ, List, [], ◌∷◌, ◌++◌, Some, Err, refl, sym, ap, ◌∙◌, subst, inl, inr}
 use Rattle.std.proofs.lemmas.Bool.{false≢true}
 use Rattle.mk_graph.specs.Graph.{Graph}
-use Rattle.mk_graph.specs.Setting.{Setting}
-use Rattle.mk_graph.specs.World.{World, disk_of}
-use Rattle.mk_graph.specs.Steps as model
+use Rattle.mk_build.specs.Setting.{Setting}
+use Rattle.mk_build.specs.World.{World, disk_of}
+use Rattle.mk_build.specs.Steps as model
 use Rattle.mk_world.specs.declared.fault.StepFault.{StepFault}
 use Rattle.mk_world.specs.declared.fault.StepFault.TheVariants as faults
 use Rattle.mk_world.specs.declared.plan.PlanCommand.{PlanCommand}

@@ -2,11 +2,11 @@
 use Rattle.std.proofs.Common.{◌≡◌, ℕ, ◌+◌, ◌<◌, List, [], ◌∷◌, ◌++◌, length, map, Option, Some, None, refl, ap, subst, min, arith, inl, inr, ◌⊎◌}
 use Rattle.std.specs.Prelude.{unwrap_or}
 use Rattle.mk_graph.specs.Graph.{Graph}
-use Rattle.mk_graph.specs.Setting.{FileName, Setting, reads, writes}
-use Rattle.mk_graph.specs.World.{Disk, Making, World, Idle, Busy, content, last_stamp, written, outcome}
-use Rattle.mk_graph.specs.Steps.{Step, Look, End, IsLegal, after, after_all, begun, looked, has_put}
-use Rattle.mk_graph.specs.SerialMake.{puts, whole_run}
-use Rattle.mk_graph.specs.NodeByNode.{next_stamps}
+use Rattle.mk_build.specs.Setting.{FileName, Setting, reads, writes}
+use Rattle.mk_build.specs.World.{Disk, Making, World, Idle, Busy, content, last_stamp, written, outcome}
+use Rattle.mk_build.specs.Steps.{Step, Look, End, IsLegal, after, after_all, begun, looked, has_put}
+use Rattle.mk_build.specs.SerialMake.{puts, whole_run}
+use Rattle.mk_build.specs.NodeByNode.{next_stamps}
 use Rattle.mk_world.specs.Running.{new_stamps}
 use Rattle.mk_world.specs.RunLaws.{WholeRunsAgree}
 

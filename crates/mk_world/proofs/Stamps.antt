@@ -1,7 +1,7 @@
 -- Stamps that come next.
 use Rattle.std.proofs.Common.{◌≡◌, ℕ, ◌+◌, List, [], ◌∷◌, ◌++◌, min, refl, sym, ap, ◌∙◌, arith, append_assoc}
-use Rattle.mk_graph.specs.Setting.{FileName}
-use Rattle.mk_graph.specs.World.{last_stamp}
+use Rattle.mk_build.specs.Setting.{FileName}
+use Rattle.mk_build.specs.World.{last_stamp}
 use Rattle.mk_world.specs.Running.{new_stamp, new_stamps}
 
 -- past the last stamp all are the last one

@@ -1,6 +1,6 @@
 -- What steps are asked is what allows them.
-use Rattle.mk_graph.specs.World.{Idle, Busy}
-use Rattle.mk_graph.specs.Steps.{Edit, Make, Begin, Look, Put, End, Pass, Stop, EndMake}
+use Rattle.mk_build.specs.World.{Idle, Busy}
+use Rattle.mk_build.specs.Steps.{Edit, Make, Begin, Look, Put, End, Pass, Stop, EndMake}
 use Rattle.mk_world.specs.StepLaws.{AllowedWhereAllHolds}
 
 pub allowed_as : AllowedWhereAllHolds

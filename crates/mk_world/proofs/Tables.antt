@@ -7,8 +7,8 @@ use Rattle.std.proofs.lemmas.List.{get_or_default}
 use Rattle.std.specs.Str.{bytes_eq}
 use Rattle.mk_lines.specs.Names.{has_name, place_from}
 use Rattle.mk_graph.specs.Membership.{Has}
-use Rattle.mk_graph.specs.Setting.{FileName}
-use Rattle.mk_graph.specs.World.{changed}
+use Rattle.mk_build.specs.Setting.{FileName}
+use Rattle.mk_build.specs.World.{changed}
 use Rattle.mk_world.specs.Tables.{look}
 
 -- equal either way

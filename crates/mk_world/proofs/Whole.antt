@@ -1,9 +1,9 @@
 -- Steps that are all allowed, taken in turn.
 use Rattle.std.proofs.Common.{◌≡◌, List, Result, Ok, Err, refl, sym, ap, ◌∙◌, inl, inr, ◌⊎◌}
 use Rattle.mk_graph.specs.Graph.{Graph}
-use Rattle.mk_graph.specs.Setting.{Setting}
-use Rattle.mk_graph.specs.World.{World}
-use Rattle.mk_graph.specs.Steps.{Step, IsLegal, after, after_all}
+use Rattle.mk_build.specs.Setting.{Setting}
+use Rattle.mk_build.specs.World.{World}
+use Rattle.mk_build.specs.Steps.{Step, IsLegal, after, after_all}
 use Rattle.mk_world.specs.declared.fault.StepFault.{StepFault}
 use Rattle.mk_world.specs.declared.fault.StepFault.TheVariants.{Memory}
 use Rattle.mk_world.specs.Running.{TakesInTurn, ends, takes, refused}

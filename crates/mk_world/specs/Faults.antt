@@ -2,10 +2,10 @@
 use Rattle.std.specs.Prelude.{◌≡◌, ◌<◌, List, [], ◌∷◌, length, true, false, ◌⊎◌}
 use Rattle.mk_graph.specs.Membership.{Has}
 use Rattle.mk_graph.specs.Graph.{Graph, node}
-use Rattle.mk_graph.specs.Setting.{Setting, is_editable, reads, writes}
-use Rattle.mk_graph.specs.World.{World, Idle, Busy, last_stamp}
+use Rattle.mk_build.specs.Setting.{Setting, is_editable, reads, writes}
+use Rattle.mk_build.specs.World.{World, Idle, Busy, last_stamp}
 use Rattle.mk_graph.specs.Schedules.{HasAll, IsPart}
-use Rattle.mk_graph.specs.Steps.{Step, Edit, Make, Begin, Look, Put, End, Pass, Stop, EndMake, Ready, MustRun, HasSeenAll, HasPutAll, HasPutWhatIsKnown}
+use Rattle.mk_build.specs.Steps.{Step, Edit, Make, Begin, Look, Put, End, Pass, Stop, EndMake, Ready, MustRun, HasSeenAll, HasPutAll, HasPutWhatIsKnown}
 use Rattle.mk_world.specs.declared.fault.StepFault.{StepFault}
 use Rattle.mk_world.specs.declared.fault.StepFault.TheVariants.{ClockSpent, OtherOutcome, NoMake, MakeRuns, NotReady, NoJobFree, OutOfDate, NotRunning, NotInFootprint, NotAllDone, NotEditable, NotAGoal}
 

@@ -7,8 +7,8 @@ use Rattle.mk_foot.specs.Setting as recorded
 use Rattle.mk_lines.specs.Names.{has_name}
 use Rattle.mk_graph.specs.declared.node.Node.{Node}
 use Rattle.mk_graph.specs.Membership.{Has}
-use Rattle.mk_graph.specs.Setting.{FileName}
-use Rattle.mk_graph.specs.World.{IsOfWorld}
+use Rattle.mk_build.specs.Setting.{FileName}
+use Rattle.mk_build.specs.World.{IsOfWorld}
 use Rattle.mk_world.specs.State.{DiskState, Scene, setting}
 use Rattle.mk_world.specs.declared.file.File.{File}
 

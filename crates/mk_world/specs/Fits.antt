@@ -2,11 +2,11 @@
 use Rattle.std.specs.Prelude.{◌≡◌, ℕ, ◌<◌, List, [], length, true, Option, None, Some, slice_index_or, ◌⊎◌}
 use Rattle.mk_graph.specs.Membership.{Has}
 use Rattle.mk_graph.specs.Graph.{Graph}
-use Rattle.mk_graph.specs.Setting.{Setting, reads, writes}
-use Rattle.mk_graph.specs.World.{Disk, HasStamp}
+use Rattle.mk_build.specs.Setting.{Setting, reads, writes}
+use Rattle.mk_build.specs.World.{Disk, HasStamp}
 use Rattle.mk_graph.specs.declared.node.Node.{Node}
 use Rattle.mk_world.specs.declared.footprints.Footprint.{Footprint}
-use Rattle.mk_graph.specs.Steps.{HasSeenAll, seen_by}
+use Rattle.mk_build.specs.Steps.{HasSeenAll, seen_by}
 use Rattle.mk_world.specs.State.{Scene, MakeState, making_of, setting, run_at}
 
 -- The footprint without files.

@@ -2,7 +2,7 @@
 use Rattle.std.specs.Prelude.{◌≡◌, ℕ, List, Option, map, reverse, option_map, nat_eq, ◌&&◌, Bool, Vec}
 use Rattle.std.specs.declared.alloc.Global.{Global}
 use Rattle.std.specs.Map.{lookup}
-use Rattle.mk_graph.specs.World.{Outcome, outcome, same_seen}
+use Rattle.mk_build.specs.World.{Outcome, outcome, same_seen}
 use Rattle.mk_world.specs.declared.outcomes.Sight.{Sight}
 
 -- The outcome that an entry of the table represents.

@@ -1,6 +1,6 @@
 -- The list of the files on a disk.
 use Rattle.std.specs.Prelude.{List, [], ◌∷◌, Option, None, Some, option_map}
-use Rattle.mk_graph.specs.Setting.{FileName}
+use Rattle.mk_build.specs.Setting.{FileName}
 use Rattle.mk_world.specs.declared.file.File.{File}
 use Rattle.mk_world.specs.declared.file.Listed.{Listed}
 use Rattle.mk_world.specs.Tables.{look}

@@ -1,6 +1,6 @@
 -- Steps of builds that refer to nodes by name.
 use Rattle.std.specs.Prelude.{ℕ, List, map}
-use Rattle.mk_graph.specs.Setting.{FileName}
+use Rattle.mk_build.specs.Setting.{FileName}
 use Rattle.mk_world.specs.declared.step.Step as code
 use Rattle.mk_world.specs.declared.step.Step.TheVariants as variant
 

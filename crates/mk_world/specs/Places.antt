@@ -1,7 +1,7 @@
 -- The places of files among the names of a world.
 use Rattle.std.specs.Prelude.{◌≡◌, ℕ, List, [], length, map, Option, None, option_map, slice_index_or, unwrap_or}
 use Rattle.mk_lines.specs.Names.{place_from}
-use Rattle.mk_graph.specs.Setting.{FileName, reads}
+use Rattle.mk_build.specs.Setting.{FileName, reads}
 use Rattle.mk_world.specs.declared.file.File.{File}
 use Rattle.mk_world.specs.State.{Scene, setting}
 

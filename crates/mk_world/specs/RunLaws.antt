@@ -1,11 +1,11 @@
 -- Laws of sequences of steps, and of runs of plans.
 use Rattle.std.specs.Prelude.{◌≡◌, ℕ, List, [], ◌∷◌, ◌++◌, map, Option, None, Result, Ok, Err, ◌⊎◌, ◌↔◌}
 use Rattle.mk_graph.specs.Graph.{Graph}
-use Rattle.mk_graph.specs.NodeByNode.{to_put}
-use Rattle.mk_graph.specs.SerialMake.{whole_run}
-use Rattle.mk_graph.specs.Setting.{Setting}
-use Rattle.mk_graph.specs.World.{World, disk_of}
-use Rattle.mk_graph.specs.Steps.{IsLegal, after_all}
+use Rattle.mk_build.specs.NodeByNode.{to_put}
+use Rattle.mk_build.specs.SerialMake.{whole_run}
+use Rattle.mk_build.specs.Setting.{Setting}
+use Rattle.mk_build.specs.World.{World, disk_of}
+use Rattle.mk_build.specs.Steps.{IsLegal, after_all}
 use Rattle.mk_world.specs.NamedStep.{Step}
 use Rattle.mk_world.specs.declared.fault.StepFault.{StepFault}
 use Rattle.mk_world.specs.declared.fault.StepFault.TheVariants.{Memory}

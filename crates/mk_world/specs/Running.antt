@@ -8,11 +8,11 @@ use Rattle.mk_graph.specs.declared.node.Node.{Node}
 use Rattle.mk_graph.specs.Membership.{Has}
 use Rattle.mk_graph.specs.Graph.{Graph, node}
 use Rattle.mk_graph.specs.Serial.{serial_order}
-use Rattle.mk_graph.specs.Setting.{FileName, Setting, reads, writes}
-use Rattle.mk_graph.specs.World.{Disk, Making, World, Idle, Busy, disk_of, content, last_stamp, outcome}
-use Rattle.mk_graph.specs.World as world
-use Rattle.mk_graph.specs.Steps as model
-use Rattle.mk_graph.specs.SerialMake.{rest_of_run, whole_run}
+use Rattle.mk_build.specs.Setting.{FileName, Setting, reads, writes}
+use Rattle.mk_build.specs.World.{Disk, Making, World, Idle, Busy, disk_of, content, last_stamp, outcome}
+use Rattle.mk_build.specs.World as world
+use Rattle.mk_build.specs.Steps as model
+use Rattle.mk_build.specs.SerialMake.{rest_of_run, whole_run}
 use Rattle.mk_world.specs.declared.fault.StepFault.{StepFault}
 use Rattle.mk_world.specs.declared.fault.StepFault.TheVariants.{PlanLine, Memory}
 use Rattle.mk_world.specs.declared.file.Listed.{Listed}

@@ -4,9 +4,9 @@ use Rattle.mk_lines.specs.Names.{place_from}
 use Rattle.mk_foot.specs.Setting as recorded
 use Rattle.mk_graph.specs.declared.node.Node.{Node}
 use Rattle.mk_graph.specs.Graph.{Graph}
-use Rattle.mk_graph.specs.Setting as model
-use Rattle.mk_graph.specs.World.{Outcome, Disk, Making, World, Idle, Busy}
-use Rattle.mk_graph.specs.World as world
+use Rattle.mk_build.specs.Setting as model
+use Rattle.mk_build.specs.World.{Outcome, Disk, Making, World, Idle, Busy}
+use Rattle.mk_build.specs.World as world
 use Rattle.mk_world.specs.declared.file.File.{File}
 use Rattle.mk_world.specs.Tables.{look}
 

@@ -1,9 +1,9 @@
 -- Laws of steps and their tests.
 use Rattle.std.specs.Prelude.{◌↔◌}
 use Rattle.mk_graph.specs.Graph.{Graph}
-use Rattle.mk_graph.specs.Setting.{Setting}
-use Rattle.mk_graph.specs.World.{World}
-use Rattle.mk_graph.specs.Steps.{Step, Allowed}
+use Rattle.mk_build.specs.Setting.{Setting}
+use Rattle.mk_build.specs.World.{World}
+use Rattle.mk_build.specs.Steps.{Step, Allowed}
 use Rattle.mk_world.specs.Faults.{checks, AllHold}
 
 -- A step is allowed exactly if all its tests hold.

@@ -3,9 +3,9 @@ use Rattle.std.specs.Prelude.{◌≡◌, List, map, None, Result, Ok, Err, OnOk,
 use Rattle.std.specs.declared.alloc.AllocError.{AllocError}
 use Rattle.mk_foot.specs.Setting as recorded
 use Rattle.mk_graph.specs.Graph.{Graph}
-use Rattle.mk_graph.specs.Setting.{Setting}
-use Rattle.mk_graph.specs.World.{World, IsFirstDisk}
-use Rattle.mk_graph.specs.Steps as model
+use Rattle.mk_build.specs.Setting.{Setting}
+use Rattle.mk_build.specs.World.{World, IsFirstDisk}
+use Rattle.mk_build.specs.Steps as model
 use Rattle.mk_world.specs.NamedStep.{Step, Edit, Make, Begin, Look, Put, End, Pass, Stop, EndMake}
 use Rattle.mk_world.specs.declared.fault.StepFault.{StepFault}
 use Rattle.mk_world.specs.declared.fault.StepFault.TheVariants.{Memory}

@@ -1,6 +1,6 @@
 -- Tables: names, each with a value or without one.
 use Rattle.std.specs.Prelude.{List, [], ◌∷◌, Option, None, if◌then◌else◌, bytes_eq}
-use Rattle.mk_graph.specs.Setting.{FileName}
+use Rattle.mk_build.specs.Setting.{FileName}
 
 -- The value of a name in the table: the one at its first position.
 abbrev pub look : {A : Type 0} → List FileName → List (Option A) → FileName → Option A

@@ -5,9 +5,9 @@ ghost use Rattle.mk_lines.specs.Names.{has_name};
 ghost use Rattle.mk_world.specs.First.{first_disk};
 ghost use Rattle.mk_world.specs.Listing.{listing};
 ghost use Rattle.mk_graph.specs.Graph.{max_nodes};
-ghost use Rattle.mk_graph.specs.World.{content, written, last_stamp, outcome};
-ghost use Rattle.mk_graph.specs.Steps.{noted};
-ghost use Rattle.mk_graph.specs.Setting.{FileName};
+ghost use Rattle.mk_build.specs.World.{content, written, last_stamp, outcome};
+ghost use Rattle.mk_build.specs.Steps.{noted};
+ghost use Rattle.mk_build.specs.Setting.{FileName};
 ghost use Rattle.mk_world.specs.Places.{content_at, place_among};
 ghost use Rattle.mk_world.specs.State.{disk_of, finished};
 

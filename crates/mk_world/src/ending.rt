@@ -2,8 +2,8 @@
 
 ghost use Rattle.std.specs.Prelude.{◌≡◌, ◌<◌, ◌⊎◌, length, map, Some, None, IfOk, OnOk, OnErr, MatchOption};
 ghost use Rattle.mk_graph.specs.Membership.{Has};
-ghost use Rattle.mk_graph.specs.Setting.{FileName};
-ghost use Rattle.mk_graph.specs.Steps as model;
+ghost use Rattle.mk_build.specs.Setting.{FileName};
+ghost use Rattle.mk_build.specs.Steps as model;
 ghost use Rattle.mk_world.specs.Tables.{look};
 ghost use Rattle.mk_world.specs.State.{busy};
 ghost use Rattle.mk_world.specs.Fits.{Fits, HasSeen};

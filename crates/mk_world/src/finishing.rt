@@ -3,9 +3,9 @@
 ghost use Rattle.std.specs.Prelude.{◌≡◌, ◌<◌, ℕ, [], ◌∷◌, ◌++◌, length, map, true, unwrap_or, IfOk};
 ghost use Rattle.mk_lines.specs.Names.{has_name};
 ghost use Rattle.mk_graph.specs.Membership.{Has};
-ghost use Rattle.mk_graph.specs.Setting.{FileName, reads, writes};
-ghost use Rattle.mk_graph.specs.World.{content, outcome};
-ghost use Rattle.mk_graph.specs.SerialMake.{puts, rest_of_run};
+ghost use Rattle.mk_build.specs.Setting.{FileName, reads, writes};
+ghost use Rattle.mk_build.specs.World.{content, outcome};
+ghost use Rattle.mk_build.specs.SerialMake.{puts, rest_of_run};
 ghost use Rattle.mk_world.specs.State.{Scene, busy, disk_of, setting};
 ghost use Rattle.mk_world.specs.Fits.{Fits};
 ghost use Rattle.mk_world.specs.Places.{ArePlaces};

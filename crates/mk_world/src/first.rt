@@ -2,7 +2,7 @@
 
 ghost use Rattle.std.specs.Prelude.{◌≡◌, ℕ, List, ◌⊎◌, ◌↔◌, length, IfOk, OnOk};
 ghost use Rattle.mk_graph.specs.Membership.{Has};
-ghost use Rattle.mk_graph.specs.World.{IsOfWorld};
+ghost use Rattle.mk_build.specs.World.{IsOfWorld};
 ghost use Rattle.mk_world.specs.State.{setting_of};
 ghost use Rattle.mk_world.specs.First.{AreSorted, first_files, given_among, IsNameOf};
 

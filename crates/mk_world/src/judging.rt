@@ -2,8 +2,8 @@
 
 ghost use Rattle.std.specs.Prelude.{◌≡◌, ◌<◌, ◌↔◌, ◌⊎◌, length, true, Some};
 ghost use Rattle.mk_graph.specs.Graph.{node};
-ghost use Rattle.mk_graph.specs.World.{HasStamp};
-ghost use Rattle.mk_graph.specs.Steps.{MustRun};
+ghost use Rattle.mk_build.specs.World.{HasStamp};
+ghost use Rattle.mk_build.specs.Steps.{MustRun};
 ghost use Rattle.mk_world.specs.State.{disk_of};
 ghost use Rattle.mk_world.specs.Fits.{Forces};
 

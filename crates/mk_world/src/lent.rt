@@ -4,7 +4,7 @@ ghost use Rattle.std.specs.Prelude.{◌≡◌, ◌<◌, length, map, true, Some,
 ghost use Rattle.std.specs.Bool.{OnTrue, OnFalse};
 ghost use Rattle.std.specs.String.{string_bytes};
 ghost use Rattle.mk_lines.specs.Names.{has_name, place_from};
-ghost use Rattle.mk_graph.specs.World.{changed};
+ghost use Rattle.mk_build.specs.World.{changed};
 ghost use Rattle.mk_world.specs.Tables.{look};
 
 use mk_lines::NameTable;

@@ -11,7 +11,7 @@ ghost use Rattle.mk_world.specs.State.{Scene, begun, finished, run_at, no_run, s
 
 use crate::lent::LentNames;
 use crate::progress::RunningRecipe;
-use mk_graph::{NodeSet, growth_laws};
+use mk_graph::{NodeSet, schedule_laws};
 use mk_graph_ready::Readiness;
 use std::alloc::{AllocError, Global};
 use std::marker::Model;
@@ -119,7 +119,7 @@ impl Making {
             (CanStart scene.graph self.now.goals self.now.done number ×
             (¬ (Has self.now.running number)))) }
     {
-        growth_laws::can_start_stays();
+        schedule_laws::can_start_stays();
         readiness.can_start(number) && !self.is_running(number)
     }
 

@@ -2,7 +2,7 @@
 
 ghost use Rattle.std.specs.Prelude.{◌≡◌, ◌∷◌, [], ◌<◌, length, IfOk, OnOk, OnErr, None, Option, option_map};
 ghost use Rattle.mk_graph.specs.Graph.{max_nodes};
-ghost use Rattle.mk_graph.specs.World.{outcome};
+ghost use Rattle.mk_build.specs.World.{outcome};
 ghost use Rattle.mk_world.specs.State.{finished};
 
 use crate::making::Making;
@@ -26,7 +26,7 @@ pub struct Outcomes {
 
 impl Model for Outcomes {
     ghost use Rattle.std.specs.Prelude.{◌≡◌, List, ℕ, map, reverse};
-    ghost use Rattle.mk_graph.specs.World.{Outcome};
+    ghost use Rattle.mk_build.specs.World.{Outcome};
     ghost use Rattle.mk_world.specs.Known.{outcomes_of, AreFound};
 
     ghost Value = { List Outcome };

@@ -8,7 +8,7 @@ ghost use Rattle.mk_world.specs.Running.{PassesAll, PassesSome};
 
 use crate::making::Making;
 use crate::scene::Scene;
-use mk_graph::growth_laws;
+use mk_graph::schedule_laws;
 use mk_graph_ready::Readiness;
 use std::alloc::AllocError;
 
@@ -29,7 +29,7 @@ pub fn pass_idle(
     ensures some { (d : DiskState) → PassesSome scene.now.graph
         (making_of scene.now making.old) (disk_of d) (busy scene.now making.new d) }
 {
-    growth_laws::can_start_stays();
+    schedule_laws::can_start_stays();
     while let Some(number) = readiness.next_idle() {
         making.finish(number)?;
         readiness.mark_done(number);

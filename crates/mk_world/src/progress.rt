@@ -2,7 +2,7 @@
 
 ghost use Rattle.std.specs.Prelude.{◌≡◌, IfOk, length, replicate, None, Some};
 ghost use Rattle.mk_lines.specs.Names.{has_name};
-ghost use Rattle.mk_graph.specs.World.{changed};
+ghost use Rattle.mk_build.specs.World.{changed};
 ghost use Rattle.mk_world.specs.Tables.{look};
 ghost use Rattle.std.specs.Bool.{OnTrue, OnFalse};
 ghost use Rattle.mk_world.specs.State.{no_run};

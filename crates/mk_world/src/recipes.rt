@@ -2,8 +2,8 @@
 
 ghost use Rattle.std.specs.Prelude.{◌≡◌, ◌<◌, length, true, OnOk, OnErr};
 ghost use Rattle.mk_lines.specs.Names.{has_name};
-ghost use Rattle.mk_graph.specs.Steps as model;
-ghost use Rattle.mk_graph.specs.Setting.{FileName, writes};
+ghost use Rattle.mk_build.specs.Steps as model;
+ghost use Rattle.mk_build.specs.Setting.{FileName, writes};
 ghost use Rattle.mk_graph.specs.Membership.{Has};
 ghost use Rattle.mk_world.specs.State.{DiskState, busy, setting};
 ghost use Rattle.mk_world.specs.Fits.{Fits};

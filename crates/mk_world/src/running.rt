@@ -3,9 +3,9 @@
 ghost use Rattle.std.specs.Prelude.{◌≡◌, ◌++◌, true, map, option_map, IfOk, OnOk, OnErr};
 ghost use Rattle.std.specs.List.{list_all};
 ghost use Rattle.std.specs.String.{string_bytes};
-ghost use Rattle.mk_graph.specs.World.{disk_of};
+ghost use Rattle.mk_build.specs.World.{disk_of};
 ghost use Rattle.mk_world.specs.State.{setting, world_of};
-ghost use Rattle.mk_graph.specs.Steps as model;
+ghost use Rattle.mk_build.specs.Steps as model;
 ghost use Rattle.mk_world.specs.Steps.{Answers};
 ghost use Rattle.mk_world.specs.State as state;
 ghost use Rattle.mk_world.specs.Running.{is_known, is_node, goals_among, steps_of, run_steps, content_or_stamp, AnswersInTurn, AnswersLine, Prepares, file_text, files_text, printed, RunsTo, RunsPartly, LeadsTo, stage_of};

@@ -3,7 +3,7 @@
 ghost use Rattle.std.specs.Prelude.{◌≡◌, length, true, Some, OnOk, IfOk, None};
 ghost use Rattle.std.specs.Bool.{OnTrue, OnFalse};
 ghost use Rattle.mk_lines.specs.Names.{has_name};
-ghost use Rattle.mk_graph.specs.World.{changed};
+ghost use Rattle.mk_build.specs.World.{changed};
 ghost use Rattle.mk_world.specs.Tables.{look};
 
 use mk_lines::BorrowedNames;

@@ -2,9 +2,9 @@
 
 ghost use Rattle.std.specs.Prelude.{◌≡◌, ◌<◌, length, map, true, IfOk, None};
 ghost use Rattle.std.specs.String.{string_bytes};
-ghost use Rattle.mk_graph.specs.Steps as model;
-ghost use Rattle.mk_graph.specs.Setting.{reads, writes};
-ghost use Rattle.mk_graph.specs.SerialMake.{rest_of_run, whole_run};
+ghost use Rattle.mk_build.specs.Steps as model;
+ghost use Rattle.mk_build.specs.Setting.{reads, writes};
+ghost use Rattle.mk_build.specs.SerialMake.{rest_of_run, whole_run};
 ghost use Rattle.mk_world.specs.NamedStep.{step_view};
 ghost use Rattle.mk_world.specs.State.{disk_of, number_of, setting};
 ghost use Rattle.mk_world.specs.First.{AreNamesOf, AreSorted};
@@ -31,7 +31,7 @@ use std::alloc::{AllocError, Global};
 use std::marker::Model;
 
 /// A world: its files with their stamps, the known outcomes, and the make in progress, if there is
-/// one. Contracts see its parts as lists; `specs.State` maps them to the world of mk_graph.
+/// one. Contracts see its parts as lists; `specs.State` maps them to the world of mk_build.
 #[derive(Drop)]
 pub struct World<'a> {
     alloc: Global,

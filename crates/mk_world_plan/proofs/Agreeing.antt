@@ -6,10 +6,10 @@ use Rattle.mk_graph.specs.Lists.{has_left, has_right}
 use Rattle.mk_graph.specs.Graph.{Graph, IsGraph, node}
 use Rattle.mk_graph.specs.Serial.{serial_order}
 use Rattle.mk_graph.specs.Laws.{SerialReachesEachOnce}
-use Rattle.mk_graph.specs.GrowthLaws.{CanStartStays}
+use Rattle.mk_graph.specs.ScheduleLaws.{CanStartStays}
 use Rattle.mk_graph.specs.Schedules.{HasAll, InOpenGroup, Wanted, goal, onward, CanStart}
-use Rattle.mk_graph.specs.World.{Making}
-use Rattle.mk_graph.specs.Steps.{Ready, changed_at, finished}
+use Rattle.mk_build.specs.World.{Making}
+use Rattle.mk_build.specs.Steps.{Ready, changed_at, finished}
 use Rattle.mk_world.specs.Running.{IsIdle, IsFirstIdle, AreNotIdle, Passes}
 
 -- each node without recipe came when its turn might come

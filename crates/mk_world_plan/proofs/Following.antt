@@ -9,12 +9,13 @@ use Rattle.mk_graph.specs.Membership.{Has, IsWithin}
 use Rattle.mk_graph.specs.Graph.{Graph, IsGraph, node, no_node}
 use Rattle.mk_graph.specs.Serial.{serial_order}
 use Rattle.mk_graph.specs.Laws.{SerialReachesEachOnce}
-use Rattle.mk_graph.specs.GrowthLaws.{NamesHaveOneNumber, CanStartStays}
-use Rattle.mk_graph.specs.Setting.{FileName, Setting, reads, writes}
+use Rattle.mk_build.specs.BuildLaws.{NamesHaveOneNumber}
+use Rattle.mk_graph.specs.ScheduleLaws.{CanStartStays}
+use Rattle.mk_build.specs.Setting.{FileName, Setting, reads, writes}
 use Rattle.mk_graph.specs.Schedules.{IsPart}
-use Rattle.mk_graph.specs.World.{Disk, Making, World, Idle, Busy, changed, content, outcome}
-use Rattle.mk_graph.specs.Steps as model
-use Rattle.mk_graph.specs.Steps.{Allowed, IsLegal, after, after_all, begun, finished, has_put, looked, make_of, noted, put_by, seen_by}
+use Rattle.mk_build.specs.World.{Disk, Making, World, Idle, Busy, changed, content, outcome}
+use Rattle.mk_build.specs.Steps as model
+use Rattle.mk_build.specs.Steps.{Allowed, IsLegal, after, after_all, begun, finished, has_put, looked, make_of, noted, put_by, seen_by}
 use Rattle.mk_world.specs.State.{number_of}
 use Rattle.mk_world.specs.Running.{Passes, PassesAll, goals_among}
 use Rattle.mk_world_plan.specs.PlanText.{are_all_named}

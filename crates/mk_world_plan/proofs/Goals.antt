@@ -7,7 +7,7 @@ use Rattle.mk_lines.specs.Names.{has_name}
 use Rattle.mk_graph.specs.declared.node.Node.{Node}
 use Rattle.mk_graph.specs.Membership.{Has}
 use Rattle.mk_graph.specs.Graph.{Graph, IsGraph, no_node}
-use Rattle.mk_graph.specs.Setting.{name}
+use Rattle.mk_build.specs.Setting.{name}
 use Rattle.mk_world_plan.specs.PlanText.{are_all_named}
 
 -- what stands at a place is a member

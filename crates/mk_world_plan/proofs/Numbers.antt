@@ -8,8 +8,8 @@ use Rattle.mk_graph.specs.declared.node.Node.{Node}
 use Rattle.mk_graph.specs.Membership.{Has}
 use Rattle.mk_graph.specs.Lists.{has_mapped}
 use Rattle.mk_graph.specs.Graph.{Graph, IsGraph, no_node, node}
-use Rattle.mk_graph.specs.Setting.{FileName, IsNumberOf, name}
-use Rattle.mk_graph.specs.GrowthLaws.{NamesHaveOneNumber}
+use Rattle.mk_build.specs.Setting.{FileName, IsNumberOf, name}
+use Rattle.mk_build.specs.BuildLaws.{NamesHaveOneNumber}
 use Rattle.mk_world.specs.State.{number_of}
 use Rattle.mk_world.specs.Running.{is_node}
 use Rattle.mk_world_plan.specs.PlanText.{are_all_named, is_idle, is_idle_at}

@@ -7,8 +7,8 @@ use Rattle.mk_graph.specs.Membership.{Has, has, IsWithin}
 use Rattle.mk_graph.specs.Graph.{Graph, IsGraph, node, no_node, prerequisites}
 use Rattle.mk_graph.specs.Serial.{serial_order}
 use Rattle.mk_graph.specs.Schedules.{HasAll, InOpenGroup, Wanted, goal, onward}
-use Rattle.mk_graph.specs.World.{Disk, Making, World, Idle, Busy}
-use Rattle.mk_graph.specs.Steps.{finished}
+use Rattle.mk_build.specs.World.{Disk, Making, World, Idle, Busy}
+use Rattle.mk_build.specs.Steps.{finished}
 use Rattle.mk_world.specs.declared.plan.PlanCommand.{PlanCommand}
 use Rattle.mk_world.specs.declared.plan.PlanCommand.TheVariants as order
 use Rattle.mk_world.specs.Running.{IsIdle, IsFirstIdle, AreNotIdle, Passes, PassesAll, PassesAllIn, PassesBefore}

@@ -4,10 +4,10 @@ use Rattle.std.proofs.lemmas.Bool.{and_parts}
 use Rattle.mk_lines.specs.Names.{has_name}
 use Rattle.mk_graph.specs.Membership.{Has, IsWithin}
 use Rattle.mk_graph.specs.Graph.{Graph, IsGraph, node}
-use Rattle.mk_graph.specs.Setting.{FileName, Setting}
-use Rattle.mk_graph.specs.World.{Disk, Making, World, Idle, Busy, IsOfWorld}
-use Rattle.mk_graph.specs.Steps as model
-use Rattle.mk_graph.specs.Steps.{Allowed, IsLegal, after}
+use Rattle.mk_build.specs.Setting.{FileName, Setting}
+use Rattle.mk_build.specs.World.{Disk, Making, World, Idle, Busy, IsOfWorld}
+use Rattle.mk_build.specs.Steps as model
+use Rattle.mk_build.specs.Steps.{Allowed, IsLegal, after}
 use Rattle.mk_world.specs.NamedStep.{Step, Edit, Make, Begin, Look, Put, End, Pass, Stop, EndMake}
 use Rattle.mk_world.specs.State.{number_of, setting, world_in, world_of}
 use Rattle.mk_world.specs.State as lists

@@ -6,11 +6,12 @@ use Rattle.mk_lines.specs.Names.{has_name}
 use Rattle.mk_graph.specs.Membership.{Has, IsWithin}
 use Rattle.mk_graph.specs.Graph.{Graph, IsGraph, node}
 use Rattle.mk_graph.specs.Laws.{SerialReachesEachOnce}
-use Rattle.mk_graph.specs.GrowthLaws.{NamesHaveOneNumber, CanStartStays}
-use Rattle.mk_graph.specs.Setting.{FileName, Setting}
-use Rattle.mk_graph.specs.World.{Disk, Making, World, Idle, Busy, IsOfWorld, disk_of}
-use Rattle.mk_graph.specs.Steps as model
-use Rattle.mk_graph.specs.Steps.{Allowed, IsLegal, after, after_all}
+use Rattle.mk_build.specs.BuildLaws.{NamesHaveOneNumber}
+use Rattle.mk_graph.specs.ScheduleLaws.{CanStartStays}
+use Rattle.mk_build.specs.Setting.{FileName, Setting}
+use Rattle.mk_build.specs.World.{Disk, Making, World, Idle, Busy, IsOfWorld, disk_of}
+use Rattle.mk_build.specs.Steps as model
+use Rattle.mk_build.specs.Steps.{Allowed, IsLegal, after, after_all}
 use Rattle.mk_world.specs.NamedStep.{Step, Edit, Make, Begin, Look, Put, End, Pass, Stop, EndMake}
 use Rattle.mk_world.specs.declared.plan.PlanCommand.{PlanCommand}
 use Rattle.mk_world.specs.declared.plan.PlanCommand.TheVariants as order

@@ -5,10 +5,10 @@ use Rattle.mk_lines.specs.Names.{has_name}
 use Rattle.mk_lines.specs.Paths.{is_plain_path}
 use Rattle.mk_graph.specs.Membership.{Has}
 use Rattle.mk_graph.specs.Graph.{Graph, node, IsGraph}
-use Rattle.mk_graph.specs.Setting.{FileName, Setting}
-use Rattle.mk_graph.specs.World.{Disk, World, Idle, IsOfWorld, disk_of}
-use Rattle.mk_graph.specs.Steps as model
-use Rattle.mk_graph.specs.Steps.{IsLegal, after_all}
+use Rattle.mk_build.specs.Setting.{FileName, Setting}
+use Rattle.mk_build.specs.World.{Disk, World, Idle, IsOfWorld, disk_of}
+use Rattle.mk_build.specs.Steps as model
+use Rattle.mk_build.specs.Steps.{IsLegal, after_all}
 use Rattle.mk_world.specs.NamedStep.{Step, Edit, Make, Begin, Look, Put, End, Pass, Stop, EndMake}
 use Rattle.mk_world.specs.declared.plan.PlanCommand.{PlanCommand}
 use Rattle.mk_world.specs.declared.plan.PlanCommand.TheVariants as order

@@ -4,8 +4,9 @@
 ghost use Rattle.mk_world_plan.specs.Spelling.{PlainPathsAreWellSpelled};
 ghost use Rattle.mk_world_plan.specs.PlanLaws.{LegalStepsAreReadable, WrittenHistoryRuns, WrittenPlanRuns, WrittenTextIsRead};
 
-use mk_graph::growth_laws::{can_start_stays, names_have_one_number};
+use mk_build::build_laws::names_have_one_number;
 use mk_graph::laws::serial_reaches_each_once;
+use mk_graph::schedule_laws::can_start_stays;
 use mk_world::laws::allowed_where_all_holds;
 
 /// The text written for steps is read back as the plan of these steps, line by line, if their names

@@ -30,7 +30,9 @@ while R still writes it.
 
 The recipe of `p.c` writes `p.h` too: `no loose p.h p.c`. Write `p.h: p.c`. If
 GNU make runs the build, write `p.h: p.c ;`, with an empty recipe: else it
-looks at `p.h` before `p.c` is made.
+looks at `p.h` before `p.c` is made. If R itself needs T, as a program that
+writes its own prerequisite, give T that command, or take it out of what R
+needs.
 ";
 
 #[test]
@@ -39,6 +41,8 @@ fn explains(rt: HostRuntime) -> Result<(), Fail> {
         ("23", DOUBLE_COLON),
         ("DoubleColon", DOUBLE_COLON),
         ("loose", LOOSE),
+        ("doublecolon", DOUBLE_COLON),
+        ("Loose", LOOSE),
     ];
     for (what, text) in wanted {
         let told = explain(rt.alloc(), what)?;
@@ -47,7 +51,7 @@ fn explains(rt: HostRuntime) -> Result<(), Fail> {
             "of {what:?}"
         );
     }
-    for what in ["", "0", "4", "023", "+23", "loose p.h p.c", "doublecolon"] {
+    for what in ["", "0", "4", "023", "+23", "loose p.h p.c", "no"] {
         assert!(rt; explain(rt.alloc(), what)?.is_none(), "of {what:?}");
     }
     Ok(())

@@ -5,8 +5,7 @@ use mk_lines::Name;
 use std::alloc::{AllocError, Global};
 use std::process::Abort;
 use std::test::Fail;
-use tests_fixtures::{add_names, long, names};
-use tests_tables::rows;
+use tests_tables::{add_names, long, names, rows};
 
 /// Appends a record: its target, its reads, its writes, and its commands in brackets.
 fn push_record(out: &mut String, record: &Record) -> Result<(), AllocError> {

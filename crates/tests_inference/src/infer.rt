@@ -12,8 +12,7 @@ use mk_read_parse::{MemFiles, read_makefile};
 use std::alloc::{AllocError, Global};
 use std::process::Abort;
 use std::test::Fail;
-use tests_fixtures::names;
-use tests_tables::{field, fields_of, unfolded};
+use tests_tables::{field, fields_of, names, unfolded};
 
 /// Reads a makefile after the default text, with a macro operand.
 fn makefile(alloc: Global, text: &[u8]) -> Result<Makefile, Fail> {

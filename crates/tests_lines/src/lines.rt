@@ -9,7 +9,7 @@ use std::alloc::{AllocError, Global};
 use std::process::Abort;
 use std::str;
 use std::test::Fail;
-use tests_fixtures::{long, names};
+use tests_tables::{long, names};
 
 /// Returns a line as text: its number, `!` for a command line or else `:`, its text, and `/`.
 fn line_text(alloc: Global, line: &Line) -> Result<String, AllocError> {

@@ -1,8 +1,8 @@
 //! First cycles of needs, by name.
 
 use crate::graph_fixtures::{are_rows, graph_of, groups_of, same};
+use mk_build_needs::first_cycle;
 use mk_graph::{Graph, GraphFault};
-use mk_graph_needs::first_cycle;
 use std::alloc::{AllocError, Global};
 use std::process::Abort;
 use std::test::Fail;

@@ -7,10 +7,10 @@ use mkcheck_host::{
 };
 use mkcheck_run::run_arguments;
 use std::alloc::{AllocError, Global};
-use std::io;
 use std::io::{ErrorKind, Read, Write};
 use std::process::{Abort, ExitCode};
 use std::test::Fail;
+use std::{io, str};
 
 // A reader that gives `left` bytes, one at each read, and then fails or is at its end.
 #[derive(Drop)]
@@ -62,6 +62,11 @@ impl Read for Halting {
     }
 }
 
+/// The text of bytes, or `?` if they aren't UTF-8.
+fn shown(bytes: &[u8]) -> &str {
+    str::from_utf8(bytes).unwrap_or("?")
+}
+
 fn is_failed(read: Result<Vec<u8>, FilesError>) -> bool {
     matches!(&read, Err(FilesError::ReadFailed))
 }
@@ -70,7 +75,8 @@ fn is_failed(read: Result<Vec<u8>, FilesError>) -> bool {
 fn reads_to_the_end(rt: HostRuntime) -> Result<(), Fail> {
     let alloc = rt.alloc();
     let bytes: &[u8] = b"a: b\n";
-    assert_eq!(rt; slurp(alloc, &mut Source::new(bytes))?.as_slice(), bytes);
+    let text = slurp(alloc, &mut Source::new(bytes))?;
+    assert_eq!(rt; shown(text.as_slice()), "a: b\n");
     let slow = Drops {
         left: 5_000,
         then: None,
@@ -121,7 +127,7 @@ fn reads_a_pipe(rt: HostRuntime) -> Result<(), Fail> {
     writer.write_all(b"a: b\n")?;
     drop(writer);
     let text = slurp(rt.alloc(), &mut Source::new(reader))?;
-    assert_eq!(rt; text.as_slice(), b"a: b\n".as_slice());
+    assert_eq!(rt; shown(text.as_slice()), "a: b\n");
     Ok(())
 }
 
@@ -202,10 +208,10 @@ fn writes_a_text_in_parts(rt: HostRuntime) {
         assert!(rt; emit(&mut sink, b"").is_ok());
         assert!(rt; emit(&mut sink, b"parts").is_ok());
         assert!(rt; emit(&mut sink, b"").is_ok());
-        assert_eq!(rt; sink.into_writer().taken.as_slice(), b"parts".as_slice());
+        assert_eq!(rt; shown(sink.into_writer().taken.as_slice()), "parts");
         let mut sink = sink_with(rt.alloc(), 3, then);
         assert!(rt; emit(&mut sink, b"parts").is_err());
-        assert_eq!(rt; sink.into_writer().taken.as_slice(), b"par".as_slice());
+        assert_eq!(rt; shown(sink.into_writer().taken.as_slice()), "par");
     }
 }
 
@@ -228,8 +234,8 @@ fn ends_with_the_status_of_the_run(rt: HostRuntime) -> Result<(), Fail> {
         let (mut out, mut err) = (to_memory(alloc), to_memory(alloc));
         let ran = Ok(outcome(alloc, status)?);
         assert!(rt; conclude(&mut out, &mut err, &ran) == ExitCode::from(status));
-        assert_eq!(rt; out.into_writer().as_slice(), b"out".as_slice());
-        assert_eq!(rt; err.into_writer().as_slice(), b"err".as_slice());
+        assert_eq!(rt; shown(out.into_writer().as_slice()), "out");
+        assert_eq!(rt; shown(err.into_writer().as_slice()), "err");
     }
     Ok(())
 }
@@ -242,14 +248,14 @@ fn tells_of_a_failed_write(rt: HostRuntime) -> Result<(), Fail> {
             let ran = Ok(outcome(alloc, status)?);
             let (mut out, mut err) = (sink_with(alloc, 2, then), to_memory(alloc));
             assert!(rt; conclude(&mut out, &mut err, &ran) == ExitCode::from(2));
-            assert_eq!(rt; out.into_writer().taken.as_slice(), b"ou".as_slice());
-            assert_eq!(rt; err.into_writer().as_slice(), b"write failed\n".as_slice());
+            assert_eq!(rt; shown(out.into_writer().taken.as_slice()), "ou");
+            assert_eq!(rt; shown(err.into_writer().as_slice()), "write failed\n");
             let (mut out, mut err) = (to_memory(alloc), sink_with(alloc, 2, then));
             assert!(rt; matches!(end(&mut out, &mut err, &ran), Ending::WriteFailed));
-            assert_eq!(rt; out.into_writer().as_slice(), b"out".as_slice());
+            assert_eq!(rt; shown(out.into_writer().as_slice()), "out");
             assert_eq!(rt;
-                err.into_writer().taken.as_slice(),
-                b"erwrite failed\n".as_slice()
+                shown(err.into_writer().taken.as_slice()),
+                "erwrite failed\n"
             );
         }
     }
@@ -261,7 +267,7 @@ fn expect_stop(rt: &impl Abort, alloc: Global, stop: Stop, line: &str, status: u
     let ran: Result<Outcome, Stop> = Err(stop);
     assert!(rt; conclude(&mut out, &mut err, &ran) == ExitCode::from(status));
     assert!(rt; out.into_writer().is_empty());
-    assert_eq!(rt; err.into_writer().as_slice(), line.as_bytes());
+    assert_eq!(rt; shown(err.into_writer().as_slice()), line);
 }
 
 #[test]
@@ -299,7 +305,7 @@ fn answers_the_words(rt: HostRuntime) -> Result<(), Fail> {
     let (mut out, mut err) = (to_memory(alloc), to_memory(alloc));
     let ran = run_arguments(alloc, &mut files, Ok(words));
     assert!(rt; conclude(&mut out, &mut err, &ran) == ExitCode::from(2));
-    assert_eq!(rt; out.into_writer().as_slice(), b"refused 37\n".as_slice());
+    assert_eq!(rt; shown(out.into_writer().as_slice()), "refused 37\n");
     assert!(rt; err.into_writer().is_empty());
     Ok(())
 }

@@ -4,16 +4,6 @@
 #[cfg(test)]
 mod edges;
 #[cfg(test)]
-mod expecting;
-#[cfg(test)]
-mod explanations;
-#[cfg(test)]
-mod graphs;
-#[cfg(test)]
 mod openings;
 #[cfg(test)]
-mod repairs;
-#[cfg(test)]
-mod sentences;
-#[cfg(test)]
-mod verdicts;
+mod runs;

@@ -8,8 +8,7 @@ use std::alloc::{AllocError, Global};
 use std::process::Abort;
 use std::str;
 use std::test::Fail;
-use tests_fixtures::add_names;
-use tests_tables::unfolded;
+use tests_tables::{add_names, unfolded};
 
 /// Appends commands, each after a semicolon.
 fn add_commands(shown: &mut String, commands: &[Command]) -> Result<(), AllocError> {

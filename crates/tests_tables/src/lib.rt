@@ -1,12 +1,10 @@
-//! Tables of tests: their rows, the signs in a row, and a short notation for footprint files and
-//! certificates.
+//! What tests share: the rows of a table with their signs, long texts, and lists of names.
 #![tactic(auto)]
 
-mod books;
-mod certificates;
-mod json;
 mod table;
+#[cfg(test)]
+mod tests;
+mod texts;
 
-pub use books::footprints;
-pub use certificates::certificate;
 pub use table::{field, fields_of, lines_of, part, rows, unfolded};
+pub use texts::{add_names, long, names};

@@ -149,11 +149,12 @@ NOTE = re.compile(r"--- .* ---$|\[ .* \]$|\?\?\?\(\)\s+= \?$")
 UNFINISHED = " <unfinished ...>"
 # A look at what a descriptor has open, as C's fstat is one.
 OF_DESCRIPTOR = re.compile(r'(?:newfstatat|fstatat64|statx)\(\d+(?:<[^<>]*>)?, "", ')
-# The end of a call that failed, was interrupted and begins anew, or never returned. Names can't
-# look like it: they stand in quotes or in `<>`, and what follows those in a call that succeeded is
-# none of this.
+# The end of a call that failed, was interrupted and begins anew, or never returned: where its
+# process was killed, strace may say that the result is unavailable. Names can't look like it: they
+# stand in quotes or in `<>`, and what follows those in a call that succeeded is none of this.
 FAILED = re.compile(
-    r"\) += (?:-1 (E[A-Z0-9]+) \([^()]*\)(?: \(INJECTED\))?|\?(?: E[A-Z0-9_]+ \([^()]*\))?)$"
+    r"\) += (?:-1 (E[A-Z0-9]+) \([^()]*\)(?: \(INJECTED\))?"
+    r"|\?(?: E[A-Z0-9_]+ \([^()]*\)| <unavailable>)?)$"
 )
 RESULT = re.compile(r"\s+= (?:0x[0-9a-f]+|-?\d+)")
 
@@ -343,7 +344,7 @@ def call_of(began: int, ended: int, process: int, text: str) -> Call | None:
     name = BEGUN.match(text)
     if name is None:
         raise cut(text)
-    if text[-1] in ")?" and FAILED.search(text, max(0, len(text) - 160)):
+    if text[-1] in ")?>" and FAILED.search(text, max(0, len(text) - 160)):
         return None
     if name.group(1) in LOOKS and text.endswith(") = 0"):
         arguments, _ = split(text, name.end(), NAMES_AT_MOST)

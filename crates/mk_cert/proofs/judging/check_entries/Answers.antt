@@ -5,7 +5,7 @@ use Rattle.mk_cert.specs.declared.fault.CertFault.{CertFault}
 use Rattle.mk_cert.specs.Checks.{AnswersEntries, Judges}
 use Rattle.mk_cert.specs.Verdict.{IsFirstBad}
 use Rattle.mk_cert.proofs.Judged.{JudgedSoFar, judged_bad, judged_on, judged_seen}
-use Rattle.mk_cert.proofs.Rows.{in_take_more}
+use Rattle.mk_subject.proofs.Rows.{in_take_more}
 use Rattle.mk_cert.proofs.judging.check_entries.Goals as goal
 
 pub returns-then-not-branch-clause-answer : goal.returns-then-not-branch-clause-answer

@@ -1,6 +1,6 @@
 use Rattle.std.proofs.Common.{take, drop}
 use Rattle.std.specs.Prelude.{IfSome}
-use Rattle.mk_cert.specs.WayTables.{HoldReads}
+use Rattle.mk_cert.specs.WalkTables.{HoldReads}
 use Rattle.mk_cert.proofs.Judged.{JudgedSoFar}
 use Rattle.mk_cert.proofs.judging.check_entries.Given as goal
 

@@ -7,15 +7,17 @@ use Rattle.mk_lines.specs.Names.{has_name}
 use Rattle.mk_graph.specs.Membership.{Has}
 use Rattle.mk_graph.specs.Serial.{serial_order}
 use Rattle.mk_cert.specs.declared.fault.CertFault.{CertFault}
-use Rattle.mk_cert.specs.Subject.{reads_of}
-use Rattle.mk_cert.specs.NodeRow.{NodeRow, IsEntry}
-use Rattle.mk_cert.specs.Verdict.{IsFirstIn, Read, LacksWay, all_reads}
+use Rattle.mk_subject.specs.Subject.{reads_of}
+use Rattle.mk_subject.specs.NodeRow.{NodeRow, IsEntry}
+use Rattle.mk_find.specs.Listing.{IsFirstIn}
+use Rattle.mk_subject.specs.Reads.{Read, all_reads}
+use Rattle.mk_cert.specs.Verdict.{LacksWay}
 use Rattle.mk_cert.specs.Checks.{AnswersReads, reads_by}
-use Rattle.mk_cert.proofs.Adding.{drop_past}
-use Rattle.mk_cert.proofs.Decided.{name_is}
-use Rattle.mk_cert.proofs.FirstOf.{Left, left_all, left_in, left_part, left_none}
+use Rattle.mk_find.proofs.Adding.{drop_past}
+use Rattle.mk_find.proofs.Decided.{name_is}
+use Rattle.mk_find.proofs.FirstOf.{Left, left_all, left_in, left_part, left_none}
 use Rattle.mk_graph.specs.Lists.{joined_to, has_mapped}
-use Rattle.mk_cert.proofs.Sound.{reader_has_recipe, reader_in_order}
+use Rattle.mk_subject.proofs.InOrder.{reader_has_recipe, reader_in_order}
 use Rattle.mk_cert.proofs.Walks.{recipe_is_node}
 use Rattle.mk_cert.proofs.lacking.check_reads.Goals as goal
 

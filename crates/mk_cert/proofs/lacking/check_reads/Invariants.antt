@@ -1,11 +1,12 @@
 use Rattle.std.proofs.Common.{List, map, drop}
 use Rattle.std.specs.List.{flat_map}
 use Rattle.mk_cert_text.specs.Certificate.{Way}
-use Rattle.mk_cert.specs.NodeRow.{NodeRow}
-use Rattle.mk_cert.specs.WayTables.{AreSeen}
-use Rattle.mk_cert.specs.Verdict.{LacksWay, all_reads}
+use Rattle.mk_subject.specs.NodeRow.{NodeRow}
+use Rattle.mk_cert.specs.WalkTables.{AreSeen}
+use Rattle.mk_cert.specs.Verdict.{LacksWay}
+use Rattle.mk_subject.specs.Reads.{all_reads}
 use Rattle.mk_cert.specs.Checks.{reads_by}
-use Rattle.mk_cert.proofs.FirstOf.{Left}
+use Rattle.mk_find.proofs.FirstOf.{Left}
 use Rattle.mk_cert.proofs.lacking.check_reads.Given as goal
 
 -- the recipes that are left

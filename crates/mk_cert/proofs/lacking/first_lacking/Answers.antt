@@ -3,15 +3,18 @@ use Rattle.std.proofs.Common.{◌≡◌, ◌+◌, ◌∷◌, ◌∙◌, [], ℕ,
 use Rattle.std.specs.Prelude.{not}
 use Rattle.std.proofs.lemmas.Bool.{true≢false}
 use Rattle.std.proofs.lemmas.List.{drop_more}
-use Rattle.mk_cert.specs.Subject.{reads_of}
-use Rattle.mk_cert.specs.NodeRow.{NodeRow}
-use Rattle.mk_cert.specs.FileInfo.{known_of}
-use Rattle.mk_cert.specs.Settled.{is_settled}
-use Rattle.mk_cert.specs.Target.{Target, unsettled_of}
-use Rattle.mk_cert.specs.Verdict.{IsFirstIn, Read, LacksWay}
+use Rattle.mk_subject.specs.Subject.{reads_of}
+use Rattle.mk_subject.specs.NodeRow.{NodeRow}
+use Rattle.mk_subject.specs.FileInfo.{known_of}
+use Rattle.mk_subject.specs.Settled.{is_settled}
+use Rattle.mk_subject.specs.Target.{Target, unsettled_of}
+use Rattle.mk_find.specs.Listing.{IsFirstIn}
+use Rattle.mk_subject.specs.Reads.{Read}
+use Rattle.mk_cert.specs.Verdict.{LacksWay}
 use Rattle.mk_cert.specs.Checks.{reads_by}
-use Rattle.mk_cert.proofs.FirstOf.{Left, left_here, left_on, left_none, left_passing}
-use Rattle.mk_cert.proofs.SettledReads.{cannot_change, open_at, none_left, settled}
+use Rattle.mk_find.proofs.FirstOf.{Left, left_here, left_on, left_none, left_passing}
+use Rattle.mk_find.proofs.SettledReads.{cannot_change, open_at, none_left}
+use Rattle.mk_subject.proofs.SettledReads.{settled}
 use Rattle.mk_cert.proofs.lacking.first_lacking.Goals as goal
 
 pub loop-place-init : goal.loop-place-init

@@ -1,10 +1,11 @@
 use Rattle.std.proofs.Common.{List, map, drop}
 use Rattle.mk_cert_text.specs.Certificate.{Way}
-use Rattle.mk_cert.specs.WayTables.{AreSeen}
-use Rattle.mk_cert.specs.Target.{unsettled_of}
-use Rattle.mk_cert.specs.Verdict.{Read, LacksWay}
+use Rattle.mk_cert.specs.WalkTables.{AreSeen}
+use Rattle.mk_subject.specs.Target.{unsettled_of}
+use Rattle.mk_subject.specs.Reads.{Read}
+use Rattle.mk_cert.specs.Verdict.{LacksWay}
 use Rattle.mk_cert.specs.Checks.{reads_by}
-use Rattle.mk_cert.proofs.FirstOf.{Left}
+use Rattle.mk_find.proofs.FirstOf.{Left}
 use Rattle.mk_cert.proofs.lacking.first_lacking.Given as goal
 
 -- the files that are left, of those that aren't settled

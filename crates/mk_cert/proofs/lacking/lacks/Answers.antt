@@ -2,10 +2,10 @@
 use Rattle.std.proofs.Common.{◌≡◌, ◌∙◌, ◌<◌, [], ℕ, List, Bool, not, ⊎_elim, ap, sym, get_or, length}
 use Rattle.std.proofs.lemmas.Bool.{true≢false, cases_Bool, cases_lt, not-true}
 use Rattle.mk_lines.specs.Names.{has_name}
-use Rattle.mk_cert.specs.NodeRow.{NodeRow}
-use Rattle.mk_cert.specs.Subject.{footprints}
-use Rattle.mk_cert.specs.Target.{Target}
-use Rattle.mk_cert.proofs.Past.{past_reads}
+use Rattle.mk_subject.specs.NodeRow.{NodeRow}
+use Rattle.mk_subject.specs.Subject.{footprints}
+use Rattle.mk_subject.specs.Target.{Target}
+use Rattle.mk_subject.proofs.Past.{past_reads}
 use Rattle.mk_cert.proofs.lacking.lacks.Goals as goal
 
 pub returns-then-can_change : goal.returns-then-can_change

@@ -1,6 +1,6 @@
 -- Each entry's path is a way.
 use Rattle.std.proofs.Common.{[]}
-use Rattle.mk_cert.specs.Subject.{footprints}
+use Rattle.mk_subject.specs.Subject.{footprints}
 use Rattle.mk_cert.proofs.Accepted.{have_ways}
 use Rattle.mk_cert.proofs.laws.verified_is_right.Goals as goal
 

@@ -4,12 +4,12 @@ use Rattle.std.specs.String.{string_bytes}
 use Rattle.mk_lines.specs.Names.{has_name}
 use Rattle.mk_graph.specs.declared.node.Node.{Node}
 use Rattle.mk_graph.specs.Membership.{Has}
-use Rattle.mk_graph.specs.Setting as build
-use Rattle.mk_cert.specs.Records.{Recorded}
-use Rattle.mk_cert.specs.Subject.{footprints}
-use Rattle.mk_cert.proofs.Decided.{has_decides}
-use Rattle.mk_cert.proofs.Past.{past_reads}
-use Rattle.mk_cert.proofs.Rows.{rows_push, rows_all}
+use Rattle.mk_build.specs.Setting as build
+use Rattle.mk_subject.specs.Records.{Recorded}
+use Rattle.mk_subject.specs.Subject.{footprints}
+use Rattle.mk_subject.proofs.Decided.{has_decides}
+use Rattle.mk_subject.proofs.Past.{past_reads}
+use Rattle.mk_subject.proofs.Rows.{rows_push, rows_all}
 use Rattle.mk_cert.proofs.read_lists.lists_of.Goals as goal
 
 pub loop-number-preserved : goal.loop-number-preserved

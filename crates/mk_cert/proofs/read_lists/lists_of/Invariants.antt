@@ -2,9 +2,9 @@ use Rattle.std.proofs.Common.{◌≡◌, ℕ, List, [], length, true}
 use Rattle.std.specs.Prelude.{◌↔◌}
 use Rattle.mk_lines.specs.Names.{has_name}
 use Rattle.mk_graph.specs.Membership.{Has}
-use Rattle.mk_graph.specs.Setting as build
-use Rattle.mk_cert.specs.Subject.{footprints}
-use Rattle.mk_cert.proofs.Rows.{RowsHold}
+use Rattle.mk_build.specs.Setting as build
+use Rattle.mk_subject.specs.Subject.{footprints}
+use Rattle.mk_subject.proofs.Rows.{RowsHold}
 use Rattle.mk_cert.proofs.read_lists.lists_of.Given as goal
 
 -- the lists so far

@@ -1,10 +1,10 @@
 use Rattle.std.proofs.Common.{[], inr, subst}
 use Rattle.std.specs.Prelude.{Option, Some}
-use Rattle.mk_cert.specs.declared.finding.Finding.{Finding}
-use Rattle.mk_cert.specs.Candidates.{static_candidates, race_candidates}
-use Rattle.mk_cert.specs.Listing.{Lists}
-use Rattle.mk_cert.specs.Checks.{IsFirstFinding}
-use Rattle.mk_cert.proofs.Found.{tells_before, tells_behind}
+use Rattle.mk_find.specs.declared.finding.Finding.{Finding}
+use Rattle.mk_find.specs.Candidates.{static_candidates, race_candidates}
+use Rattle.mk_find.specs.Listing.{Lists}
+use Rattle.mk_find.specs.Listed.{IsFirstFinding}
+use Rattle.mk_find.proofs.FirstFound.{tells_before, tells_behind}
 use Rattle.mk_cert.proofs.verifying.check_found.Goals as goal
 
 pub returns-in-Some : goal.returns-in-Some

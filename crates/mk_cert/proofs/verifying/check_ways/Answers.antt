@@ -1,5 +1,5 @@
 use Rattle.std.proofs.Common.{List, [], ⊎_elim, sym, subst}
-use Rattle.mk_cert.specs.WayTables.{AreSeen}
+use Rattle.mk_cert.specs.WalkTables.{AreSeen}
 use Rattle.mk_cert.specs.Verdict.{NoneBad}
 use Rattle.mk_cert.proofs.Found.{ways_answer}
 use Rattle.mk_cert.proofs.verifying.check_ways.Goals as goal

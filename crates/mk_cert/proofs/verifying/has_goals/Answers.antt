@@ -6,8 +6,8 @@ use Rattle.std.proofs.lemmas.Slice.Eq.{bytes_eq-Decides}
 use Rattle.mk_graph.specs.declared.node.Node.{Node}
 use Rattle.mk_graph.specs.Graph.{Graph, node, no_node}
 use Rattle.mk_graph.specs.Membership.{Has}
-use Rattle.mk_cert.specs.Subject.{name_of}
-use Rattle.mk_cert.proofs.Rows.{at}
+use Rattle.mk_subject.specs.Subject.{name_of}
+use Rattle.mk_subject.proofs.Rows.{at}
 use Rattle.mk_cert.proofs.Walks.{first_same, rest_same}
 use Rattle.mk_cert.proofs.verifying.has_goals.Goals as goal
 

@@ -1,6 +1,6 @@
 use Rattle.std.proofs.Common.{◌≡◌, map, drop}
 use Rattle.std.specs.Prelude.{◌↔◌}
-use Rattle.mk_cert.specs.Subject.{name_of}
+use Rattle.mk_subject.specs.Subject.{name_of}
 use Rattle.mk_cert.proofs.verifying.has_goals.Given as goal
 
 -- what is left decides

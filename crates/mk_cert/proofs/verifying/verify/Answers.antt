@@ -1,10 +1,11 @@
 use Rattle.std.proofs.Common.{◌≡◌, ◌∙◌, List, Err, ◌⊎◌, ⊎_elim, ap, sym, subst}
-use Rattle.mk_graph.specs.Right.{IsRight}
+use Rattle.mk_build.specs.Right.{IsRight}
 use Rattle.mk_cert_text.specs.Certificate.{Way, Certificate}
 use Rattle.mk_cert.specs.declared.fault.CertFault.TheVariants.{Memory}
 use Rattle.mk_cert.specs.Laws.{IsRightOnce}
-use Rattle.mk_cert.specs.Subject.{footprints}
-use Rattle.mk_cert.specs.Verdict.{HasGoals, NothingFound}
+use Rattle.mk_subject.specs.Subject.{footprints}
+use Rattle.mk_find.specs.Certifying.{HasGoals}
+use Rattle.mk_find.specs.Findings.{NothingFound}
 use Rattle.mk_cert.specs.Checks.{AnswersWays}
 use Rattle.mk_cert.proofs.Found.{accepted, verifies}
 use Rattle.mk_cert.proofs.verifying.verify.Goals as goal

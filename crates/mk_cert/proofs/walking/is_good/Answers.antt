@@ -1,9 +1,9 @@
 -- The entry has its read; what is left is its path, which begins at the recipe of that read.
 use Rattle.std.proofs.Common.{◌≡◌, ◌∷◌, ◌∙◌, ℕ, List, drop, ap, sym, subst}
-use Rattle.mk_graph.specs.Ways.{CanChange}
+use Rattle.mk_build.specs.Ways.{CanChange}
 use Rattle.mk_cert_text.specs.Certificate.{Way}
-use Rattle.mk_cert.specs.Subject.{footprints, name_of}
-use Rattle.mk_cert.specs.Target.{Target}
+use Rattle.mk_subject.specs.Subject.{footprints, name_of}
+use Rattle.mk_subject.specs.Target.{Target}
 use Rattle.mk_cert.proofs.ReadOf.{same_names}
 use Rattle.mk_cert.proofs.Walks.{split_first, good_from, good_entry}
 use Rattle.mk_cert.proofs.walking.is_good.Goals as goal

@@ -5,9 +5,9 @@ use Rattle.mk_cert_text.specs.contracts.certificate.Finish.{the_type}
 use Rattle.mk_cert_text.specs.Certificate.{Way}
 use Rattle.mk_cert_text.specs.declared.certificate.Finish.{Finish}
 use Rattle.mk_cert_text.specs.declared.certificate.Finish.TheVariants.{Written}
-use Rattle.mk_cert.specs.Subject.{footprints}
-use Rattle.mk_cert.specs.Paths.{EndsAt}
-use Rattle.mk_cert.specs.Target.{Target, target_of}
+use Rattle.mk_subject.specs.Subject.{footprints}
+use Rattle.mk_subject.specs.Paths.{EndsAt}
+use Rattle.mk_subject.specs.Target.{Target, target_of}
 use Rattle.mk_cert.specs.Walking.{GoesOver}
 use Rattle.mk_cert.proofs.Walks.{one_end}
 use Rattle.mk_cert.proofs.walking.leads.Goals as goal

@@ -3,10 +3,10 @@ use Rattle.std.proofs.lemmas.Bool.{true≢false}
 use Rattle.mk_lines.specs.Names.{number_of}
 use Rattle.mk_graph.specs.declared.node.Node.{Node}
 use Rattle.mk_graph.specs.Graph.{Graph, node, no_node}
-use Rattle.mk_cert.specs.Subject.{name_of}
+use Rattle.mk_subject.specs.Subject.{name_of}
 use Rattle.mk_cert.proofs.Walks.{recipe_is_node}
-use Rattle.mk_cert.specs.FileInfo.{all_names}
-use Rattle.mk_cert.proofs.Numbers.{number_is, number_names}
+use Rattle.mk_subject.specs.FileInfo.{all_names}
+use Rattle.mk_subject.proofs.Numbers.{number_is, number_names}
 use Rattle.mk_cert.proofs.walking.recipe_named.Goals as goal
 
 pub returns-in_default : goal.returns-in_default

@@ -1,6 +1,6 @@
 use Rattle.std.proofs.Common.{◌≡◌, ◌⊎◌, ◌∙◌, Ok, Err, map, sym, subst}
-use Rattle.mk_cert.specs.Subject.{Subject}
-use Rattle.mk_graph.specs.Setting as build
+use Rattle.mk_subject.specs.Subject.{Subject}
+use Rattle.mk_build.specs.Setting as build
 use Rattle.mk_infer.specs.Selection.{Selects}
 use Rattle.mk_infer.specs.There.{Exists}
 use Rattle.mk_read.specs.Reading.{Makefile}

@@ -1,5 +1,5 @@
 use Rattle.std.proofs.Common.{◌≡◌, ◌+◌, ◌-◌, ◌<◌, ℕ, length, sym, subst, arith}
-use Rattle.mk_cert.specs.declared.finding.Finding.{Finding}
+use Rattle.mk_find.specs.declared.finding.Finding.{Finding}
 use Rattle.mk_core_evidence.specs.EvidenceAnswer.{IsNumbered}
 use Rattle.mk_core_evidence.proofs.FindingPlans.{numbered_at}
 use Rattle.mk_core_evidence.proofs.showing.finding_at.Goals as goal

@@ -1,10 +1,10 @@
 use Rattle.std.proofs.Common.{List, ℕ, Vec, Global, length, subst, sym, ◌++◌, ◌<◌}
 use Rattle.std.specs.Prelude.{IfOk}
-use Rattle.mk_cert.specs.Subject.{footprints}
+use Rattle.mk_subject.specs.Subject.{footprints}
 use Rattle.mk_graph.specs.Graph.{Graph, prerequisites}
 use Rattle.mk_graph.specs.Membership.{Has}
 use Rattle.mk_graph.specs.Progress.{row}
-use Rattle.mk_graph_needs.specs.NeedsGraph.{IsFirstCycle, with_prerequisites}
+use Rattle.mk_build_needs.specs.NeedsGraph.{IsFirstCycle, with_prerequisites}
 use Rattle.mk_core_repair.proofs.NeedRows.{row_within}
 use Rattle.mk_core_repair.proofs.needing.cycle_of_needs.Goals as goal
 

@@ -1,9 +1,9 @@
 use Rattle.std.proofs.Common.{◌∙◌, ◌++◌, ℕ, false, true, List, [], Vec, Global, ap, sym, append-nil}
 use Rattle.std.proofs.lemmas.Bool.{cond-false, cond-true}
-use Rattle.mk_cert.specs.NodeRow.{writers_of}
-use Rattle.mk_cert.specs.Subject.{footprints, name_of}
+use Rattle.mk_subject.specs.NodeRow.{writers_of}
+use Rattle.mk_subject.specs.Subject.{footprints, name_of}
 use Rattle.mk_graph.specs.Graph.{Graph, node}
-use Rattle.mk_graph_needs.specs.Needs.{writers_of_reads}
+use Rattle.mk_build_needs.specs.Needs.{writers_of_reads}
 use Rattle.mk_core_repair.proofs.NeedRows.{recipe_at}
 use Rattle.mk_core_repair.proofs.needing.needs_of.Goals.{then-not-nodes-number+in_ok-extend_from_slice, else-not-nodes-number}
 use Rattle.mk_core_repair.proofs.needing.needs_of.Goals as goal

@@ -1,7 +1,7 @@
 use Rattle.std.proofs.Common.{◌≡◌, ◌<◌, ℕ, length}
-use Rattle.mk_cert.specs.Subject.{footprints}
+use Rattle.mk_subject.specs.Subject.{footprints}
 use Rattle.mk_graph.specs.Progress.{row}
-use Rattle.mk_graph_needs.specs.Needs.{more_needs}
+use Rattle.mk_build_needs.specs.Needs.{more_needs}
 use Rattle.mk_core_repair.proofs.needing.rows_of_needs.Given as goal
 
 -- a row for each node before this one

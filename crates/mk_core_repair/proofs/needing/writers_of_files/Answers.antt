@@ -1,6 +1,6 @@
 use Rattle.std.proofs.Common.{ℕ, ◌<◌, ◌∙◌, ◌++◌, List, filter, length, not, ap, string_bytes, arith}
 use Rattle.std.specs.Prelude.{◌==◌}
-use Rattle.mk_cert.specs.NodeRow.{writers_of}
+use Rattle.mk_subject.specs.NodeRow.{writers_of}
 use Rattle.mk_core_repair.proofs.Appending.{keep_list}
 use Rattle.mk_core_repair.proofs.needing.writers_of_files.Goals as goal
 

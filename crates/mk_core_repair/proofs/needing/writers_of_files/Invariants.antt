@@ -1,7 +1,7 @@
 use Rattle.std.proofs.Common.{◌≡◌, ◌++◌, drop, filter, map, not, string_bytes}
 use Rattle.std.specs.Prelude.{◌==◌}
 use Rattle.std.specs.List.{flat_map}
-use Rattle.mk_cert.specs.NodeRow.{writers_of}
+use Rattle.mk_subject.specs.NodeRow.{writers_of}
 use Rattle.mk_core_repair.proofs.needing.writers_of_files.Given as goal
 
 -- the writers so far, with those of the files that are left

@@ -1,5 +1,5 @@
 use Rattle.std.proofs.Common.{◌-◌, List}
-use Rattle.mk_cert.specs.declared.finding.Finding.{Finding}
+use Rattle.mk_find.specs.declared.finding.Finding.{Finding}
 use Rattle.mk_read.specs.Files.{Told}
 use Rattle.mk_core_repair.specs.Known.{IsBase}
 use Rattle.mk_core_repair.specs.Outcome.{Outcome, reason_of, untried}

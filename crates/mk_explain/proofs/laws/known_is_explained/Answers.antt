@@ -1,10 +1,11 @@
 use Rattle.std.proofs.Common.{◌≡◌, ◌∙◌, ap, ℕ, Bool, ◌||◌, List, Option}
 use Rattle.std.specs.List.{find, list_any}
-use Rattle.std.specs.Option.{is_some, option_map}
+use Rattle.std.specs.Option.{is_some, option_map, option_or}
 use Rattle.std.specs.Str.{bytes_eq}
 use Rattle.mk_explain.proofs.Lookup.{some_find, some_map, some_or}
-use Rattle.mk_explain.specs.Explain.{fault_explanation, finding_explanation, finding_sentence, finding_sentences, is_called, number_named}
+use Rattle.mk_explain.specs.Explain.{fault_explanation, finding_explanation, finding_sentence, finding_sentences, is_called, number_named, spelled}
 use Rattle.mk_explain.specs.Known.{fault_names, finding_words}
+use Rattle.mk_explain.specs.Texts.{term_text}
 use Rattle.mk_explain.proofs.laws.known_is_explained.Goals as goal
 
 a_finding : (what : List ℕ) → is_some (finding_sentence what) ≡ list_any (λ (word : List ℕ). bytes_eq word what) finding_words
@@ -20,9 +21,12 @@ a_fault what =
     ∙ some_find (λ (fault : ℕ × List ℕ). is_called fault what) fault_names
 
 pub returns : goal.returns
-returns c what =
+returns c any =
+    let what : List ℕ = spelled any in
     let first : Option (List ℕ) = option_map (λ (sentence : List ℕ). finding_explanation what sentence) (finding_sentence what) in
     let second : Option (List ℕ) = option_map fault_explanation (number_named what) in
-    some_or first second
-    ∙ (ap (λ (b : Bool). b || is_some second) (some_map (λ (sentence : List ℕ). finding_explanation what sentence) (finding_sentence what) ∙ a_finding what)
-    ∙ ap (λ (b : Bool). list_any (λ (word : List ℕ). bytes_eq word what) finding_words || b) (some_map fault_explanation (number_named what) ∙ a_fault what))
+    let third : Option (List ℕ) = term_text what in
+    some_or first (option_or second third)
+    ∙ (ap (λ (b : Bool). b || is_some (option_or second third)) (some_map (λ (sentence : List ℕ). finding_explanation what sentence) (finding_sentence what) ∙ a_finding what)
+    ∙ ap (λ (b : Bool). list_any (λ (word : List ℕ). bytes_eq word what) finding_words || b)
+    (some_or second third ∙ ap (λ (b : Bool). b || is_some third) (some_map fault_explanation (number_named what) ∙ a_fault what)))

@@ -1,10 +1,10 @@
 -- Where no read is stale nothing is found, and so there is an entry for each read.
 use Rattle.std.proofs.Common.{◌∙◌, List, ap, subst, map}
 use Rattle.mk_graph.specs.Graph.{Graph}
-use Rattle.mk_cert.specs.declared.finding.Finding.{Finding}
-use Rattle.mk_cert.specs.Candidates.{stale_candidates}
-use Rattle.mk_cert.specs.Listed.{Adds}
-use Rattle.mk_cert.specs.Subject.{name_of}
+use Rattle.mk_find.specs.declared.finding.Finding.{Finding}
+use Rattle.mk_find.specs.Candidates.{stale_candidates}
+use Rattle.mk_find.specs.Listed.{Adds}
+use Rattle.mk_subject.specs.Subject.{name_of}
 use Rattle.mk_find.proofs.FindingLists.{none_added}
 use Rattle.mk_find.proofs.certifying.certify.Goals as goal
 

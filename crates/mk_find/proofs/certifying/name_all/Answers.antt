@@ -1,5 +1,5 @@
 -- Each number is a node's.
-use Rattle.mk_find.proofs.Accepted.{has_at}
+use Rattle.mk_find.proofs.CarriedRecipes.{has_at}
 use Rattle.mk_find.proofs.certifying.name_all.Goals as goal
 
 pub name-requires : goal.name-requires

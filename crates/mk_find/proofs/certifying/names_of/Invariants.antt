@@ -1,5 +1,5 @@
 use Rattle.std.proofs.Common.{◌≡◌, map, take}
-use Rattle.mk_cert.specs.Subject.{name_of}
+use Rattle.mk_subject.specs.Subject.{name_of}
 use Rattle.mk_find.proofs.certifying.names_of.Given as goal
 
 abbrev pub invariant-loop-node : goal.invariant-loop-node

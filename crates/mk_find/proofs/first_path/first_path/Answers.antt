@@ -3,7 +3,7 @@
 use Rattle.std.proofs.Common.{ℕ, Option, MatchOption, sym, subst}
 use Rattle.mk_graph_search.specs.Places.{HasAtMost}
 use Rattle.mk_cert_text.specs.declared.certificate.Finish.{Finish}
-use Rattle.mk_cert.specs.Carried.{carried}
+use Rattle.mk_subject.specs.Carried.{carried}
 use Rattle.mk_find.specs.FirstPaths.{AlwaysNoneBefore, IsEndAt}
 use Rattle.mk_find.proofs.Trying.{path_found, path_missing, passed_over, gone, gone_out}
 use Rattle.mk_find.proofs.first_path.first_path.Goals as goal

@@ -2,11 +2,11 @@
 use Rattle.std.proofs.Common.{◌≡◌, ◌∙◌, ℕ, List, false, ap, refl, sym, subst}
 use Rattle.mk_foot.specs.Setting as foot
 use Rattle.mk_graph.specs.Membership.{Has}
-use Rattle.mk_graph.specs.Setting.{is_editable}
+use Rattle.mk_build.specs.Setting.{is_editable}
 use Rattle.mk_graph_search.specs.Places.{IsOutBefore}
-use Rattle.mk_cert.specs.NodeRow.{writers_of}
-use Rattle.mk_cert.specs.Subject.{footprints}
-use Rattle.mk_cert.specs.Target.{Target}
+use Rattle.mk_subject.specs.NodeRow.{writers_of}
+use Rattle.mk_subject.specs.Subject.{footprints}
+use Rattle.mk_subject.specs.Target.{Target}
 use Rattle.mk_find.proofs.Trying.{moved, none_before_writers}
 use Rattle.mk_find.proofs.first_path.place_to_begin.Goals as goal
 

@@ -3,11 +3,11 @@
 use Rattle.std.proofs.Common.{◌≡◌, ◌∙◌, [], List, length, map, vec_len, inr, ap, sym, subst, eqb-true, arith}
 use Rattle.std.proofs.lemmas.List.{nil_from_length}
 use Rattle.mk_graph.specs.Graph.{Graph}
-use Rattle.mk_cert.specs.declared.finding.Finding.{Finding}
-use Rattle.mk_cert.specs.Candidates.{static_candidates, race_candidates, stale_candidates}
-use Rattle.mk_cert.specs.Subject.{name_of}
+use Rattle.mk_find.specs.declared.finding.Finding.{Finding}
+use Rattle.mk_find.specs.Candidates.{static_candidates, race_candidates, stale_candidates}
+use Rattle.mk_subject.specs.Subject.{name_of}
 use Rattle.mk_find.specs.Findings.{AreFindings}
-use Rattle.mk_cert.proofs.Adding.{adds_append}
+use Rattle.mk_find.proofs.Adding.{adds_append}
 use Rattle.mk_find.proofs.FindingLists.{nothing_added}
 use Rattle.mk_find.proofs.found.judge.Goals as goal
 

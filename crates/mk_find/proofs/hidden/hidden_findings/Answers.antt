@@ -1,7 +1,7 @@
 -- The races, and then the stale reads.
 use Rattle.std.proofs.Common.{[]}
-use Rattle.mk_cert.specs.Candidates.{by_node, race_candidates}
-use Rattle.mk_cert.proofs.Adding.{adds_append}
+use Rattle.mk_find.specs.Candidates.{by_node, race_candidates}
+use Rattle.mk_find.proofs.Adding.{adds_append}
 use Rattle.mk_find.specs.Findings.{hidden_reads}
 use Rattle.mk_find.proofs.hidden.hidden_findings.Goals as goal
 

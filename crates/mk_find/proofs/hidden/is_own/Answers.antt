@@ -1,8 +1,8 @@
 -- The writers of a file are those that write it.
 use Rattle.std.proofs.Common.{◌≡◌, ◌∙◌, ℕ, List, ap, eqb}
 use Rattle.std.specs.List.{list_any}
-use Rattle.mk_cert.specs.NodeRow.{NodeRow, writers_of}
-use Rattle.mk_cert.specs.Target.{Target}
+use Rattle.mk_subject.specs.NodeRow.{NodeRow, writers_of}
+use Rattle.mk_subject.specs.Target.{Target}
 use Rattle.mk_find.proofs.OwnReads.{own_exactly}
 use Rattle.mk_find.proofs.hidden.is_own.Goals as goal
 

@@ -3,10 +3,10 @@ use Rattle.std.proofs.Common.{◌≡◌, ◌∙◌, ◌<◌, ◌≤◌, ℕ, Lis
 use Rattle.std.specs.List.{flat_map}
 use Rattle.std.proofs.lemmas.List.{get_or-map, length-map}
 use Rattle.std.proofs.lemmas.List.Elements.{All-get_or}
-use Rattle.mk_cert.specs.NodeRow.{NodeRow, IsEntry}
-use Rattle.mk_cert.specs.Listed.{Adds}
+use Rattle.mk_subject.specs.NodeRow.{NodeRow, IsEntry}
+use Rattle.mk_find.specs.Listed.{Adds}
 use Rattle.mk_find.specs.Findings.{hidden_reads}
-use Rattle.mk_cert.proofs.Adding.{drop_past, leads_each, leads_done}
+use Rattle.mk_find.proofs.Adding.{drop_past, leads_each, leads_done}
 use Rattle.mk_find.proofs.hidden.note_all_hidden.Goals as goal
 
 pub loop-entry-init : goal.loop-entry-init

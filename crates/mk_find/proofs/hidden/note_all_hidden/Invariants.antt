@@ -1,9 +1,9 @@
 use Rattle.std.proofs.Common.{map, drop}
 use Rattle.std.specs.List.{flat_map}
-use Rattle.mk_cert.specs.Candidates.{by_node}
-use Rattle.mk_cert.specs.NodeRow.{NodeRow}
+use Rattle.mk_find.specs.Candidates.{by_node}
+use Rattle.mk_subject.specs.NodeRow.{NodeRow}
 use Rattle.mk_find.specs.Findings.{hidden_reads}
-use Rattle.mk_cert.proofs.Adding.{Leads}
+use Rattle.mk_find.proofs.Adding.{Leads}
 use Rattle.mk_find.proofs.hidden.note_all_hidden.Given as goal
 
 -- the nodes that are left

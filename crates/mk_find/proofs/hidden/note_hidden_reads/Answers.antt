@@ -6,12 +6,12 @@ use Rattle.mk_graph_search.specs.Places.{SearchInput}
 use Rattle.mk_graph_search.specs.Ways.{successors}
 use Rattle.mk_find.specs.Findings.{hidden_read}
 use Rattle.mk_find.specs.FirstPaths.{AlwaysNoneBefore}
-use Rattle.mk_cert.specs.Carried.{carried}
-use Rattle.mk_cert.specs.NodeRow.{NodeRow}
-use Rattle.mk_cert.specs.Listed.{Adds}
-use Rattle.mk_cert.specs.Subject.{reads_of}
-use Rattle.mk_cert.specs.Target.{Target, target_of}
-use Rattle.mk_cert.proofs.Adding.{drop_past, leads_each, leads_done}
+use Rattle.mk_subject.specs.Carried.{carried}
+use Rattle.mk_subject.specs.NodeRow.{NodeRow}
+use Rattle.mk_find.specs.Listed.{Adds}
+use Rattle.mk_subject.specs.Subject.{reads_of}
+use Rattle.mk_subject.specs.Target.{Target, target_of}
+use Rattle.mk_find.proofs.Adding.{drop_past, leads_each, leads_done}
 use Rattle.mk_find.proofs.Noting.{at_place, same_reads}
 use Rattle.mk_find.proofs.Trying.{always_none_before_first}
 use Rattle.mk_find.proofs.hidden.note_hidden_reads.Goals as goal

@@ -1,9 +1,9 @@
 use Rattle.std.proofs.Common.{◌≡◌, drop}
 use Rattle.std.specs.List.{flat_map}
-use Rattle.mk_cert.specs.Subject.{reads_of}
+use Rattle.mk_subject.specs.Subject.{reads_of}
 use Rattle.mk_find.specs.Findings.{hidden_read, hidden_reads}
 use Rattle.mk_find.specs.FirstPaths.{AlwaysNoneBefore}
-use Rattle.mk_cert.proofs.Adding.{Leads}
+use Rattle.mk_find.proofs.Adding.{Leads}
 use Rattle.mk_find.proofs.hidden.note_hidden_reads.Given as goal
 
 -- The search is as it was, the files are left that are judged next, and the places that are passed

@@ -4,12 +4,12 @@ use Rattle.std.specs.List.{flat_map}
 use Rattle.std.proofs.lemmas.List.{nil_from_length}
 use Rattle.mk_graph_search.specs.Places.{SearchInput}
 use Rattle.mk_graph_search.specs.Ways.{successors}
-use Rattle.mk_cert.specs.Carried.{carried}
-use Rattle.mk_cert.specs.NodeRow.{NodeRow}
-use Rattle.mk_cert.specs.Listed.{Adds}
-use Rattle.mk_cert.specs.Subject.{reads_of}
+use Rattle.mk_subject.specs.Carried.{carried}
+use Rattle.mk_subject.specs.NodeRow.{NodeRow}
+use Rattle.mk_find.specs.Listed.{Adds}
+use Rattle.mk_subject.specs.Subject.{reads_of}
 use Rattle.mk_find.specs.Findings.{hidden_read}
-use Rattle.mk_cert.proofs.Adding.{adds_nothing}
+use Rattle.mk_find.proofs.Adding.{adds_nothing}
 use Rattle.mk_find.proofs.hidden.search_hidden.Goals as goal
 
 pub note_hidden_reads-requires-clause-rows : goal.note_hidden_reads-requires-clause-rows

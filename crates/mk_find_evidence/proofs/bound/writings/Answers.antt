@@ -1,8 +1,8 @@
 use Rattle.std.proofs.Common.{◌≡◌, ◌∙◌, ℕ, List, ap, length, take, arith}
 use Rattle.std.specs.Prelude.{sum_by}
 use Rattle.std.proofs.lemmas.List.{take_all}
-use Rattle.mk_cert.specs.NodeRow.{NodeRow, entry_writes}
-use Rattle.mk_cert.specs.Subject.{writes_of}
+use Rattle.mk_subject.specs.NodeRow.{NodeRow, entry_writes}
+use Rattle.mk_subject.specs.Subject.{writes_of}
 use Rattle.mk_find_evidence.proofs.Counted.{writes_counted}
 use Rattle.mk_find_evidence.proofs.bound.writings.Goals as goal
 

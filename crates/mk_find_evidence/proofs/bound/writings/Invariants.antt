@@ -1,6 +1,6 @@
 use Rattle.std.proofs.Common.{◌≡◌, ◌*◌, ◌^◌, ◌≤◌, take, length}
 use Rattle.std.specs.Prelude.{sum_by}
-use Rattle.mk_cert.specs.NodeRow.{NodeRow, entry_writes}
+use Rattle.mk_subject.specs.NodeRow.{NodeRow, entry_writes}
 use Rattle.mk_find_evidence.proofs.bound.writings.Given as goal
 
 -- the entries so far

@@ -1,12 +1,11 @@
 use Rattle.std.proofs.Common.{◌+◌, ◌*◌, ◌<◌, ◌≤◌, List, ℕ, length, reverse, refl, sym, ap, ◌∙◌, subst}
 use Rattle.std.proofs.lemmas.Bool.{false≢true}
 use Rattle.mk_graph.specs.Graph.{Graph}
-use Rattle.mk_graph.specs.Schedules.{Before}
+use Rattle.mk_graph.specs.Schedules.{Before, IsScheduleWithout}
 use Rattle.mk_graph.specs.Serial.{serial_order}
-use Rattle.mk_graph.specs.Setting.{writings}
-use Rattle.mk_graph.specs.World.{last_stamp}
-use Rattle.mk_cert.specs.Subject.{footprints}
-use Rattle.mk_graph.specs.SchedulesWithout.{IsScheduleWithout}
+use Rattle.mk_build.specs.Setting.{writings}
+use Rattle.mk_build.specs.World.{last_stamp}
+use Rattle.mk_subject.specs.Subject.{footprints}
 use Rattle.mk_world.specs.State.{Scene, disk_of}
 use Rattle.mk_find_evidence.proofs.Races.{turns_are_nodes}
 use Rattle.mk_find_evidence.proofs.RaceHistories.{some_of, none_of, may_start, may_make, may_begin, ends_in_race}

@@ -2,10 +2,10 @@
 use Rattle.std.proofs.Common.{◌≡◌, ℕ, List, map, true, sym, subst}
 use Rattle.std.specs.Prelude.{IfOk, MatchOption}
 use Rattle.mk_graph.specs.Graph.{Graph, node}
-use Rattle.mk_graph.specs.Setting.{IsNumberOf}
+use Rattle.mk_build.specs.Setting.{IsNumberOf}
 use Rattle.mk_graph.specs.Schedules.{Before}
-use Rattle.mk_cert.specs.Conditions.{IsStale}
-use Rattle.mk_cert.specs.declared.finding.Finding.{Finding}
+use Rattle.mk_find.specs.Conditions.{IsStale}
+use Rattle.mk_find.specs.declared.finding.Finding.{Finding}
 use Rattle.mk_world.specs.NamedStep.{step_view}
 use Rattle.mk_find_evidence.specs.Shown.{HasStamps, IsReported, ShowsStaleRead}
 use Rattle.mk_find_evidence.proofs.Told.{race_answers, race_numbers, reader_has_recipe, stale_answers, stale_number, told_race, told_stale}

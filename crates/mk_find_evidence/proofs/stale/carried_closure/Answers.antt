@@ -1,7 +1,7 @@
 -- The search visits what chains lead to, place by place.
 use Rattle.std.proofs.Common.{◌∙◌, ap, arith}
-use Rattle.mk_cert.specs.Carried.{carried}
-use Rattle.mk_cert.specs.Subject.{footprints}
+use Rattle.mk_subject.specs.Carried.{carried}
+use Rattle.mk_subject.specs.Subject.{footprints}
 use Rattle.mk_graph_search.specs.Places.{SearchInput}
 use Rattle.mk_graph_search.specs.Ways.{successors}
 use Rattle.mk_find_evidence.proofs.Chains.{ended, ended_low, holds_all, holds_more, place_low, ran_out}

@@ -1,6 +1,6 @@
 use Rattle.std.proofs.Common.{◌≡◌, ◌-◌, ℕ, length}
-use Rattle.mk_cert.specs.Carried.{carried}
-use Rattle.mk_cert.specs.Subject.{footprints}
+use Rattle.mk_subject.specs.Carried.{carried}
+use Rattle.mk_subject.specs.Subject.{footprints}
 use Rattle.mk_graph_search.specs.Ways.{successors}
 use Rattle.mk_find_evidence.proofs.Chains.{HoldsBefore}
 use Rattle.mk_find_evidence.proofs.stale.carried_closure.Given as goal

@@ -1,7 +1,7 @@
 use Rattle.std.proofs.Common.{◌≡◌, ◌∙◌, ◌+◌, ℕ, List, [], ◌∷◌, true, Bool, inl, refl, sym, ap}
 use Rattle.mk_foot.specs.Setting as foot
-use Rattle.mk_graph.specs.Steps.{Edit}
-use Rattle.mk_graph.specs.Setting.{is_editable}
+use Rattle.mk_build.specs.Steps.{Edit}
+use Rattle.mk_build.specs.Setting.{is_editable}
 use Rattle.mk_world.specs.State.{Scene, setting}
 use Rattle.mk_find_evidence.proofs.MakingGoals.{has_stamp}
 use Rattle.mk_find_evidence.proofs.stale.edit_if_editable.Goals as goal

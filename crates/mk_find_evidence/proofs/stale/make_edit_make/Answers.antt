@@ -2,9 +2,9 @@
 use Rattle.std.proofs.Common.{◌+◌, ◌*◌, ◌≤◌, ℕ, refl, sym, subst}
 use Rattle.std.proofs.lemmas.Bool.{false≢true}
 use Rattle.mk_graph.specs.Serial.{serial_order}
-use Rattle.mk_graph.specs.Setting.{writings}
-use Rattle.mk_graph.specs.World.{last_stamp}
-use Rattle.mk_cert.specs.Subject.{footprints}
+use Rattle.mk_build.specs.Setting.{writings}
+use Rattle.mk_build.specs.World.{last_stamp}
+use Rattle.mk_subject.specs.Subject.{footprints}
 use Rattle.mk_world.specs.State.{disk_of}
 use Rattle.mk_find_evidence.proofs.MakingGoals.{are_shown, ends_stale, may_edit_then, may_make_first, may_make_second}
 use Rattle.mk_find_evidence.proofs.stale.make_edit_make.Goals as goal

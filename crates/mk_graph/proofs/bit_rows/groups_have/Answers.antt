@@ -1,6 +1,5 @@
-use Rattle.std.proofs.Common.{refl}
+use Rattle.std.proofs.Common.{refl, sym}
 use Rattle.std.proofs.lemmas.Bool.{false≢true}
-use Rattle.std.proofs.Common.{sym}
 use Rattle.mk_graph.proofs.Loops.{group_within}
 use Rattle.mk_graph.proofs.RowBits.{group_lacks_member, group_has_member}
 use Rattle.mk_graph.proofs.bit_rows.groups_have.Goals as goal

@@ -4,8 +4,7 @@ use Rattle.std.proofs.lemmas.Bool.{false≢true}
 use Rattle.mk_graph.specs.Graph.{Graph}
 use Rattle.mk_graph.specs.declared.walk.End.TheVariants.{Order, Cycle}
 use Rattle.mk_graph.specs.Progress.{row}
-use Rattle.mk_graph.specs.Schedules.{Before}
-use Rattle.mk_graph.specs.SchedulesWithout.{IsScheduleWithout}
+use Rattle.mk_graph.specs.Schedules.{Before, IsScheduleWithout}
 use Rattle.mk_graph.specs.Without.{until}
 use Rattle.mk_graph.proofs.TurnPast.{kept, leads_past, no_path}
 use Rattle.mk_graph.proofs.TurnLoops.{walked_rows}

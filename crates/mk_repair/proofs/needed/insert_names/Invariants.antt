@@ -1,7 +1,7 @@
 use Rattle.std.proofs.Common.{◌≡◌, drop, map}
 use Rattle.std.specs.Prelude.{fold}
 use Rattle.mk_lines.specs.Names.{with_name}
-use Rattle.mk_cert.specs.Subject.{name_of}
+use Rattle.mk_subject.specs.Subject.{name_of}
 use Rattle.mk_repair.proofs.needed.insert_names.Given as goal
 
 -- the names so far, with those that are left

@@ -2,7 +2,7 @@ use Rattle.std.proofs.Common.{◌≡◌, ◌∙◌, ◌≤◌, ℕ, List, [], ap
 use Rattle.std.specs.Prelude.{fold}
 use Rattle.mk_lines.specs.Names.{has_name, with_name}
 use Rattle.mk_lines.proofs.NameSets.{all_held}
-use Rattle.mk_cert.proofs.Adding.{drop_past}
+use Rattle.mk_find.proofs.Adding.{drop_past}
 use Rattle.mk_sentences.specs.Claims.{claim_view}
 use Rattle.mk_sentences.specs.declared.claim.Claim as borrowed
 use Rattle.mk_sentences.specs.Untouched.{file_about}

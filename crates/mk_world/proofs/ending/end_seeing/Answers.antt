@@ -1,10 +1,10 @@
 use Rattle.std.proofs.Common.{refl, sym, ap, ◌∙◌, subst, inl, inr}
 use Rattle.std.proofs.lemmas.Bool.{false≢true}
-use Rattle.mk_graph.specs.World.{Busy}
+use Rattle.mk_build.specs.World.{Busy}
 use Rattle.mk_world.specs.State.{making_of, disk_of}
 use Rattle.mk_world.specs.Fits.{Fits}
 use Rattle.mk_world.proofs.Changes.{finished_leaves, finished_fits, put_is, some_of, to_known, from_known}
-use Rattle.mk_graph.specs.Steps.{noted}
+use Rattle.mk_build.specs.Steps.{noted}
 use Rattle.mk_world.proofs.ending.end_seeing.Goals as goal
 
 pub returns-then-not-agrees-clause-judged : goal.returns-then-not-agrees-clause-judged

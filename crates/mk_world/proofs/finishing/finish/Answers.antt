@@ -1,9 +1,9 @@
 use Rattle.std.proofs.Common.{◌≡◌, ◌∙◌, ℕ, List, map, subst, unwrap_or}
 use Rattle.std.proofs.lemmas.Result.{err_from_is_err_and}
-use Rattle.mk_graph.specs.Steps.{Look, End}
-use Rattle.mk_graph.specs.SerialMake.{puts, rest_of_run}
-use Rattle.mk_graph.specs.Setting.{reads, writes}
-use Rattle.mk_graph.specs.World.{outcome}
+use Rattle.mk_build.specs.Steps.{Look, End}
+use Rattle.mk_build.specs.SerialMake.{puts, rest_of_run}
+use Rattle.mk_build.specs.Setting.{reads, writes}
+use Rattle.mk_build.specs.World.{outcome}
 use Rattle.mk_world.specs.State.{busy, setting, disk_of}
 use Rattle.mk_world.specs.Running.{TakesInTurn, contents_of, new_stamps}
 use Rattle.mk_world.proofs.InTurn.{finish_short}

@@ -2,9 +2,9 @@ use Rattle.std.proofs.Common.{◌≡◌, ◌<◌, List, Option, Some, ℕ, lengt
 use Rattle.std.proofs.lemmas.Bool.{false≢true}
 use Rattle.std.proofs.lemmas.Result.{err_from_is_err_and}
 use Rattle.mk_graph.specs.Membership.{Has}
-use Rattle.mk_graph.specs.Steps.{Look, End}
-use Rattle.mk_graph.specs.SerialMake.{puts}
-use Rattle.mk_graph.specs.Setting.{reads, writes}
+use Rattle.mk_build.specs.Steps.{Look, End}
+use Rattle.mk_build.specs.SerialMake.{puts}
+use Rattle.mk_build.specs.Setting.{reads, writes}
 use Rattle.mk_world.specs.State.{busy, setting, making_of, disk_of, MakeState, DiskState, run_at, with_run}
 use Rattle.mk_world.proofs.InTurn.{finish_short, finish_all, finish_stops, turn_one, on_errors}
 use Rattle.mk_world.proofs.Looks.{looks_taken, looks_seen, still_seen, still_runs, rest_refused}

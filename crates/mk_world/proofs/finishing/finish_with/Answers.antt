@@ -1,8 +1,8 @@
 use Rattle.std.proofs.Common.{ℕ, map, subst}
 use Rattle.std.proofs.lemmas.Result.{err_from_is_err_and}
-use Rattle.mk_graph.specs.Steps.{Look, End}
-use Rattle.mk_graph.specs.SerialMake.{puts, rest_of_run}
-use Rattle.mk_graph.specs.Setting.{reads, writes}
+use Rattle.mk_build.specs.Steps.{Look, End}
+use Rattle.mk_build.specs.SerialMake.{puts, rest_of_run}
+use Rattle.mk_build.specs.Setting.{reads, writes}
 use Rattle.mk_world.specs.State.{busy, setting}
 use Rattle.mk_world.specs.Running.{TakesInTurn}
 use Rattle.mk_world.proofs.InTurn.{finish_short}

@@ -1,8 +1,8 @@
 use Rattle.std.proofs.Common.{◌∙◌, ◌≡◌, map, drop, get_or, ap, subst, string_bytes, Ok, Err, ◌+◌}
 use Rattle.std.proofs.lemmas.List.{drop_more}
 use Rattle.std.proofs.lemmas.Result.{err_from_is_err_and}
-use Rattle.mk_graph.specs.Setting.{FileName}
-use Rattle.mk_graph.specs.Steps.{Put}
+use Rattle.mk_build.specs.Setting.{FileName}
+use Rattle.mk_build.specs.Steps.{Put}
 use Rattle.mk_world.specs.State.{busy, setting}
 use Rattle.mk_world.specs.Steps.{Judges}
 use Rattle.mk_world.proofs.FirstDisk.{nothing_left}

@@ -1,7 +1,7 @@
 use Rattle.std.proofs.Common.{◌≡◌, map, drop, string_bytes, Result}
-use Rattle.mk_graph.specs.SerialMake.{puts}
-use Rattle.mk_graph.specs.Setting.{writes}
-use Rattle.mk_graph.specs.World.{World}
+use Rattle.mk_build.specs.SerialMake.{puts}
+use Rattle.mk_build.specs.Setting.{writes}
+use Rattle.mk_build.specs.World.{World}
 use Rattle.mk_world.specs.declared.fault.StepFault.{StepFault}
 use Rattle.mk_world.specs.Fits.{Fits}
 use Rattle.mk_world.specs.State.{busy, setting}

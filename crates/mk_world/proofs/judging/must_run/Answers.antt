@@ -1,12 +1,11 @@
-use Rattle.std.proofs.Common.{◌≡◌, ℕ, ◌<◌, List, length, get_or, sym, ap, ◌∙◌, refl, subst, arith, false}
-use Rattle.std.proofs.Common.{inl, inr}
+use Rattle.std.proofs.Common.{◌≡◌, ℕ, ◌<◌, List, length, get_or, sym, ap, ◌∙◌, refl, subst, arith, false, inl, inr}
 use Rattle.std.proofs.lemmas.Bool.{false≢true}
 use Rattle.std.proofs.lemmas.List.{take_all}
 use Rattle.mk_graph.specs.declared.node.Node.{Node}
 use Rattle.mk_graph.specs.Membership.{Has}
 use Rattle.mk_graph.specs.Graph.{node, prerequisites}
-use Rattle.mk_graph.specs.Setting.{name}
-use Rattle.mk_graph.specs.World.{HasStamp}
+use Rattle.mk_build.specs.Setting.{name}
+use Rattle.mk_build.specs.World.{HasStamp}
 use Rattle.mk_world.specs.State.{disk_of}
 use Rattle.mk_world.specs.Fits.{Forces}
 use Rattle.mk_world.proofs.Makes.{at_place, one_more}

@@ -2,7 +2,7 @@ use Rattle.std.proofs.Common.{◌≡◌, ℕ, List, [], ◌∷◌, length, map, 
 use Rattle.std.proofs.lemmas.Bool.{false≢true, eq-eqb}
 use Rattle.mk_graph.specs.Membership.{Has}
 use Rattle.mk_graph.specs.Schedules.{HasAll}
-use Rattle.mk_graph.specs.Setting.{FileName}
+use Rattle.mk_build.specs.Setting.{FileName}
 use Rattle.mk_world.specs.State.{number_of}
 use Rattle.mk_world.proofs.Makes.{has_all_within}
 use Rattle.mk_world.proofs.names.goals_of.Goals as goal

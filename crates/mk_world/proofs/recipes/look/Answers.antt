@@ -1,8 +1,8 @@
 use Rattle.std.proofs.Common.{◌≡◌, List, true, refl, sym, ap, ◌∙◌, subst, inl, inr}
 use Rattle.std.proofs.lemmas.Bool.{false≢true}
 use Rattle.mk_lines.specs.Names.{has_name}
-use Rattle.mk_graph.specs.Setting.{FileName}
-use Rattle.mk_graph.specs.World.{Busy, Making}
+use Rattle.mk_build.specs.Setting.{FileName}
+use Rattle.mk_build.specs.World.{Busy, Making}
 use Rattle.mk_world.specs.State.{disk_of}
 use Rattle.mk_world.specs.declared.footprints.Footprint.{Footprint}
 use Rattle.mk_world.proofs.Tables.{name_there, there_name}

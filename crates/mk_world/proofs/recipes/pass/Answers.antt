@@ -2,8 +2,8 @@ use Rattle.std.proofs.Common.{◌≡◌, true, false, refl, sym, ap, ◌∙◌, 
 use Rattle.std.proofs.lemmas.Bool.{false≢true}
 use Rattle.mk_graph.specs.declared.node.Node.{Node}
 use Rattle.mk_graph.specs.Graph.{Graph, node}
-use Rattle.mk_graph.specs.World.{Busy, Making}
-use Rattle.mk_graph.specs.Steps.{MustRun}
+use Rattle.mk_build.specs.World.{Busy, Making}
+use Rattle.mk_build.specs.Steps.{MustRun}
 use Rattle.mk_world.specs.State.{making_of, disk_of}
 use Rattle.mk_world.specs.Fits.{Fits}
 use Rattle.mk_world.proofs.Judged.{node_is}

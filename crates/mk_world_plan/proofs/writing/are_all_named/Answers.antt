@@ -1,7 +1,7 @@
 use Rattle.std.proofs.Common.{◌≡◌, ◌∙◌, ◌<◌, ℕ, List, map, true, false, length, get_or, ap, sym, arith}
 use Rattle.mk_lines.specs.Names.{has_name}
 use Rattle.mk_graph.specs.declared.node.Node.{Node}
-use Rattle.mk_graph.specs.Setting.{name}
+use Rattle.mk_build.specs.Setting.{name}
 use Rattle.mk_world_plan.proofs.Goals.{goal_low, name_at, one_lacks, one_named}
 use Rattle.mk_world_plan.proofs.writing.are_all_named.Goals as goal
 

@@ -2,7 +2,7 @@
 use Rattle.std.proofs.Common.{◌≡◌, ◌<◌, ◌∙◌, List, ap, sym, length, get_or, arith}
 use Rattle.mk_graph.specs.declared.node.Node.{Node}
 use Rattle.mk_graph.specs.Graph.{Graph, node, no_node}
-use Rattle.mk_cert.specs.Target.{Target, unsettled_of}
+use Rattle.mk_subject.specs.Target.{Target, unsettled_of}
 use Rattle.mk_cert.proofs.ReadOf.{found_there, same_names}
 use Rattle.mk_cert.proofs.cursor.Cursor.found.Goals as goal
 

@@ -1,6 +1,6 @@
 use Rattle.std.proofs.Common.{◌≡◌, ap, ◌∙◌}
 use Rattle.mk_graph.specs.declared.node.Node.{Node}
-use Rattle.mk_graph.specs.Setting.{name}
+use Rattle.mk_build.specs.Setting.{name}
 use Rattle.mk_world.specs.State.{number_of}
 use Rattle.mk_find_evidence.proofs.Names.{number_is}
 use Rattle.mk_find_evidence.proofs.history.History.name_of.Goals as goal

@@ -1,5 +1,5 @@
 use Rattle.std.proofs.Common.{◌≡◌, ◌<◌, length, map, string_bytes, sym, subst}
-use Rattle.mk_graph.specs.Setting.{reads, writes}
+use Rattle.mk_build.specs.Setting.{reads, writes}
 use Rattle.mk_world.specs.State.{State, setting}
 use Rattle.mk_find_evidence.specs.Histories.{History}
 use Rattle.mk_find_evidence.proofs.WholeRuns.{both_noted}

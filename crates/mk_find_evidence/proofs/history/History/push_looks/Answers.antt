@@ -1,5 +1,5 @@
 use Rattle.std.proofs.Common.{◌<◌, length, map, String, Global, string_bytes, sym, ap, ◌∙◌, subst}
-use Rattle.mk_graph.specs.Steps.{Look}
+use Rattle.mk_build.specs.Steps.{Look}
 use Rattle.mk_world.specs.State.{State}
 use Rattle.mk_find_evidence.proofs.Texts.{next_text, no_text}
 use Rattle.mk_find_evidence.proofs.Notes.{all_unnoted, next_noted, none_unnoted}

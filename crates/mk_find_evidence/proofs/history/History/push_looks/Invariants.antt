@@ -1,5 +1,5 @@
 use Rattle.std.proofs.Common.{map, drop, string_bytes}
-use Rattle.mk_graph.specs.Steps.{Look}
+use Rattle.mk_build.specs.Steps.{Look}
 use Rattle.mk_find_evidence.proofs.Notes.{NotesLeft}
 use Rattle.mk_find_evidence.proofs.history.History.push_looks.Given as goal
 

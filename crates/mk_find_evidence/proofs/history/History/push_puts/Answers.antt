@@ -1,6 +1,6 @@
 use Rattle.std.proofs.Common.{◌<◌, List, length, String, Global, string_bytes, sym, ap, ◌∙◌, subst}
-use Rattle.mk_graph.specs.Setting.{FileName}
-use Rattle.mk_graph.specs.SerialMake.{puts}
+use Rattle.mk_build.specs.Setting.{FileName}
+use Rattle.mk_build.specs.SerialMake.{puts}
 use Rattle.mk_world.specs.State.{State}
 use Rattle.mk_find_evidence.proofs.Texts.{next_text, no_text}
 use Rattle.mk_find_evidence.proofs.Notes.{all_unnoted, next_noted, none_unnoted}

@@ -1,5 +1,5 @@
 use Rattle.std.proofs.Common.{map, drop, string_bytes}
-use Rattle.mk_graph.specs.SerialMake.{puts}
+use Rattle.mk_build.specs.SerialMake.{puts}
 use Rattle.mk_find_evidence.proofs.Notes.{NotesLeft}
 use Rattle.mk_find_evidence.proofs.history.History.push_puts.Given as goal
 

@@ -1,6 +1,6 @@
 use Rattle.std.proofs.Common.{◌≡◌, List, map, refl, ap, sym, ◌∙◌, subst}
-use Rattle.mk_graph.specs.Steps.{Step, after_all}
-use Rattle.mk_graph.specs.SerialMake.{whole_run}
+use Rattle.mk_build.specs.Steps.{Step, after_all}
+use Rattle.mk_build.specs.SerialMake.{whole_run}
 use Rattle.mk_world.specs.NamedStep.{step_view}
 use Rattle.mk_world.specs.State.{Scene, setting, world_of}
 use Rattle.mk_find_evidence.specs.Histories.{History, MayGoOn, Notes, puts_in}

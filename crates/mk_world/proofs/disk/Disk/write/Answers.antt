@@ -1,6 +1,6 @@
 use Rattle.std.proofs.Common.{◌≡◌, ◌+◌, true, Some, ap, ◌∙◌}
 use Rattle.mk_lines.specs.Names.{has_name}
-use Rattle.mk_graph.specs.World.{changed}
+use Rattle.mk_build.specs.World.{changed}
 use Rattle.mk_world.specs.Tables.{look}
 use Rattle.mk_world.proofs.Disks.{written_is, on_true}
 use Rattle.mk_world.proofs.disk.Disk.write.Goals as goal

@@ -1,5 +1,5 @@
 use Rattle.std.proofs.Common.{◌≡◌, ℕ, ◌<◌, [], length, map, get_or}
-use Rattle.mk_graph.specs.Setting.{reads}
+use Rattle.mk_build.specs.Setting.{reads}
 use Rattle.mk_world.specs.State.{setting}
 use Rattle.mk_world.specs.Places.{place_among}
 use Rattle.mk_world.proofs.places.Places.new.Given as goal

@@ -1,5 +1,5 @@
 use Rattle.std.proofs.Common.{Option, rules, subst}
-use Rattle.mk_graph.specs.Steps.{Begin}
+use Rattle.mk_build.specs.Steps.{Begin}
 use Rattle.mk_world.specs.State.{MakeState}
 use Rattle.mk_world.specs.Kept.{IsKeptIn}
 use Rattle.mk_world.proofs.Keeping.{kept_judged}

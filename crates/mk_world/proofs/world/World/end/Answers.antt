@@ -1,5 +1,5 @@
 use Rattle.std.proofs.Common.{Option, List, sym, subst}
-use Rattle.mk_graph.specs.Setting.{FileName}
+use Rattle.mk_build.specs.Setting.{FileName}
 use Rattle.mk_world.specs.State.{MakeState}
 use Rattle.mk_world.specs.First.{AreNamesOf}
 use Rattle.mk_world.specs.Kept.{IsKeptIn}

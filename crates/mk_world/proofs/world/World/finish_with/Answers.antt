@@ -1,9 +1,9 @@
 use Rattle.std.proofs.Common.{Option, List, ◌<◌, length, sym, refl, subst, Err}
 use Rattle.mk_graph.specs.Graph.{Graph}
-use Rattle.mk_graph.specs.SerialMake.{rest_of_run}
+use Rattle.mk_build.specs.SerialMake.{rest_of_run}
 use Rattle.mk_world.specs.declared.fault.StepFault.TheVariants.{NoMake}
 use Rattle.mk_world.specs.State.{MakeState, setting, world_in, disk_of}
-use Rattle.mk_graph.specs.Setting.{FileName}
+use Rattle.mk_build.specs.Setting.{FileName}
 use Rattle.mk_world.specs.First.{AreNamesOf}
 use Rattle.mk_world.specs.Kept.{IsKeptIn}
 use Rattle.mk_world.specs.Places.{ArePlaces}

@@ -1,5 +1,5 @@
 use Rattle.std.proofs.Common.{sym, subst, ◌∙◌}
-use Rattle.mk_graph.specs.World.{IsFirstDisk}
+use Rattle.mk_build.specs.World.{IsFirstDisk}
 use Rattle.mk_world.specs.State.{Scene, DiskState, setting_of, disk_of}
 use Rattle.mk_world.specs.First.{AreNamesOf}
 use Rattle.mk_world.proofs.Tables.{name_there, there_name}

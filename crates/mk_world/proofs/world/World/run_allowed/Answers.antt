@@ -1,6 +1,6 @@
 use Rattle.std.proofs.lemmas.Bool.{false≢true}
 use Rattle.std.proofs.Common.{sym, ◌∙◌}
-use Rattle.mk_graph.specs.SerialMake.{whole_run}
+use Rattle.mk_build.specs.SerialMake.{whole_run}
 use Rattle.mk_world.specs.State.{setting, world_of}
 use Rattle.mk_world.proofs.InTurn.{turn_front}
 use Rattle.mk_world.proofs.Whole.{all_leave, no_fault}

@@ -1,7 +1,7 @@
 use Rattle.std.proofs.Common.{subst}
 use Rattle.std.proofs.lemmas.Result.{err_from_is_err_and}
-use Rattle.mk_graph.specs.SerialMake.{rest_of_run}
-use Rattle.mk_graph.specs.Steps.{Begin}
+use Rattle.mk_build.specs.SerialMake.{rest_of_run}
+use Rattle.mk_build.specs.Steps.{Begin}
 use Rattle.mk_world.specs.State.{Scene, setting}
 use Rattle.mk_world.specs.Running.{AnswersInTurn}
 use Rattle.mk_world.proofs.InTurn.{answers_next, answers_refused}

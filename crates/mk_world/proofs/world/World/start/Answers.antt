@@ -1,6 +1,6 @@
 use Rattle.std.proofs.Common.{◌<◌, List, ℕ, map, length, refl, sym, subst, arith}
 use Rattle.mk_graph.specs.Membership.{Has}
-use Rattle.mk_graph.specs.Steps as model
+use Rattle.mk_build.specs.Steps as model
 use Rattle.mk_graph_ready.specs.Progress.{Starts}
 use Rattle.mk_world.specs.State.{MakeState, setting, world_in, busy, start_of, number_of}
 use Rattle.mk_world.specs.Fits.{Fits}

@@ -1,6 +1,6 @@
 use Rattle.std.proofs.Common.{◌≡◌, ◌<◌, ◌∙◌, List, [], ℕ, length, refl, sym, ap, subst, arith}
 use Rattle.std.proofs.lemmas.Bool.{false≢true, eq-eqb}
-use Rattle.mk_graph.specs.Steps as model
+use Rattle.mk_build.specs.Steps as model
 use Rattle.mk_world.specs.State.{MakeState, setting, world_in, busy, start_of}
 use Rattle.mk_world.specs.Steps.{Takes}
 use Rattle.mk_world.proofs.Changes.{started_takes, is_none}

@@ -1,0 +1,210 @@
+-- The invariant over the end of a recipe and the passing of a node.
+use Rattle.std.proofs.Common.{◌≡◌, ℕ, ◌<◌, ◌≤◌, List, [], ◌∷◌, true, Option, Some, None, map, inl, inr, ⊎_elim, refl, sym, ◌∙◌, ap, subst, ◌⊎◌, arith}
+use Rattle.std.specs.Prelude.{unwrap_or}
+use Rattle.std.specs.Option.{option_flatten}
+use Rattle.std.proofs.lemmas.Bool.{cases_eq}
+use Rattle.mk_graph.specs.Membership.{Has}
+use Rattle.mk_graph.specs.Graph.{Graph, node}
+use Rattle.mk_build.specs.Setting.{FileName, Setting, reads, writes}
+use Rattle.mk_build.specs.World.{Outcome, Disk, Making, Busy, content}
+use Rattle.mk_build.specs.Steps.{End, Ready, MayEnd, finished, noted, changed_at, seen_by, put_by}
+use Rattle.mk_build.specs.Runs.{WholeRun, Runs, run_of, runs_after, one_later}
+use Rattle.mk_build.proofs.Changes.{changed_at_here, changed_at_there}
+use Rattle.mk_build.proofs.InOrder.{runs_not_done, finished_in_order, Has-without, Has-from_without}
+use Rattle.mk_build.proofs.Outcomes.{noted_new, noted_old}
+use Rattle.mk_build.proofs.Invariant.{HasRunWhole, WasThrough, IsUntouched, SawOrLater, Fits, InMake, IsUpToDate, AreUpToDate, Holds}
+
+-- what was put was put somewhere
+pub put_somewhere : (o : Option ℕ) → ¬ (o ≡ None) → o ≡ Some (unwrap_or o 0)
+put_somewhere None none = absurd (none refl)
+put_somewhere (Some c) there = refl
+
+-- what was seen was seen
+pub seen_somewhere : (o : Option (Option ℕ)) → ¬ (o ≡ None) → o ≡ Some (option_flatten o)
+seen_somewhere None none = absurd (none refl)
+seen_somewhere (Some v) there = refl
+
+-- files that hold what was put hold it in their order
+pub holds_put : (d : Disk) (put : FileName → Option ℕ) (files : List FileName) → ((f : FileName) → Has files f → content d f ≡ Some (unwrap_or (put f) 0)) → map (content d) files ≡ map (λ c. Some c) (map (λ f. unwrap_or (put f) 0) files)
+holds_put d put [] h = refl
+holds_put d put (f ∷ files) h = let here = h f (inl refl) in let rest = holds_put d put files (λ k there. h k (inr there)) in cc
+
+module _ (g : Graph) (s : Setting) (p : Runs) (start : ℕ) (m : Making) (d : Disk) (fits : Fits g s p m.running d) (is : InMake g s p start m d) (x : ℕ) where
+  -- what doesn't run after one is finished is it or didn't run
+  stopped_before : (t : ℕ) → ¬ (Has (finished m x).running t) → ¬ (x ≡ t) → ¬ (Has m.running t)
+  stopped_before t stopped differ runs = stopped (Has-from_without x t m.running runs differ)
+
+  -- what was through is through
+  through_finished : (t clock step : ℕ) (last : Option WholeRun) → WasThrough g s last m.running d t clock step → WasThrough g s last (finished m x).running d t clock step
+  through_finished t clock step last was = record { stopped = λ runs. was.stopped (Has-without x t m.running runs).0; early = was.early; ended = was.ended; end_step = was.end_step }
+
+  -- what waits now is another one, which waited
+  waits_finished : (t : ℕ) → ¬ (Has (x ∷ m.done) t) → ¬ (Has (finished m x).running t) → p.began t ≤ start
+  waits_finished t not_done stopped = is.waits t (λ done. not_done (inr done)) (stopped_before t stopped (λ same. not_done (inl same)))
+
+  -- what running recipes have seen and put is as before
+  seen_finished : (t : ℕ) (f : FileName) (v : Option ℕ) → Has (finished m x).running t → (finished m x).seen t f ≡ Some v → Has m.running t × (m.seen t f ≡ Some v)
+  seen_finished t f v runs e = let left = Has-without x t m.running runs in (left.0, sym (ap (λ (at : FileName → Option (Option ℕ)). at f) (changed_at_there m.seen x t (λ h. None) left.1)) ∙ e)
+
+  put_finished : (t : ℕ) (f : FileName) (c : ℕ) → Has (finished m x).running t → (finished m x).put t f ≡ Some c → Has m.running t × (m.put t f ≡ Some c)
+  put_finished t f c runs e = let left = Has-without x t m.running runs in (left.0, sym (ap (λ (at : FileName → Option ℕ). at f) (changed_at_there m.put x t (λ h. None) left.1)) ∙ e)
+
+  module _ (may : MayEnd g s m d x) where
+    -- its run
+    abbrev run : WholeRun
+    run = run_of p m d x
+
+    -- its outcome
+    result : Outcome
+    result = record { recipe = x; seen = seen_by g s m x; written = put_by g s m x }
+
+    -- the last run of each recipe
+    last : ℕ → Option WholeRun
+    last = changed_at p.last x (Some run)
+
+    -- its own is this one
+    last_here : (t : ℕ) → x ≡ t → last t ≡ Some run
+    unfolding last
+    last_here t same = changed_at_here p.last x t (Some run) same
+
+    -- that of another one stays
+    last_there : (t : ℕ) → ¬ (x ≡ t) → last t ≡ p.last t
+    unfolding last
+    last_there t differ = changed_at_there p.last x t (Some run) differ
+
+    -- a last run is this one, or that of another recipe
+    last_cases : (t : ℕ) (r : WholeRun) → last t ≡ Some r → ((x ≡ t) × (run ≡ r)) ⊎ ((¬ (x ≡ t)) × (p.last t ≡ Some r))
+    last_cases t r e = ⊎_elim (λ same. let both : Some run ≡ Some r = sym (last_here t same) ∙ e in inl (same, cc)) (λ differ. inr (differ, sym (last_there t differ) ∙ e)) (cases_eq x t)
+
+    -- its reads hold what it saw
+    sees_now : (f : FileName) → Has (reads g s x) f → content d f ≡ run.saw f
+    sees_now f read = is.seen x f (option_flatten (m.seen x f)) may.runs read (seen_somewhere (m.seen x f) (may.seen f read))
+
+    -- its files hold what it put
+    put_now : (f : FileName) → Has (writes g s x) f → content d f ≡ Some (unwrap_or (m.put x f) 0)
+    put_now f wrote = is.put x f (unwrap_or (m.put x f) 0) may.runs wrote (put_somewhere (m.put x f) (may.put f wrote))
+
+    -- it is as this run left it
+    whole_now : HasRunWhole g s run (noted d result) x
+    unfolding result
+    whole_now = record {
+      written = put_by g s m x;
+      known = noted_new d result may.agrees;
+      holds = holds_put d (m.put x) (writes g s x) put_now;
+      early = λ f stamp wrote has. fits.stamped f stamp has;
+    }
+
+    -- another one is as its last run left it
+    whole_still : (t : ℕ) (r : WholeRun) → HasRunWhole g s r d t → HasRunWhole g s r (noted d result) t
+    whole_still t r whole = record {
+      written = whole.written;
+      known = noted_old d result t (map r.saw (reads g s t)) whole.written whole.known;
+      holds = whole.holds;
+      early = whole.early;
+    }
+
+    -- what was through is through, and isn't the one that ends
+    through_ended : (t clock step : ℕ) → WasThrough g s (p.last t) m.running d t clock step → WasThrough g s (last t) (finished m x).running (noted d result) t clock step
+    through_ended t clock step was =
+        let now = through_finished t clock step (p.last t) was in
+        record {
+          stopped = now.stopped;
+          early = now.early;
+          ended = λ r is_last. ⊎_elim (λ here. absurd (was.stopped (subst (λ (k : ℕ). Has m.running k) here.0 may.runs))) (λ there. was.ended r there.1) (last_cases t r is_last);
+          end_step = λ r is_last. ⊎_elim (λ here. absurd (was.stopped (subst (λ (k : ℕ). Has m.running k) here.0 may.runs))) (λ there. was.end_step r there.1) (last_cases t r is_last);
+        }
+
+    -- a recipe that doesn't run has none of its files or is as its last run left it
+    whole_ended : (t : ℕ) → ¬ (Has (finished m x).running t) → IsUntouched g s (noted d result) t ⊎ ((r : WholeRun) × (last t ≡ Some r) × HasRunWhole g s r (noted d result) t)
+    whole_ended t stopped =
+        ⊎_elim (λ same. inr (
+          run,
+          last_here t same,
+          subst (λ (k : ℕ). HasRunWhole g s run (noted d result) k)
+              same whole_now,
+        )) (λ differ. ⊎_elim (λ none. inl none)
+        (λ whole. inr (whole.0, last_there t differ ∙ whole.1, whole_still t whole.0 whole.2))
+        (fits.whole t (stopped_before t stopped differ))) (cases_eq x t)
+
+    -- what last runs saw is there or was written since
+    saw_ended : (t : ℕ) (r : WholeRun) → last t ≡ Some r → SawOrLater g s r (noted d result) t
+    saw_ended t r is_last f read =
+        ⊎_elim (λ here. inl (sees_now f (subst (λ (k : ℕ). Has (reads g s k) f) (sym here.0) read) ∙ ap (λ (k : WholeRun). k.saw f) here.1)) (λ there. fits.saw t r there.1 f read) (last_cases t r is_last)
+
+    -- the disk fits the runs after the end
+    fits_ended : Fits g s (record (one_later p) { last = last }) (finished m x).running (noted d result)
+    fits_ended = record {
+      stamped = fits.stamped;
+      began = fits.began;
+      ended = λ t r is_last. ⊎_elim (λ here. let same = ap (λ (k : WholeRun). k.ended) here.1 in omega arith) (λ there. fits.ended t r there.1) (last_cases t r is_last);
+      end_step = λ t r is_last. ⊎_elim (λ here. let same = ap (λ (k : WholeRun). k.end_step) here.1 in omega arith) (λ there. let came = fits.end_step t r there.1 in omega arith) (last_cases t r is_last);
+      begin_step = λ t r stopped is_last. ⊎_elim (λ here. sym (ap (λ (k : WholeRun). k.begin_step) here.1) ∙ ap p.begin_step here.0) (λ there. fits.begin_step t r (stopped_before t stopped there.0) there.1) (last_cases t r is_last);
+      after_begin = λ t f stamp stopped wrote has. ⊎_elim (λ same. subst (λ (k : ℕ). p.began k < stamp) same
+          (let own = subst (λ (k : ℕ). Has (writes g s k) f) (sym same) wrote in is.put_late x f
+          (unwrap_or (m.put x f) 0) stamp may.runs own (put_somewhere (m.put x f) (may.put f own)) has))
+          (λ differ. fits.after_begin t f stamp (stopped_before t stopped differ) wrote has) (cases_eq x t);
+      whole = whole_ended;
+      saw = saw_ended;
+      apart = λ o t before. ⊎_elim (λ one. inl (through_ended o (p.began t) (p.begin_step t) one)) (λ two. inr (through_ended t (p.began o) (p.begin_step o) two)) (fits.apart o t before);
+    }
+
+    -- the invariant after the end of a recipe
+    pub end_holds : Holds g s (runs_after (Busy m d) (End x) p) start (finished m x) (noted d (record { recipe = x; seen = seen_by g s m x; written = put_by g s m x }))
+    unfolding result last
+    end_holds = record {
+      fits = fits_ended;
+      make = record {
+        order = finished_in_order g m is.order x (is.order.running x may.runs);
+        start_came = is.start_came;
+        seen = λ t f v runs read e. let old = seen_finished t f v runs e in is.seen t f v old.0 read old.1;
+        put = λ t f c runs wrote e. let old = put_finished t f c runs e in is.put t f c old.0 wrote old.1;
+        put_late = λ t f c stamp runs wrote e has. let old = put_finished t f c runs e in is.put_late t f c stamp old.0 wrote old.1 has;
+        waits = waits_finished;
+        runs = λ t runs. is.runs t (Has-without x t m.running runs).0;
+      };
+    }
+
+    -- what is done is up to date, the recipe that ended among it
+    pub end_settled : AreUpToDate g s p start m d → AreUpToDate g s (runs_after (Busy m d) (End x) p) start (finished m x) (noted d (record { recipe = x; seen = seen_by g s m x; written = put_by g s m x }))
+    unfolding result last
+    end_settled are t (inl same) recipe =
+        subst (λ (k : ℕ). IsUpToDate g s (runs_after (Busy m d) (End x) p) start (noted d result) k) same (record { run = run; is_last = last_here x refl; whole = whole_now; sees = sees_now; settled = inr (is.runs x may.runs) })
+    end_settled are t (inr before) recipe =
+        let differ : ¬ (x ≡ t) = λ same. runs_not_done g m is.order x may.runs (subst (λ (k : ℕ). Has m.done k) (sym same) before) in
+        let up = are t before recipe in
+        record { run = up.run; is_last = last_there t differ ∙ up.is_last; whole = whole_still t up.run up.whole; sees = up.sees; settled = up.settled }
+
+  module _ (ready : Ready g m x) where
+    -- what doesn't run after a node was passed didn't run
+    stopped_passed : (t : ℕ) → ¬ (Has (finished m x).running t) → ¬ (Has m.running t)
+    stopped_passed t stopped runs = stopped (Has-from_without x t m.running runs (λ same. ready.1 (subst (λ (k : ℕ). Has m.running k) (sym same) runs)))
+
+    -- the invariant after a node was passed
+    pub pass_holds : Holds g s p start (finished m x) d
+    pass_holds = record {
+      fits = record {
+        stamped = fits.stamped;
+        began = fits.began;
+        ended = fits.ended;
+        end_step = fits.end_step;
+        begin_step = λ t r stopped is_last. fits.begin_step t r (stopped_passed t stopped) is_last;
+        after_begin = λ t f stamp stopped wrote has. fits.after_begin t f stamp (stopped_passed t stopped) wrote has;
+        whole = λ t stopped. fits.whole t (stopped_passed t stopped);
+        saw = fits.saw;
+        apart = λ o t before. ⊎_elim (λ one. inl (through_finished o (p.began t) (p.begin_step t) (p.last o) one)) (λ two. inr (through_finished t (p.began o) (p.begin_step o) (p.last t) two)) (fits.apart o t before);
+      };
+      make = record {
+        order = finished_in_order g m is.order x ready.0;
+        start_came = is.start_came;
+        seen = λ t f v runs read e. let old = seen_finished t f v runs e in is.seen t f v old.0 read old.1;
+        put = λ t f c runs wrote e. let old = put_finished t f c runs e in is.put t f c old.0 wrote old.1;
+        put_late = λ t f c stamp runs wrote e has. let old = put_finished t f c runs e in is.put_late t f c stamp old.0 wrote old.1 has;
+        waits = waits_finished;
+        runs = λ t runs. is.runs t (Has-without x t m.running runs).0;
+      };
+    }
+
+    -- what is done is up to date, if what was passed is
+    pub pass_settled : ((node g x).recipe ≡ true → IsUpToDate g s p start d x) → AreUpToDate g s p start m d → AreUpToDate g s p start (finished m x) d
+    pass_settled up are t (inl same) recipe = subst (λ (k : ℕ). IsUpToDate g s p start d k) same (up (subst (λ (k : ℕ). (node g k).recipe ≡ true) (sym same) recipe))
+    pass_settled up are t (inr before) recipe = are t before recipe

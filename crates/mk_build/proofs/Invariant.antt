@@ -1,0 +1,128 @@
+-- What holds in each state of each legal history where footprints are sound.
+use Rattle.std.proofs.Common.{◌≡◌, ℕ, ◌<◌, ◌≤◌, List, [], true, Option, Some, None, map, ◌⊎◌, arith}
+use Rattle.mk_graph.specs.Membership.{Has}
+use Rattle.mk_graph.specs.Graph.{Graph, node}
+use Rattle.mk_build.specs.Setting.{FileName, Setting, reads, writes}
+use Rattle.mk_build.specs.World.{Disk, Making, World, Idle, Busy, content, HasStamp, WasWrittenAfter, outcome}
+use Rattle.mk_graph.specs.Schedules.{Before}
+use Rattle.mk_build.specs.Steps.{Step, Make, MustRun}
+use Rattle.mk_build.specs.Runs.{WholeRun, Runs, one_later}
+use Rattle.mk_build.specs.Ways.{CanChange}
+use Rattle.mk_build.proofs.InOrder.{InOrder}
+
+-- The recipe is as its last whole run left it: what it wrote is there, as the outcome of what it saw, and no later than
+-- the end of the run.
+pub record HasRunWhole (g : Graph) (s : Setting) (run : WholeRun) (d : Disk) (t : ℕ) : Type 0 where
+  pub written : List ℕ
+  pub known : outcome d.known t (map run.saw (reads g s t)) ≡ Some written
+  pub holds : map (content d) (writes g s t) ≡ map (λ c. Some c) written
+  pub early : (f : FileName) (stamp : ℕ) → Has (writes g s t) f → HasStamp d f stamp → stamp ≤ run.ended
+
+-- none of its files is there
+abbrev pub IsUntouched : Graph → Setting → Disk → ℕ → Type 0
+IsUntouched g s d t = (f : FileName) → Has (writes g s t) f → d.files f ≡ None
+
+-- The recipe was through at this clock and before this step: it isn't running, what it wrote is no later than the clock,
+-- and its last whole run ended no later and before the step.
+pub record WasThrough (g : Graph) (s : Setting) (last : Option WholeRun) (running : List ℕ) (d : Disk) (t clock step : ℕ) : Type 0 where
+  pub stopped : ¬ (Has running t)
+  pub early : (f : FileName) (stamp : ℕ) → Has (writes g s t) f → HasStamp d f stamp → stamp ≤ clock
+  pub ended : (run : WholeRun) → last ≡ Some run → run.ended ≤ clock
+  pub end_step : (run : WholeRun) → last ≡ Some run → run.end_step < step
+
+-- Each file that a recipe reads holds what its last whole run saw, or can change and was written after that run.
+abbrev pub SawOrLater : Graph → Setting → WholeRun → Disk → ℕ → Type 0
+SawOrLater g s run d t = (f : FileName) → Has (reads g s t) f → (content d f ≡ run.saw f) ⊎ (CanChange s f × WasWrittenAfter d f run.ended)
+
+-- The disk fits the runs so far, while these recipes run: stamps, begins and ends have come; what a recipe wrote is
+-- later than its last begin; a recipe that doesn't run has last begun its last whole run, or has none of its files; what
+-- last runs saw is there or was written since; and of two of which one is before the other, one was through when the
+-- other last began.
+pub record Fits (g : Graph) (s : Setting) (p : Runs) (running : List ℕ) (d : Disk) : Type 0 where
+  pub stamped : (f : FileName) (stamp : ℕ) → HasStamp d f stamp → stamp ≤ d.clock
+  pub began : (t : ℕ) → p.began t ≤ d.clock
+  pub ended : (t : ℕ) (run : WholeRun) → p.last t ≡ Some run → run.ended ≤ d.clock
+  pub end_step : (t : ℕ) (run : WholeRun) → p.last t ≡ Some run → run.end_step < p.steps
+  pub begin_step : (t : ℕ) (run : WholeRun) → ¬ (Has running t) → p.last t ≡ Some run → run.begin_step ≡ p.begin_step t
+  pub after_begin : (t : ℕ) (f : FileName) (stamp : ℕ) → ¬ (Has running t) → Has (writes g s t) f → HasStamp d f stamp → p.began t < stamp
+  pub whole : (t : ℕ) → ¬ (Has running t) → IsUntouched g s d t ⊎ ((run : WholeRun) × (p.last t ≡ Some run) × HasRunWhole g s run d t)
+  pub saw : (t : ℕ) (run : WholeRun) → p.last t ≡ Some run → SawOrLater g s run d t
+  pub apart : (o t : ℕ) → Before g o t → WasThrough g s (p.last o) running d o (p.began t) (p.begin_step t) ⊎ WasThrough g s (p.last t) running d t (p.began o) (p.begin_step o)
+
+-- A done recipe is up to date: it is as its last whole run left it, each file that it read holds what it saw, and it
+-- need not run or has run since the make began.
+pub record IsUpToDate (g : Graph) (s : Setting) (p : Runs) (start : ℕ) (d : Disk) (t : ℕ) : Type 0 where
+  pub run : WholeRun
+  pub is_last : p.last t ≡ Some run
+  pub whole : HasRunWhole g s run d t
+  pub sees : (f : FileName) → Has (reads g s t) f → content d f ≡ run.saw f
+  pub settled : (¬ (MustRun g d t)) ⊎ (start ≤ p.began t)
+
+-- A make in progress that began at this clock: what running recipes have seen and put is still there, put since they
+-- began; what waits began no later than the make, and what runs no earlier.
+pub record InMake (g : Graph) (s : Setting) (p : Runs) (start : ℕ) (m : Making) (d : Disk) : Type 0 where
+  pub order : InOrder g m
+  pub start_came : start ≤ d.clock
+  pub seen : (t : ℕ) (f : FileName) (c : Option ℕ) → Has m.running t → Has (reads g s t) f → m.seen t f ≡ Some c → content d f ≡ c
+  pub put : (t : ℕ) (f : FileName) (c : ℕ) → Has m.running t → Has (writes g s t) f → m.put t f ≡ Some c → content d f ≡ Some c
+  pub put_late : (t : ℕ) (f : FileName) (c stamp : ℕ) → Has m.running t → Has (writes g s t) f → m.put t f ≡ Some c → HasStamp d f stamp → p.began t < stamp
+  pub waits : (t : ℕ) → ¬ (Has m.done t) → ¬ (Has m.running t) → p.began t ≤ start
+  pub runs : (t : ℕ) → Has m.running t → start ≤ p.began t
+
+-- the invariant of a make in progress, of which nothing is asked that is done
+pub record Holds (g : Graph) (s : Setting) (p : Runs) (start : ℕ) (m : Making) (d : Disk) : Type 0 where
+  pub fits : Fits g s p m.running d
+  pub make : InMake g s p start m d
+
+-- what is done is up to date
+abbrev pub AreUpToDate : Graph → Setting → Runs → ℕ → Making → Disk → Type 0
+AreUpToDate g s p start m d = (t : ℕ) → Has m.done t → (node g t).recipe ≡ true → IsUpToDate g s p start d t
+
+-- the invariant of a world, after these runs
+abbrev pub IsInvariant : Graph → Setting → Runs → ℕ → World → Type 0
+IsInvariant g s p start (Idle d) = Fits g s p [] d
+IsInvariant g s p start (Busy m d) = Holds g s p start m d
+
+-- what is done in a world is up to date
+abbrev pub IsSettled : Graph → Setting → Runs → ℕ → World → Type 0
+IsSettled g s p start (Idle d) = Unit {0}
+IsSettled g s p start (Busy m d) = AreUpToDate g s p start m d
+
+-- the clock when the make in progress began, after a step
+abbrev pub start_after : World → Step → ℕ → ℕ
+start_after (Idle d) (Make jobs goals) start = d.clock
+start_after world other start = start
+
+-- what fits the runs fits them after one step more
+pub fits_later : (g : Graph) (s : Setting) (p : Runs) (running : List ℕ) (d : Disk) → Fits g s p running d → Fits g s (one_later p) running d
+fits_later g s p running d fits = record {
+  stamped = fits.stamped;
+  began = fits.began;
+  ended = fits.ended;
+  end_step = λ t run is_last. let came = fits.end_step t run is_last in omega arith;
+  begin_step = fits.begin_step;
+  after_begin = fits.after_begin;
+  whole = fits.whole;
+  saw = fits.saw;
+  apart = fits.apart;
+}
+
+pub holds_later : (g : Graph) (s : Setting) (p : Runs) (start : ℕ) (m : Making) (d : Disk) → Holds g s p start m d → Holds g s (one_later p) start m d
+holds_later g s p start m d is = record {
+  fits = fits_later g s p m.running d is.fits;
+  make = record {
+    order = is.make.order;
+    start_came = is.make.start_came;
+    seen = is.make.seen;
+    put = is.make.put;
+    put_late = is.make.put_late;
+    waits = is.make.waits;
+    runs = is.make.runs;
+  };
+}
+
+-- what is up to date is so after one step more
+pub up_later : (g : Graph) (s : Setting) (p : Runs) (start : ℕ) (m : Making) (d : Disk) → AreUpToDate g s p start m d → AreUpToDate g s (one_later p) start m d
+up_later g s p start m d are t done recipe =
+    let up = are t done recipe in
+    record { run = up.run; is_last = up.is_last; whole = up.whole; sees = up.sees; settled = up.settled }

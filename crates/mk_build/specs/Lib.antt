@@ -1,0 +1,15 @@
+pub mod Setting
+pub mod World
+pub mod Steps
+pub mod Runs
+pub mod Clean
+pub mod SerialMake
+pub mod NodeByNode
+pub mod Ways
+pub mod Stale
+pub mod Overlap
+pub mod ScheduleMake
+pub mod Right
+pub mod RunLaws
+pub mod EmptyInputs
+pub mod BuildLaws

@@ -1,6 +1,0 @@
--- One candidate after another.
-use Rattle.mk_cert.proofs.Lists.{listed_holds, holding_listed}
-use Rattle.mk_cert.proofs.laws.listed_exactly.Goals as goal
-
-pub returns : goal.returns
-returns c = λ x all kept lists candidate. (listed_holds x all kept lists candidate, λ both. holding_listed x all kept lists candidate both.0 both.1)

@@ -1,7 +1,0 @@
-use Rattle.std.proofs.Common.{◌≡◌, ◌++◌, map, take}
-use Rattle.std.specs.String.{string_bytes}
-use Rattle.mk_cert.proofs.looking_up.push_copies.Given as goal
-
--- the names so far
-abbrev pub invariant-loop-name : goal.invariant-loop-name
-invariant-loop-name l = map string_bytes l.copies.items ≡ map string_bytes l.initial.copies.items ++ map string_bytes (take l.name-index l.names)

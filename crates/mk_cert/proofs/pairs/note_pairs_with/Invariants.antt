@@ -1,8 +1,0 @@
-use Rattle.std.proofs.Common.{map, drop}
-use Rattle.mk_cert.specs.Candidates.{two_writers}
-use Rattle.mk_cert.proofs.Adding.{Leads}
-use Rattle.mk_cert.proofs.pairs.note_pairs_with.Given as goal
-
--- the others that are left
-abbrev pub invariant-loop-other : goal.invariant-loop-other
-invariant-loop-other l = Leads l.subject (map (λ t. two_writers l.entry.number t l.file.file) (drop l.other-index l.others)) (map (λ t. two_writers l.entry.number t l.file.file) l.others) l.found.items l.initial.found.items

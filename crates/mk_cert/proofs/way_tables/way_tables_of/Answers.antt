@@ -1,4 +1,0 @@
-use Rattle.mk_cert.proofs.way_tables.way_tables_of.Goals as goal
-
-pub returns : goal.returns
-returns c = record { ends = c.in_ok-end_tables_of.ensures; carried_held = c.in_ok-carried_sets.ensures }

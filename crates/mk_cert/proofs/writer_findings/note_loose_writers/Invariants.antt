@@ -1,8 +1,0 @@
-use Rattle.std.proofs.Common.{map, drop}
-use Rattle.mk_cert.specs.Candidates.{loose}
-use Rattle.mk_cert.proofs.Adding.{Leads}
-use Rattle.mk_cert.proofs.writer_findings.note_loose_writers.Given as goal
-
--- the writers that are left
-abbrev pub invariant-loop-writer : goal.invariant-loop-writer
-invariant-loop-writer l = Leads l.subject (map (λ o. loose l.entry.number o) (drop l.writer-index l.writers)) (map (λ o. loose l.entry.number o) l.writers) l.found.items l.initial.found.items

@@ -1,0 +1,46 @@
+-- Nothing is found of the files that are settled, so the others are enough.
+use Rattle.std.proofs.Common.{◌≡◌, ◌∷◌, [], ℕ, List, ap, subst, map, drop, arith}
+use Rattle.std.specs.Prelude.{not}
+use Rattle.mk_subject.specs.Subject.{reads_of}
+use Rattle.mk_find.specs.Candidates.{unknown_read}
+use Rattle.mk_subject.specs.NodeRow.{NodeRow}
+use Rattle.mk_subject.specs.FileInfo.{known_of}
+use Rattle.mk_find.specs.Listed.{Adds}
+use Rattle.mk_subject.specs.Settled.{is_settled}
+use Rattle.mk_subject.specs.Target.{unsettled_of}
+use Rattle.mk_find.proofs.Adding.{adds_lifted, leads_map, leads_done}
+use Rattle.mk_find.proofs.SettledReads.{open_at, none_left, not_unknown}
+use Rattle.mk_subject.proofs.SettledReads.{settled}
+use Rattle.mk_find.proofs.file_findings.note_unknown_reads.Goals as goal
+
+pub loop-place-init : goal.loop-place-init
+loop-place-init c = λ last h. h
+
+pub note_unknown-requires-clause-read : goal.note_unknown-requires-clause-read
+note_unknown-requires-clause-read c =
+    let number : c.entry.inside.number ≡ c.args.entry.now.number = ap (λ (e : NodeRow). e.number) c.entry.view_is in
+    (open_at c.args.subject.now c.entry.inside.number c.args.entry.now.number c.loop-place.place c.count_of_unsettled-place-end.result c.unsettled-file.result number c.count_of_unsettled-place-end.ensures (omega arith) c.unsettled-file.ensures).read
+
+pub loop-place-preserved : goal.loop-place-preserved
+loop-place-preserved c =
+    let x = c.args.subject.now in
+    let e = c.args.entry.now in
+    let i = c.loop-place.place in
+    let number : c.entry.inside.number ≡ e.number = ap (λ (k : NodeRow). k.number) c.entry.view_is in
+    let at = open_at x c.entry.inside.number e.number i c.count_of_unsettled-place-end.result c.unsettled-file.result number c.count_of_unsettled-place-end.ensures (omega arith) c.unsettled-file.ensures in
+    let candidate = λ (f : List ℕ). unknown_read e.number f in
+    leads_map x candidate (unsettled_of x e.number) i [] _ c.loop-place.found.items c.note_unknown.new.found.items c.args.found.now.items at.low c.loop-place.invariant
+    (subst (λ (f : List ℕ). Adds x (candidate f ∷ []) c.loop-place.found.items c.note_unknown.new.found.items) at.file c.in_ok-note_unknown.ensures)
+
+pub returns : goal.returns
+returns c =
+    let x = c.args.subject.now in
+    let e = c.args.entry.now in
+    let i = c.loop-place.place in
+    let number : c.entry.inside.number ≡ e.number = ap (λ (k : NodeRow). k.number) c.entry.view_is in
+    let left = unsettled_of x e.number in
+    let none = none_left x c.entry.inside.number e.number i c.count_of_unsettled-place-end.result number c.count_of_unsettled-place-end.ensures (omega arith) in
+    let candidate = λ (f : List ℕ). unknown_read e.number f in
+    adds_lifted x candidate (λ f. not (is_settled (known_of x f))) (reads_of x e.number) c.args.found.now.items c.loop-place.found.items
+    (λ f out. not_unknown x f (settled (known_of x f) out) e.number)
+    (leads_done x (map candidate (drop i left)) _ c.loop-place.found.items c.args.found.now.items (ap (map candidate) none) c.loop-place.invariant)

@@ -1,0 +1,18 @@
+use Rattle.std.proofs.Common.{◌≡◌, [], map, drop, take}
+use Rattle.mk_subject.specs.Subject.{reads_of}
+use Rattle.mk_find.specs.Candidates.{stale}
+use Rattle.mk_find.specs.Certifying.{AddsEntries}
+use Rattle.mk_find.specs.FirstPaths.{AlwaysNoneBefore}
+use Rattle.mk_find.proofs.Adding.{Leads}
+use Rattle.mk_find.proofs.AddingEntries.{reads_of_files}
+use Rattle.mk_find.proofs.stale_findings.judge_reads.Given as goal
+
+-- The search is as it was, and the files are left that are judged next. Where nothing is found, the
+-- entries for the files so far stand. The places that are passed over for the next file have no
+-- recipe that is always made.
+abbrev pub invariant-loop-place : goal.invariant-loop-place
+invariant-loop-place l =
+    (l.search ≡ l.initial.search) × Leads l.subject (map (λ f. stale l.entry.number f) (drop l.place (reads_of l.subject l.entry.number)))
+    (map (λ f. stale l.entry.number f) (reads_of l.subject l.entry.number)) l.found.items l.initial.found.items ×
+    (l.found.items ≡ [] → AddsEntries l.subject (reads_of_files l.entry.number (take l.place (reads_of l.subject l.entry.number))) l.initial.ways l.ways) ×
+    AlwaysNoneBefore l.subject l.search.start l.passed

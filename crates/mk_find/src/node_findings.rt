@@ -1,0 +1,118 @@
+//! Checks of a node that need no files.
+
+ghost use Rattle.std.specs.Prelude.{◌≡◌, ◌↔◌, ◌∷◌, [], true, Some, map, OnOk};
+ghost use Rattle.mk_subject.specs.Subject.{Subject};
+ghost use Rattle.mk_find.specs.Candidates.{no_record, other_commands, varying_commands, no_target, selection, choice_with_writes};
+ghost use Rattle.mk_subject.specs.NodeRow.{IsEntry};
+ghost use Rattle.mk_find.specs.Listed.{Adds};
+ghost use Rattle.mk_find.specs.Tests.{lacks_record, has_varying, has_other_commands};
+
+use crate::file_names::shared_name;
+use crate::finding::Finding;
+use mk_subject::{NodeRow, SharedName};
+use std::alloc::AllocError;
+
+/// Whether the node has a recipe without a record.
+fn lacks_record(entry: &NodeRow<'_>) -> bool
+    ensures { result ≡ lacks_record entry.now }
+{
+    entry.recorded.is_none() && entry.recipe
+}
+
+/// Adds the finding `NoRecord`, if the node's recipe has no record. The only error is out of
+/// memory.
+pub fn note_no_record(entry: &NodeRow<'_>, found: &mut Vec<Finding>) -> Result<(), AllocError>
+    ensures { OnOk result ((x : Subject) → IsEntry x entry.now →
+        Adds x (no_record entry.now.number ∷ []) found.old.items found.new.items) }
+{
+    if !lacks_record(entry) {
+        return Ok(());
+    }
+    let recipe = entry.copy_of_name()?;
+    found.push(Finding::NoRecord { recipe })?;
+    Ok(())
+}
+
+/// Whether the node has a recipe whose commands vary.
+fn has_varying(entry: &NodeRow<'_>) -> bool
+    ensures { result ≡ has_varying entry.now }
+{
+    entry.varying && entry.recipe
+}
+
+/// Adds the finding `VaryingCommands`, if the commands vary. The only error is out of memory.
+pub fn note_varying(entry: &NodeRow<'_>, found: &mut Vec<Finding>) -> Result<(), AllocError>
+    ensures { OnOk result ((x : Subject) → IsEntry x entry.now →
+        Adds x (varying_commands entry.now.number ∷ []) found.old.items found.new.items) }
+{
+    if !has_varying(entry) {
+        return Ok(());
+    }
+    let recipe = entry.copy_of_name()?;
+    found.push(Finding::VaryingCommands { recipe })?;
+    Ok(())
+}
+
+/// Adds the finding `NoTarget`, if the recipe doesn't write the target that it should. The only
+/// error is out of memory.
+pub fn note_no_target(entry: &NodeRow<'_>, found: &mut Vec<Finding>) -> Result<(), AllocError>
+    ensures { OnOk result ((x : Subject) → IsEntry x entry.now →
+        Adds x (no_target entry.now.number ∷ []) found.old.items found.new.items) }
+{
+    if !entry.unwritten {
+        return Ok(());
+    }
+    let recipe = entry.copy_of_name()?;
+    found.push(Finding::NoTarget { recipe })?;
+    Ok(())
+}
+
+/// Whether the recipe's commands don't vary and differ from those of its record.
+fn has_other_commands(entry: &NodeRow<'_>) -> bool
+    ensures { result ≡ has_other_commands entry.now }
+{
+    entry.others && entry.recipe && !entry.varying
+}
+
+/// Adds the finding `OtherCommands`, if the record has other commands than the recipe. The only
+/// error is out of memory.
+pub fn note_other_commands(entry: &NodeRow<'_>, found: &mut Vec<Finding>) -> Result<(), AllocError>
+    ensures { OnOk result ((x : Subject) → IsEntry x entry.now →
+        Adds x (other_commands entry.now.number ∷ []) found.old.items found.new.items) }
+{
+    if !has_other_commands(entry) {
+        return Ok(());
+    }
+    let recipe = entry.copy_of_name()?;
+    found.push(Finding::OtherCommands { recipe })?;
+    Ok(())
+}
+
+/// Whether `chosen` is this name.
+fn is_choice(chosen: &Option<SharedName>, name: &SharedName) -> bool
+    ensures { (result ≡ true) ↔ (chosen.now ≡ Some name.now) }
+{
+    match chosen {
+        Some(chosen) => chosen.as_str() == name.as_str(),
+        None => false,
+    }
+}
+
+/// Adds the finding `Selection`, if the node gets another inferred prerequisite once all recipes
+/// have written their files. The only error is out of memory.
+pub fn note_selection(entry: &NodeRow<'_>, found: &mut Vec<Finding>) -> Result<(), AllocError>
+    ensures { OnOk result ((x : Subject) → IsEntry x entry.now →
+        Adds x (map (λ c. selection entry.now.number c) (choice_with_writes x entry.now.number))
+        found.old.items found.new.items) }
+{
+    let Some(after) = &entry.chosen_after else {
+        return Ok(());
+    };
+    if is_choice(&entry.chosen, after) {
+        return Ok(());
+    }
+    let name = shared_name(*found.allocator(), entry, found)?;
+    let chosen = after.clone()?;
+    found.push(Finding::Selection { name, chosen })?;
+    Ok(())
+}

@@ -1,0 +1,71 @@
+//! Whether there is no static finding.
+
+ghost use Rattle.std.specs.Prelude.{◌≡◌, ◌↔◌, [], true, IfOk, OnOk};
+ghost use Rattle.mk_find.specs.Candidates.{static_candidates};
+ghost use Rattle.mk_subject.specs.NodeRow.{IsEntry};
+ghost use Rattle.mk_find.specs.Listed.{Adds};
+ghost use Rattle.mk_find.specs.Listing.{Lists};
+ghost use Rattle.mk_find.specs.NodeChecks.{candidates_of_node, found_of};
+
+use crate::file_names::FileNames;
+use crate::finding::Finding;
+use crate::node_check::{AFTER_PAIRS, BEFORE_PAIRS, NodeCheck, run_check};
+use crate::pairs::note_files;
+use mk_graph::laws::serial_reaches_each_once;
+use mk_subject::{NodeRow, Subject};
+use std::alloc::{AllocError, Global};
+
+/// Adds what these checks find at a node.
+fn run_checks_on(
+    alloc: Global,
+    subject: &Subject<'_>,
+    checks: &[NodeCheck],
+    entry: &NodeRow<'_>,
+    found: &mut Vec<Finding>,
+) -> Result<(), AllocError>
+    requires { IsEntry subject.now entry.now }
+    ensures { OnOk result (Adds subject.now
+        (candidates_of_node subject.now checks.now entry.now.number) found.old.items
+        found.new.items) }
+{
+    let mut names = FileNames::new(alloc);
+    for check in checks {
+        run_check(alloc, subject, *check, entry, &mut names, found)?;
+    }
+    Ok(())
+}
+
+/// Whether no check finds anything at a node.
+fn finds_nothing_of(
+    alloc: Global,
+    subject: &Subject<'_>,
+    entry: &NodeRow<'_>,
+) -> Result<bool, AllocError>
+    requires { IsEntry subject.now entry.now }
+    ensures { IfOk result (λ nothing. (nothing ≡ true) ↔
+        Lists subject.now (found_of subject.now entry.now.number) []) }
+{
+    let mut found = Vec::new(alloc);
+    run_checks_on(alloc, subject, &BEFORE_PAIRS, entry, &mut found)?;
+    let mut names = FileNames::new(alloc);
+    note_files(alloc, subject, entry, &mut names, &mut found)?;
+    run_checks_on(alloc, subject, &AFTER_PAIRS, entry, &mut found)?;
+    Ok(found.is_empty())
+}
+
+/// Whether there is no finding of `static_findings`. One pass over the nodes decides it, where
+/// `static_findings` makes a pass for each check. The only error is out of memory.
+pub fn finds_nothing(alloc: Global, subject: &Subject<'_>) -> Result<bool, AllocError>
+    ensures { IfOk result (λ nothing. (nothing ≡ true) ↔
+        Lists subject.now (static_candidates subject.now) []) }
+{
+    serial_reaches_each_once();
+    let _graph = subject.graph();
+    let entries = subject.entries();
+    for entry in entries {
+        if !finds_nothing_of(alloc, subject, entry)? {
+            return Ok(false);
+        }
+    }
+    Ok(true)
+}

@@ -1,0 +1,92 @@
+//! The check `Loose`, of names without a recipe whose files are written.
+
+ghost use Rattle.std.specs.Prelude.{◌≡◌, ◌∷◌, [], ℕ, false, map, OnOk};
+ghost use Rattle.mk_graph.specs.Membership.{Has};
+ghost use Rattle.mk_graph.specs.Serial.{serial_order};
+ghost use Rattle.mk_subject.specs.Subject.{name_of, writes_of};
+ghost use Rattle.mk_find.specs.Candidates.{loose};
+ghost use Rattle.mk_subject.specs.NodeRow.{IsEntry, writers_of};
+ghost use Rattle.mk_find.specs.Listed.{Adds};
+
+use crate::file_names::{FileNames, shared_name};
+use crate::finding::Finding;
+use mk_subject::{NodeRow, Subject, has_number};
+use std::alloc::AllocError;
+
+/// Adds the finding `Loose`, if `writer` isn't a direct prerequisite of this node without a recipe.
+fn note_loose_writer(
+    subject: &Subject<'_>,
+    entry: &NodeRow<'_>,
+    writer: usize,
+    names: &mut FileNames,
+    found: &mut Vec<Finding>,
+) -> Result<(), AllocError>
+    requires entry { IsEntry subject.now entry.now }
+    requires bare { entry.now.node.recipe ≡ false }
+    requires written { Has (writes_of subject.now writer) (name_of subject.now entry.now.number) }
+    ensures { OnOk result (Adds subject.now (loose entry.now.number writer ∷ [])
+        found.old.items found.new.items) }
+{
+    if has_number(subject.graph().prerequisites(entry.number), writer) {
+        return Ok(());
+    }
+    let alloc = *found.allocator();
+    let name = shared_name(alloc, entry, found)?;
+    let writer = names.name_of(alloc, &subject.file_of_node(writer))?;
+    found.push(Finding::Loose { name, writer })?;
+    Ok(())
+}
+
+/// Adds the finding `Loose` for each of these writers that isn't a direct prerequisite of this node
+/// without a recipe.
+fn note_loose_writers(
+    subject: &Subject<'_>,
+    entry: &NodeRow<'_>,
+    writers: &[usize],
+    names: &mut FileNames,
+    found: &mut Vec<Finding>,
+) -> Result<(), AllocError>
+    requires entry { IsEntry subject.now entry.now }
+    requires bare { entry.now.node.recipe ≡ false }
+    requires written { (o : ℕ) → Has writers.now o →
+        Has (writes_of subject.now o) (name_of subject.now entry.now.number) }
+    ensures { OnOk result (Adds subject.now
+        (map (λ o. loose entry.now.number o) writers.now) found.old.items found.new.items) }
+{
+    for writer in writers {
+        note_loose_writer(subject, entry, *writer, names, found)?;
+    }
+    Ok(())
+}
+
+/// The numbers of the nodes that write the file with the node's name, in the serial order. The
+/// contract of an entry doesn't bound its number, so the bound is tested first.
+fn writers_for<'s>(subject: &'s Subject<'_>, entry: &NodeRow<'_>) -> &'s [usize]
+    requires { IsEntry subject.now entry.now }
+    ensures { result.now ≡ writers_of subject.now (name_of subject.now entry.now.number) }
+{
+    if entry.number < subject.graph().nodes().len() {
+        return subject.writers_of_node(entry.number);
+    }
+    subject.writers(entry.name())
+}
+
+/// Adds the finding `Loose` for each writer of the node's file that isn't a direct prerequisite of
+/// it, if the node has no recipe. The only error is out of memory.
+pub fn note_loose(
+    subject: &Subject<'_>,
+    entry: &NodeRow<'_>,
+    names: &mut FileNames,
+    found: &mut Vec<Finding>,
+) -> Result<(), AllocError>
+    requires { IsEntry subject.now entry.now }
+    ensures { OnOk result (Adds subject.now
+        (map (λ o. loose entry.now.number o) (serial_order subject.now.graph))
+        found.old.items found.new.items) }
+{
+    if entry.recipe {
+        return Ok(());
+    }
+    let writers = writers_for(subject, entry);
+    note_loose_writers(subject, entry, writers, names, found)
+}

@@ -1,6 +1,0 @@
--- An open group stays open.
-use Rattle.mk_graph.proofs.Parts.{Wanted-grows}
-use Rattle.mk_graph.proofs.growth_laws.wanted_grows.Goals as goal
-
-pub returns : goal.returns
-returns c = λ g goals all done more within grows n wanted. Wanted-grows g goals all done more within grows n wanted

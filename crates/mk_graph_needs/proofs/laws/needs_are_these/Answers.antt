@@ -1,5 +1,0 @@
-use Rattle.mk_graph_needs.proofs.Needs.{needs_are_these}
-use Rattle.mk_graph_needs.proofs.laws.needs_are_these.Goals as goal
-
-pub returns : goal.returns
-returns c = needs_are_these c.serial_reaches_each_once.ensures

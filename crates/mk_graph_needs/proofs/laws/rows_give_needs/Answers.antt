@@ -1,5 +1,0 @@
-use Rattle.mk_graph_needs.proofs.Graphs.{rows_give_needs}
-use Rattle.mk_graph_needs.proofs.laws.rows_give_needs.Goals as goal
-
-pub returns : goal.returns
-returns c = rows_give_needs

@@ -1,0 +1,139 @@
+-- Rows of numbers that stand one behind another in one list.
+use Rattle.std.proofs.Common.{◌≡◌, ℕ, zero, suc, ◌+◌, ◌-◌, ◌<◌, ◌≤◌, List, [], ◌∷◌, ◌++◌, length, get_or, take, drop, arith, refl, sym, ap, subst, ◌∙◌, add-one, append_assoc, append-nil, length-append, take-append-drop}
+use Rattle.std.specs.List.{concat, slice_range}
+use Rattle.std.proofs.Math.Seq.{drop-append_seam, take-append_seam}
+use Rattle.std.proofs.lemmas.List.{drop_more, take_more, get_or_past}
+use Rattle.mk_cert_text.specs.Packing.{cut_from, ends_from}
+use Rattle.mk_subject.specs.NumberRows.{AreRows}
+
+concat-append : (xs ys : List (List ℕ)) → concat (xs ++ ys) ≡ concat xs ++ concat ys
+concat-append [] ys = refl
+concat-append (x ∷ xs) ys = ap (λ (l : List ℕ). x ++ l) (concat-append xs ys) ∙ sym (append_assoc x (concat xs) (concat ys))
+
+-- the piece of a list that stands between two others
+piece_at : (s : ℕ) (before piece after numbers : List ℕ) → length before ≡ s → numbers ≡ before ++ (piece ++ after) → slice_range numbers s (s + length piece) ≡ piece
+piece_at s before piece after numbers at is =
+    let rest : drop s numbers ≡ piece ++ after = ap (drop s) is ∙ (ap (λ n. drop n (before ++ (piece ++ after))) (sym at) ∙ drop-append_seam before (piece ++ after)) in
+    let long : (s + length piece) - s ≡ length piece = omega arith in
+    ap (λ n. take n (drop s numbers)) long ∙ (ap (take (length piece)) rest ∙ take-append_seam piece after)
+
+-- rows are cut out of the list in which they stand
+cut_back : (rows : List (List ℕ)) (s : ℕ) (before after numbers : List ℕ) → length before ≡ s → numbers ≡ before ++ (concat rows ++ after) → cut_from s (ends_from s rows) numbers ≡ rows
+cut_back [] s before after numbers at is = refl
+cut_back (row ∷ rows) s before after numbers at is =
+    let first : numbers ≡ before ++ (row ++ (concat rows ++ after)) = is ∙ ap (λ (l : List ℕ). before ++ l) (append_assoc row (concat rows) after) in
+    let here : slice_range numbers s (s + length row) ≡ row = piece_at s before row (concat rows ++ after) numbers at first in
+    let more : cut_from (s + length row) (ends_from (s + length row) rows) numbers ≡ rows = cut_back rows (s + length row) (before ++ row) after numbers (length-append before row ∙ ap (λ n. n + length row) at) (first ∙ sym (append_assoc before row (concat rows ++ after))) in
+    ap (λ (l : List ℕ). l ∷ cut_from (s + length row) (ends_from (s + length row) rows) numbers) here ∙ ap (λ (l : List (List ℕ)). row ∷ l) more
+
+-- what holds of a list, if these rows are all of it
+cut_rows : (rows : List (List ℕ)) (ends numbers : List ℕ) → ends_from 0 rows ≡ ends → concat rows ≡ numbers → cut_from 0 ends numbers ≡ rows
+cut_rows rows ends numbers places whole =
+    ap (λ (l : List ℕ). cut_from 0 l numbers) (sym places) ∙ cut_back rows 0 [] [] numbers refl (sym whole ∙ sym (append-nil (concat rows)))
+
+are_rows : (rows : List (List ℕ)) (ends numbers : List ℕ) → ends_from 0 rows ≡ ends → concat rows ≡ numbers → AreRows ends numbers
+are_rows rows ends numbers places whole =
+    let same = sym (cut_rows rows ends numbers places whole) in
+    record {
+      whole = subst (λ (l : List (List ℕ)). concat l ≡ numbers) same whole;
+      places = subst (λ (l : List (List ℕ)). ends_from 0 l ≡ ends) same places;
+    }
+
+-- how many there are
+length-ends : (rows : List (List ℕ)) (s : ℕ) → length (ends_from s rows) ≡ length rows
+length-ends [] s = refl
+length-ends (row ∷ rows) s = ap suc (length-ends rows (s + length row))
+
+-- one more at the end
+ends_more : (rows : List (List ℕ)) (row : List ℕ) (s : ℕ) → ends_from s (rows ++ row ∷ []) ≡ ends_from s rows ++ (s + length (concat rows ++ row)) ∷ []
+ends_more [] row s = refl
+ends_more (first ∷ rows) row s =
+    let long : (s + length first) + length (concat rows ++ row) ≡ s + length ((first ++ concat rows) ++ row) = omega (arith, length-append (first ++ concat rows) row, length-append first (concat rows), length-append (concat rows) row) in
+    ap (λ (l : List ℕ). (s + length first) ∷ l) (ends_more rows row (s + length first) ∙ ap (λ n. ends_from (s + length first) rows ++ n ∷ []) long)
+
+-- where the row at a place begins
+begins_from : (rows : List (List ℕ)) (s i : ℕ) → i ≤ length rows → get_or (s ∷ ends_from s rows) i 0 ≡ s + length (concat (take i rows))
+begins_from rows s zero low = sym (omega arith)
+begins_from [] s (suc i) low = absurd (omega arith)
+begins_from (row ∷ rows) s (suc i) low =
+    begins_from rows (s + length row) i (omega arith) ∙ omega (arith, length-append row (concat (take i rows)))
+
+-- a row is pushed
+module _ (ends numbers : List ℕ) (is : AreRows ends numbers) (row : List ℕ) (place : ℕ) (new_ends new_numbers : List ℕ) (grown : new_numbers ≡ numbers ++ row) (at_end : place ≡ length new_numbers) (more : new_ends ≡ ends ++ place ∷ []) where
+  pushed_rows : List (List ℕ)
+  pushed_rows = cut_from 0 ends numbers ++ row ∷ []
+
+  pushed_whole : concat pushed_rows ≡ new_numbers
+  unfolding pushed_rows
+  pushed_whole = concat-append (cut_from 0 ends numbers) (row ∷ []) ∙ (ap (λ (l : List ℕ). concat (cut_from 0 ends numbers) ++ l) (append-nil row) ∙ (ap (λ (l : List ℕ). l ++ row) is.whole ∙ sym grown))
+
+  pushed_places : ends_from 0 pushed_rows ≡ new_ends
+  unfolding pushed_rows
+  pushed_places =
+      let v = cut_from 0 ends numbers in
+      let here : 0 + length (concat v ++ row) ≡ place = omega (arith, ap (λ (l : List ℕ). length (l ++ row)) is.whole, ap length grown, at_end) in
+      ends_more v row 0 ∙ (ap (λ n. ends_from 0 v ++ n ∷ []) here ∙ (ap (λ (l : List ℕ). l ++ place ∷ []) is.places ∙ sym more))
+
+  pub still_rows : AreRows new_ends new_numbers
+  unfolding pushed_rows
+  still_rows = are_rows pushed_rows new_ends new_numbers pushed_places pushed_whole
+
+  pub pushed : cut_from 0 new_ends new_numbers ≡ cut_from 0 ends numbers ++ row ∷ []
+  unfolding pushed_rows
+  pushed = cut_rows pushed_rows new_ends new_numbers pushed_places pushed_whole
+
+pub counted : (ends numbers : List ℕ) → AreRows ends numbers → length ends ≡ length (cut_from 0 ends numbers)
+counted ends numbers is = ap length (sym is.places) ∙ length-ends (cut_from 0 ends numbers) 0
+
+-- the row at a place
+module _ (ends numbers : List ℕ) (is : AreRows ends numbers) (i : ℕ) (low : i < length ends) where
+  row : List ℕ
+  row = get_or (cut_from 0 ends numbers) i []
+
+  before : List ℕ
+  before = concat (take i (cut_from 0 ends numbers))
+
+  after : List ℕ
+  after = concat (drop (i + 1) (cut_from 0 ends numbers))
+
+  row_low : i < length (cut_from 0 ends numbers)
+  row_low = omega (arith, low, counted ends numbers is)
+
+  parts : numbers ≡ before ++ (row ++ after)
+  unfolding before row after
+  parts =
+      let v = cut_from 0 ends numbers in
+      let split : v ≡ take i v ++ get_or v i [] ∷ drop (i + 1) v = sym (take-append-drop i v) ∙ ap (λ (l : List (List ℕ)). take i v ++ l) (drop_more v i [] row_low) in
+      sym is.whole ∙ (ap concat split ∙ concat-append (take i v) (get_or v i [] ∷ drop (i + 1) v))
+
+  begins : get_or (0 ∷ ends) i 0 ≡ length before
+  unfolding before
+  begins = ap (λ (l : List ℕ). get_or (0 ∷ l) i 0) (sym is.places) ∙ (begins_from (cut_from 0 ends numbers) 0 i (omega (arith, row_low)) ∙ omega arith)
+
+  ends_at : get_or ends i 0 ≡ length before + length row
+  unfolding before row
+  ends_at =
+      let v = cut_from 0 ends numbers in
+      let next : get_or (0 ∷ ends) (suc i) 0 ≡ 0 + length (concat (take (suc i) v)) = ap (λ (l : List ℕ). get_or (0 ∷ l) (suc i) 0) (sym is.places) ∙ begins_from v 0 (suc i) (omega (arith, row_low)) in
+      let taken : concat (take (i + 1) v) ≡ concat (take i v) ++ get_or v i [] = ap concat (take_more v i [] row_low) ∙ (concat-append (take i v) (get_or v i [] ∷ []) ∙ ap (λ (l : List ℕ). concat (take i v) ++ l) (append-nil (get_or v i []))) in
+      omega (arith, next, ap length taken, length-append (concat (take i v)) (get_or v i []), ap (λ n. length (concat (take n v))) (add-one i))
+
+  pub in_order : get_or (0 ∷ ends) i 0 ≤ get_or ends i 0
+  in_order = omega (arith, begins, ends_at)
+
+  pub within : get_or ends i 0 ≤ length numbers
+  within = omega (arith, ends_at, ap length parts, length-append before (row ++ after), length-append row after)
+
+  pub cut : slice_range numbers (get_or (0 ∷ ends) i 0) (get_or ends i 0) ≡ get_or (cut_from 0 ends numbers) i []
+  unfolding row
+  cut = rw (begins, ends_at) (piece_at (length before) before row after numbers refl parts)
+
+-- past the last there are no numbers
+pub past_last : (ends numbers : List ℕ) → AreRows ends numbers → (i : ℕ) → length ends ≤ i → get_or (cut_from 0 ends numbers) i [] ≡ []
+past_last ends numbers is i high = get_or_past (cut_from 0 ends numbers) i [] (omega (arith, high, counted ends numbers is))
+
+-- no row has more numbers than all have together
+pub row_within : (rows : List (List ℕ)) (i : ℕ) → length (get_or rows i []) ≤ length (concat rows)
+row_within [] i = omega arith
+row_within (row ∷ rows) zero = omega (arith, length-append row (concat rows))
+row_within (row ∷ rows) (suc i) = omega (arith, row_within rows i, length-append row (concat rows))

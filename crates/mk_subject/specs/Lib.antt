@@ -1,0 +1,17 @@
+pub mod Carried
+pub mod Counts
+pub mod FileInfo
+pub mod Kept
+pub mod Laws
+pub mod Lookup
+pub mod NodeRow
+pub mod NumberRows
+pub mod Paths
+pub mod Reads
+pub mod Records
+pub mod Settled
+pub mod Subject
+pub mod Tables
+pub mod Target
+pub mod WayTables
+pub mod Writers

@@ -1,0 +1,1 @@
+"""Failed allocations of the program, over worked examples."""
