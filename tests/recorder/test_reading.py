@@ -135,6 +135,15 @@ class CallsTest(unittest.TestCase):
         trace.feed("7 +++ killed by SIGKILL +++")
         self.assertTrue(trace.is_whole())
 
+    def test_a_call_whose_result_is_unavailable_since_its_process_was_killed_is_none(self) -> None:
+        for end in ("= ?", "= ? <unavailable>"):
+            trace = Trace()
+            trace.feed('7 execve("/bin/cat", ["cat"], 0x7f /* 1 var */) = 0')
+            trace.feed(f'7 openat(AT_FDCWD</p>, "/p/a", O_RDONLY)   {end}')
+            trace.feed("7 +++ killed by SIGKILL +++")
+            self.assertTrue(trace.is_whole())
+            self.assertEqual([call.name for call in trace.calls()], ["execve"])
+
     def test_processes_that_go_on(self) -> None:
         trace = Trace()
         for line in (
