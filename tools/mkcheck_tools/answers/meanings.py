@@ -57,18 +57,14 @@ WORDS = {
 }
 
 
-def meaning(said: str, word: str = "") -> str:
-    """The sentence for a refusal `refused NUMBER WORDS`, or nothing. `word` is the one that is no
-    name, where it is known."""
-    first, _, rest = said.partition(" ")
-    number, _, words = rest.partition(" ")
-    if first != "refused" or not number.isdigit():
-        return ""
+def meaning(number: int, words: str, word: str = "") -> str:
+    """The sentence for a refusal with this number and these words, or nothing. `word` is the one
+    that is no name, where it is known."""
     where = words.partition(":")[0]
     if where in WORDS and words[len(where) :][:1] == ":":
         return WORDS[where]
-    sentence = why_no_name(word) if word else MEANINGS.get(int(number), "")
-    return f"{sentence}; {IMPORT}" if int(number) in LANGUAGE else sentence
+    sentence = why_no_name(word) if word else MEANINGS.get(number, "")
+    return f"{sentence}; {IMPORT}" if number in LANGUAGE else sentence
 
 
 def why_no_name(word: str) -> str:

@@ -2,11 +2,10 @@
 
 from __future__ import annotations
 
-from collections.abc import Callable
-from dataclasses import dataclass
-from functools import partial
+from dataclasses import dataclass, replace
 
-from mkcheck_tools.answers.graphs import Checker, Graph
+from mkcheck_tools.answers.graphs import Graph
+from mkcheck_tools.answers.unrecorded import Unrecorded
 from mkcheck_tools.book import formats
 from mkcheck_tools.faults import Fault, RecipeFault
 from mkcheck_tools.judge.footprints import Footprint
@@ -43,12 +42,9 @@ def used(asked: list[str], names: set[str]) -> list[str]:
 
 
 def make_book(
-    checker: Checker,
+    build: Unrecorded,
     graph: Graph,
-    files: list[str],
-    asked: list[str],
     footprints: list[Footprint],
-    scratch: str,
     warn: Warn,
     late: Late | None = None,
 ) -> Book:
@@ -58,7 +54,7 @@ def make_book(
     write. `late` has the late files of recipes, where it is to be told which weren't tested.
     """
     footprints = with_shared(footprints, graph, warn, late)
-    refuse_phony_reads(graph, files, footprints)
+    refuse_phony_reads(graph, build.files, footprints)
     written = {name for footprint in footprints for name in footprint.writes}
     names = {
         *graph.names,
@@ -66,20 +62,19 @@ def make_book(
         *(name for footprint in footprints for name in footprint.reads),
     }
     made = {*graph.targets, *graph.phony}
-    fixed = used(asked, names)
-    sources = [name for name in files if name in names and name not in written and name not in made]
-    if not is_same(checker, graph, fixed, sources, scratch):
-        ask = partial(checker.graph, fixed, scratch=scratch)
-        raise meaning_fault(ask, graph, files, footprints)
+    fixed = used(build.prefixes, names)
+    sources = [
+        name for name in build.files if name in names and name not in written and name not in made
+    ]
+    if not is_same(replace(build, fixed=fixed, files=sources), graph):
+        raise meaning_fault(replace(build, fixed=fixed), graph, footprints)
     return Book(fixed, sources, footprints, graph.goals)
 
 
-def is_same(
-    checker: Checker, graph: Graph, fixed: list[str], sources: list[str], scratch: str
-) -> bool:
-    """Whether the makefile means the same over these sources."""
+def is_same(build: Unrecorded, graph: Graph) -> bool:
+    """Whether the makefile means the same over other files."""
     try:
-        return checker.graph(fixed, sources, scratch).text == graph.text
+        return build.graph().text == graph.text
     except Fault:
         return False
 
@@ -99,24 +94,19 @@ def refuse_phony_reads(graph: Graph, files: list[str], footprints: list[Footprin
         there = there.difference(footprint.writes)
 
 
-def meaning_fault(
-    ask: Callable[[list[str]], Graph],
-    graph: Graph,
-    files: list[str],
-    footprints: list[Footprint],
-) -> RecipeFault:
+def meaning_fault(build: Unrecorded, graph: Graph, footprints: list[Footprint]) -> RecipeFault:
     """The fault where the makefile means something else without the files that recipes write; of
-    the recipes that write a source, if that is the cause. `ask` gives the graph over sources."""
+    the recipes that write a source, if that is the cause."""
     writers = {
         name: footprint.recipe.target for footprint in footprints for name in footprint.writes
     }
     named = [
         name
-        for name in files
+        for name in build.files
         if name in writers and name in graph.names and name not in graph.targets
     ]
     try:
-        ask([name for name in files if name not in writers])
+        replace(build, files=[name for name in build.files if name not in writers]).graph()
     except Fault:
         text = "\n".join(
             f"the recipe of {writers[name]} writes {name}, which the makefile takes for a source,"
@@ -125,5 +115,5 @@ def meaning_fault(
             for name in named
         )
         return RecipeFault(text, [writers[name] for name in named])
-    built = [name for name in files if name in writers and not is_of_versions(name)]
+    built = [name for name in build.files if name in writers and not is_of_versions(name)]
     return RecipeFault("\n\t".join([BUILT_BEFORE, *built]))

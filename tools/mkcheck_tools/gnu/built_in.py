@@ -6,7 +6,6 @@ from __future__ import annotations
 
 import os
 from collections.abc import Iterable, Mapping
-from dataclasses import replace
 
 from mkcheck_tools.answers.graphs import Graph
 from mkcheck_tools.gnu.macros import PROBE, Prober
@@ -148,8 +147,7 @@ def values_of(prober: Prober, names: list[str]) -> list[str]:
 
 def inferred(prober: Prober, graph: Graph) -> frozenset[str]:
     """The targets whose commands are those of the default text."""
-    options = (*prober.checker.options, "-r")
-    bare = replace(prober, checker=replace(prober.checker, options=options))
+    bare = prober.with_options("-r")
     other = bare.ask(f".SUFFIXES: {SUFFIXES}\n", "", prober.checker.words)
     return graph.targets - other.targets if other is not None else frozenset()
 
@@ -157,6 +155,5 @@ def inferred(prober: Prober, graph: Graph) -> frozenset[str]:
 def has_suffixes(prober: Prober) -> bool:
     """Whether the suffixes of the default text are still on the list, and so GNU make's on its."""
     asked = prober.with_files(f"{PROBE}-1.c", f"{PROBE}-2.sh")
-    operands = tuple(word for word in prober.checker.words if "=" in word)
-    graph = asked.ask("", "", (*operands, f"{PROBE}-1.o", f"{PROBE}-2"))
+    graph = asked.ask("", "", (*prober.checker.operands, f"{PROBE}-1.o", f"{PROBE}-2"))
     return graph is not None and graph.targets >= {f"{PROBE}-1.o", f"{PROBE}-2"}

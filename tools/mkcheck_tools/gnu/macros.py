@@ -14,7 +14,9 @@ import tempfile
 from collections.abc import Mapping, Sequence
 from dataclasses import dataclass, replace
 
-from mkcheck_tools.answers.graphs import Checker, Graph
+from mkcheck_tools.answers.checkers import Checker
+from mkcheck_tools.answers.graphs import Graph
+from mkcheck_tools.answers.unrecorded import Unrecorded
 from mkcheck_tools.faults import Fault
 from mkcheck_tools.gnu.flags import check_options
 from mkcheck_tools.judge.notes import Kind, Note, Warn
@@ -36,14 +38,31 @@ C17 = re.compile(r"(?:^|[;&|({]\s*)c17(?=\s|$)")
 class Prober:
     """Asks mkcheck about the makefile with other text around it."""
 
-    checker: Checker
-    fixed: list[str]
-    files: list[str]
-    scratch: str
+    build: Unrecorded
+
+    @property
+    def checker(self) -> Checker:
+        """The program mkcheck, and the makefile."""
+        return self.build.checker
+
+    @property
+    def files(self) -> list[str]:
+        """The files that may be sources."""
+        return self.build.files
+
+    @property
+    def folder(self) -> str:
+        """The folder of the makefile."""
+        return self.checker.place.folder
+
+    @property
+    def makefile(self) -> str:
+        """The name of the makefile."""
+        return self.checker.makefile
 
     def ask(self, front: str, behind: str, words: tuple[str, ...]) -> Graph | None:
         """The graph with text before and behind the makefile; None where mkcheck refuses that."""
-        above = plain_folder(self.scratch)
+        above = plain_folder(self.build.scratch)
         try:
             with tempfile.NamedTemporaryFile("wb", prefix="mkcheck-record-", dir=above) as file:
                 file.write(os.fsencode(f"{front}include {escaped(self.makefile)}\n{behind}"))
@@ -54,32 +73,25 @@ class Prober:
                     *(option for option in self.checker.options if option == "-r"),
                 )
                 checker = replace(self.checker, options=options, words=words)
-                return checker.graph(self.fixed, self.files, self.scratch)
+                return replace(self.build, checker=checker).graph()
         except Fault:
             return None
 
-    @property
-    def makefile(self) -> str:
-        """The name of the makefile."""
-        options = self.checker.options
-        if "-f" in options:
-            return options[options.index("-f") + 1]
-        return (
-            "makefile"
-            if os.path.isfile(os.path.join(self.checker.folder, "makefile"))
-            else "Makefile"
-        )
-
     def with_files(self, *names: str) -> Prober:
         """One that asks as if these files were there too."""
-        return replace(self, files=[*self.files, *names])
+        return replace(self, build=replace(self.build, files=[*self.files, *names]))
+
+    def with_options(self, *options: str) -> Prober:
+        """One that asks by these options too."""
+        checker = replace(self.checker, options=(*self.checker.options, *options))
+        return replace(self, build=replace(self.build, checker=checker))
 
     def ruled(self, names: Sequence[str], user: str) -> list[str]:
         """Those of some names, none of which is there, that the makefile makes by recipes, and that
         `user` may need without a cycle; none where mkcheck refuses one of the rules."""
         names = [name for name in names if PLAIN.fullmatch(name) and not name.startswith("-")]
-        operands = tuple(word for word in self.checker.words if "=" in word)
-        graph = self.with_files(*names).ask("", "", (*operands, *names)) if names else None
+        words = (*self.checker.operands, *names)
+        graph = self.with_files(*names).ask("", "", words) if names else None
         if graph is None:
             return []
         made, ancestors = graph.targets - graph.phony, graph.ancestors()
@@ -96,9 +108,8 @@ class Prober:
 
     def tried(self, texts: Sequence[str], front: Mapping[str, str]) -> list[str] | None:
         """The same, or None where mkcheck refuses one."""
-        operands = tuple(word for word in self.checker.words if "=" in word)
         lines = "".join(f"\t{SAYS}{text}\n" for text in texts)
-        graph = self.ask(assigned(front), f"{PROBE}:\n{lines}", (*operands, PROBE))
+        graph = self.ask(assigned(front), f"{PROBE}:\n{lines}", (*self.checker.operands, PROBE))
         if graph is None or not graph.recipes or len(graph.recipes[-1].lines) != len(texts):
             return None
         return [line[len(SAYS) :].strip() for line in graph.recipes[-1].lines]

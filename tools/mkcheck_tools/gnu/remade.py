@@ -24,7 +24,7 @@ def included(prober: Prober) -> list[str]:
         name = waiting.pop()
         try:
             with open(
-                os.path.join(prober.checker.folder, name), encoding="utf-8", errors="replace"
+                os.path.join(prober.folder, name), encoding="utf-8", errors="replace"
             ) as file:
                 lines = JOINED.sub(" ", file.read()).split("\n")
         except OSError:
@@ -42,8 +42,7 @@ def made_first(prober: Prober) -> list[str]:
     """The texts of the makefile that have recipes, itself among them."""
     names = [prober.makefile, *included(prober)]
     names = [name for name in dict.fromkeys(names) if is_plain_path(name)]
-    operands = tuple(word for word in prober.checker.words if "=" in word)
-    graph = prober.with_files(*names).ask("", "", (*operands, *names))
+    graph = prober.with_files(*names).ask("", "", (*prober.checker.operands, *names))
     targets = graph.targets if graph is not None else frozenset()
     return [name for name in names if name in targets]
 
@@ -72,7 +71,7 @@ def warn_of_goal(graph: Graph, prober: Prober, warn: Warn) -> None:
         return
     goal = graph.goals[0]
     for name in made_first(prober):
-        there = os.path.exists(os.path.join(prober.checker.folder, name))
+        there = os.path.exists(os.path.join(prober.folder, name))
         if not there and gives_goal(prober, name):
             text = (
                 f"GNU make makes {name}, which isn't there yet, before it reads the makefile: if it"
@@ -86,7 +85,7 @@ def gives_goal(prober: Prober, name: str) -> bool:
     """Whether the first target of a text would be the goal: no other stands before the line that
     includes it."""
     with open(
-        os.path.join(prober.checker.folder, prober.makefile), encoding="utf-8", errors="replace"
+        os.path.join(prober.folder, prober.makefile), encoding="utf-8", errors="replace"
     ) as file:
         lines = JOINED.sub(" ", file.read()).split("\n")
     matches = [INCLUDE.fullmatch(COMMENT.sub("", line)) for line in lines]
@@ -95,7 +94,6 @@ def gives_goal(prober: Prober, name: str) -> bool:
         if name in text.split():
             # These rules come again with the makefile, and two rules with commands are refused.
             front = "".join(f"{line}\n" for line in lines[:number] if line[:1] != "\t")
-            operands = tuple(word for word in prober.checker.words if "=" in word)
-            graph = prober.ask(f"{front}{PROBE}:\n", "", operands)
+            graph = prober.ask(f"{front}{PROBE}:\n", "", prober.checker.operands)
             return graph is not None and graph.goals == [PROBE]
     return False

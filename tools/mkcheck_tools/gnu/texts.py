@@ -110,7 +110,7 @@ def lines_of(prober: Prober) -> Iterator[str]:
     """The logical lines of the texts. A line that goes on is one line, as a command too."""
     for name in names_of_texts(prober):
         try:
-            path = os.path.join(prober.checker.folder, name)
+            path = os.path.join(prober.folder, name)
             with open(path, encoding="utf-8", errors="replace") as file:
                 yield from JOINED.sub(" ", file.read()).split("\n")
         except OSError:

@@ -34,7 +34,7 @@ def old_make() -> str | None:
 def names_wait(prober: Prober) -> bool:
     """Whether a text of the makefile has the word; `.NOTPARALLEL` makes groups without it."""
     for name in (prober.makefile, *included(prober)):
-        path = os.path.join(prober.checker.folder, name)
+        path = os.path.join(prober.folder, name)
         if os.path.isfile(path):
             with open(path, encoding="utf-8", errors="replace") as file:
                 if WORD.search(file.read()):

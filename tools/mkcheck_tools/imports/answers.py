@@ -5,14 +5,14 @@ from __future__ import annotations
 from itertools import takewhile
 
 from mkcheck_tools.imports.builds import Build
-from mkcheck_tools.imports.judging import Verdict
+from mkcheck_tools.imports.judging import BuildVerdict
 
 SHOWN_AT_MOST = 8
 # The status of a yes beside which something couldn't be judged.
 AS_FAR_AS_JUDGED = 4
 
 
-def answer_of(build: Build, verdict: Verdict, sentences: list[str]) -> list[str]:
+def answer_of(build: Build, verdict: BuildVerdict, sentences: list[str]) -> list[str]:
     """What is printed: the answer, the findings as sentences, and all on which the answer rests."""
     lines = [headline(build, verdict, sentences)]
     lines += ["", *sentences] if sentences else []
@@ -43,7 +43,7 @@ def answer_of(build: Build, verdict: Verdict, sentences: list[str]) -> list[str]
     return lines
 
 
-def headline(build: Build, verdict: Verdict, sentences: list[str]) -> str:
+def headline(build: Build, verdict: BuildVerdict, sentences: list[str]) -> str:
     """The first line. One sentence may tell of several findings."""
     counts = judged(build, verdict)
     if verdict.refused:
@@ -61,7 +61,7 @@ def headline(build: Build, verdict: Verdict, sentences: list[str]) -> str:
     return f"yes: {counts}{doubts}, for the build as {tool} reads it in this configuration"
 
 
-def judged(build: Build, verdict: Verdict) -> str:
+def judged(build: Build, verdict: BuildVerdict) -> str:
     """How much was judged."""
     left_out = len(build.unjudged & verdict.targets)
     if left_out:
@@ -72,12 +72,12 @@ def judged(build: Build, verdict: Verdict) -> str:
     return f"{text}; {counted(len(build.problems), 'question')} not judged"
 
 
-def is_nothing_judged(build: Build, verdict: Verdict) -> bool:
+def is_nothing_judged(build: Build, verdict: BuildVerdict) -> bool:
     """Whether no recipe was judged, and nothing was found."""
     return bool(verdict.targets) and verdict.targets <= build.unjudged and not verdict.findings
 
 
-def status_of(build: Build, verdict: Verdict) -> int:
+def status_of(build: Build, verdict: BuildVerdict) -> int:
     """The status of an answer."""
     if verdict.refused or is_nothing_judged(build, verdict):
         return 2

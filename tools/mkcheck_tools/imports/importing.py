@@ -12,7 +12,7 @@ from collections.abc import Callable
 from pathlib import Path
 from typing import Protocol
 
-from mkcheck_tools.answers.graphs import find_checker
+from mkcheck_tools.answers.checkers import find_checker
 from mkcheck_tools.book.note_files import Noted, path_of_notes
 from mkcheck_tools.faults import Fault
 from mkcheck_tools.imports.answers import AS_FAR_AS_JUDGED, answer_of, counted, status_of

@@ -8,7 +8,10 @@ import re
 from dataclasses import dataclass, field, replace
 from pathlib import Path
 
+from mkcheck_tools.answers.checkers import NO, REFUSED, Checker, Reply
+from mkcheck_tools.answers.findings import THEN, answer_of
 from mkcheck_tools.answers.graphs import read_graph
+from mkcheck_tools.answers.refusals import CYCLE, NO_RULE, numbered
 from mkcheck_tools.book.note_files import Noted, path_of_notes, read_notes, text_of_notes
 from mkcheck_tools.book.states import Unusable, path_of_state
 from mkcheck_tools.book.states import read as read_state
@@ -37,8 +40,6 @@ OWN_ADVICE = re.compile(
 THROUGH = "makefile.through"
 # The kind of a finding that `check` doesn't have: commands depend on a file that make reads.
 UNAWARE = "unaware"
-# The line of `check -w` before races and stale reads that other findings hide.
-HIDDEN = "once these are mended, as far as can be seen now:"
 # The target of which the recorder tells.
 OF_RECIPE = re.compile(r"the recipe of (\S+)")
 # The front of the recorder's lines of progress.
@@ -46,8 +47,8 @@ PROGRESS = re.compile(r"\[(?:\w+ )?\d+/\d+(?: [\d:]+ left)?\] ")
 
 
 @dataclass(frozen=True)
-class Finding:
-    """A finding of `check`, its names those of nodes and files."""
+class BuildFinding:
+    """A finding of `check` in a build: its names are those of nodes and files."""
 
     kind: str
     words: tuple[str, ...]
@@ -58,13 +59,12 @@ class Finding:
 
 
 @dataclass
-class Verdict:
+class BuildVerdict:
     """What was found of a build."""
 
     recipes: int = 0
     reads: int = 0
-    findings: list[Finding] = field(default_factory=list)
-    ways: list[tuple[str, ...]] = field(default_factory=list)
+    findings: list[BuildFinding] = field(default_factory=list)
     targets: set[str] = field(default_factory=set)
     """The targets whose recipes it is about."""
 
@@ -145,9 +145,9 @@ class Judge:
         if nodes > NODES_AT_MOST:
             raise Fault(self.too_many(nodes))
         for name in [FIRST, LATER] if first else [LATER]:
-            status, said, errors = self.ask("graph", "-f", self.path(name))
-            if status != 0:
-                raise Fault(self.refusal(said.strip() or errors.strip(), name))
+            reply = self.ask("graph", "-f", self.path(name))
+            if reply.status != 0:
+                raise Fault(self.refusal(reply.shown.strip(), name))
         recipes = sum(bool(node.commands) for node in self.build.nodes.values())
         return f"{nodes} nodes, {recipes} recipes"
 
@@ -190,16 +190,16 @@ class Judge:
 
     def refusal(self, said: str, name: str) -> str:
         """A refusal of mkcheck as a sentence."""
-        words = said.split()
-        if words[:2] == ["refused", "42"]:
-            return f"the prerequisites of the build form a cycle: {' '.join(words[2:])}"
-        if words[:2] == ["refused", "41"] and len(words) > 2:
-            return f"nothing makes {words[2]}, and it isn't there"
+        number, words = numbered(said)
+        if number == CYCLE:
+            return f"the prerequisites of the build form a cycle: {words}"
+        if number == NO_RULE:
+            return f"nothing makes {words}, and it isn't there"
         return f"mkcheck doesn't read {name}, the translated makefile: {said}"
 
-    def ask(self, *words: str) -> tuple[int, str, str]:
+    def ask(self, *words: str) -> Reply:
         """Asks mkcheck, in the folder of the project."""
-        return run_here(self.place, [self.mkcheck, *words], self.environment)
+        return Checker(self.mkcheck, self.place, environment=self.environment).run(*words)
 
     def record(self, recorder: list[str], first: bool, looking: bool) -> str:
         """Records the build, with the names at which recipes look where that is asked for; gives
@@ -271,8 +271,8 @@ class Judge:
         run_first = {*self.build.reached(False)}
         lines = {}
         for makefile_name in [FIRST, LATER] if first else [LATER]:
-            _, said, _ = self.ask("graph", "-c", "-f", self.path(makefile_name))
-            lines.update({one.target: one.lines for one in read_graph(said).recipes})
+            graph = read_graph(self.ask("graph", "-c", "-f", self.path(makefile_name)).shown)
+            lines.update({one.target: one.lines for one in graph.recipes})
         for name in {**dict.fromkeys(self.build.reached(True)), **dict.fromkeys(run_first)}:
             node = self.build.nodes.get(name)
             if node is None or not node.commands or name in footprints.records:
@@ -317,7 +317,7 @@ class Judge:
         write(self.path("footprint.json"), text)
         write(path_of_notes(self.path("footprint.json")), text_of_notes(text, noted.notes))
 
-    def check(self, first: bool) -> Verdict:
+    def check(self, first: bool) -> BuildVerdict:
         """Checks later builds, and the first one where its makefile is another one. What recipes
         read that aren't judged is no finding."""
         verdict = self.check_all(first)
@@ -328,7 +328,7 @@ class Judge:
         ]
         return verdict
 
-    def check_all(self, first: bool) -> Verdict:
+    def check_all(self, first: bool) -> BuildVerdict:
         """All findings of later builds and of the first one."""
         later = self.check_one(LATER)
         later.findings += self.check_between(later)
@@ -336,31 +336,31 @@ class Judge:
         later.findings += self.check_through(later)
         if not first:
             later.findings = [
-                Finding(found.kind, found.words, True, True) for found in later.findings
+                BuildFinding(found.kind, found.words, True, True) for found in later.findings
             ]
             return later
         one = self.check_one(FIRST)
         later.refused = later.refused or one.refused
         kept = [found for found in one.findings if found.kind != "stale"]
         both = {(found.kind, found.words) for found in later.findings}
-        verdict = Verdict(later.recipes, later.reads, ways=later.ways, refused=later.refused)
+        verdict = BuildVerdict(later.recipes, later.reads, refused=later.refused)
         verdict.hides, verdict.targets = later.hides, later.targets
         for found in kept:
             in_later = (found.kind, found.words) in both
-            verdict.findings.append(Finding(found.kind, found.words, True, in_later))
+            verdict.findings.append(BuildFinding(found.kind, found.words, True, in_later))
         seen = {(found.kind, found.words) for found in kept}
         for found in later.findings:
             if (found.kind, found.words) not in seen:
-                verdict.findings.append(Finding(found.kind, found.words, False, True))
+                verdict.findings.append(BuildFinding(found.kind, found.words, False, True))
         return verdict
 
-    def unaware(self, later: Verdict) -> list[Finding]:
+    def unaware(self, later: BuildVerdict) -> list[BuildFinding]:
         """The stale files that the tool itself showed: their commands depend on a file."""
         known = {found.words for found in later.findings if found.kind == "stale"}
         pairs = [(name, file) for name, file, _ in self.build.unaware.values()]
-        return [Finding(UNAWARE, words, False, True) for words in pairs if words not in known]
+        return [BuildFinding(UNAWARE, words, False, True) for words in pairs if words not in known]
 
-    def check_between(self, later: Verdict) -> list[Finding]:
+    def check_between(self, later: BuildVerdict) -> list[BuildFinding]:
         """Races of later builds that only prerequisites of the first one, or late ones, hide."""
         gone = {name: node.first_only for name, node in self.build.nodes.items() if node.first_only}
         if not gone:
@@ -371,7 +371,7 @@ class Judge:
         races = [found for found in self.check_one(BETWEEN).findings if found.kind == "race"]
         return [found for found in races if found.words not in known]
 
-    def check_through(self, later: Verdict) -> list[Finding]:
+    def check_through(self, later: BuildVerdict) -> list[BuildFinding]:
         """Stale reads in builds in which files change that recipes leave alike where nothing did.
 
         `alike` lets what needs such a file never run again by it. Here it runs again when what the
@@ -390,31 +390,27 @@ class Judge:
         stale = [found for found in self.check_one(THROUGH).findings if found.kind == "stale"]
         return [found for found in stale if found.words not in known]
 
-    def check_one(self, name: str) -> Verdict:
+    def check_one(self, name: str) -> BuildVerdict:
         """Checks one of the makefiles."""
         words = ["check", "-f", self.path(name), "-b", self.path("footprint.json")]
-        status, said, errors = self.ask(*words)
-        verdict = Verdict()
+        reply = self.ask(*words)
+        verdict = BuildVerdict()
         names = self.names()
         back = {word: node for node, word in names.written.items() if "\0" not in node}
-        if status not in (0, 1):
-            verdict.refused = self.refusal(said.strip() or errors.strip(), name)
-        for line in said.splitlines():
-            kind, *rest = line.split(" ")
-            if kind == "yes":
-                verdict.recipes, verdict.reads = int(rest[0]), int(rest[2])
-            elif kind == "way":
-                verdict.ways.append(tuple(back.get(word, word) for word in rest))
-            elif kind == "no":
-                found = tuple(back.get(word, word) for word in rest[1:])
-                verdict.findings.append(Finding(rest[0], found, False, True))
+        if reply.status == REFUSED:
+            verdict.refused = self.refusal(reply.shown.strip(), name)
+        else:
+            answer = answer_of(reply)
+            verdict.recipes, verdict.reads = answer.recipes, answer.reads
+            for one in answer.findings:
+                found = tuple(back.get(word, word) for word in one.names)
+                verdict.findings.append(BuildFinding(one.kind, found, False, True))
         records = read_footprints(self.path("footprint.json")).records.values()
         reached = {names[name] for name in self.build.reached(True)}
         used = [record for record in records if record.target in reached]
         verdict.targets = {back.get(record.target, record.target) for record in used}
-        if status == 1:
-            _, told, _ = self.ask("check", "-w", *words[1:])
-            verdict.hides = HIDDEN in told.splitlines()
+        if reply.status == NO:
+            verdict.hides = THEN in self.ask("check", "-w", *words[1:]).lines
             verdict.recipes, verdict.reads = len(used), sum(len(record.reads) for record in used)
         # What only hands a file on is no recipe of the project.
         own = [

@@ -7,7 +7,7 @@ from dataclasses import dataclass, field
 
 from mkcheck_tools.imports.builds import Build, Kind, Node
 from mkcheck_tools.imports.footprints import Footprints
-from mkcheck_tools.imports.judging import UNAWARE, Finding
+from mkcheck_tools.imports.judging import UNAWARE, BuildFinding
 
 OTHERS = {
     "record": "{r} was not recorded, since the first build doesn't run it; import the goals that"
@@ -148,7 +148,7 @@ class Sentences:
         above = self.starter(self.node(self.writers[file][0]).make, node.make)
         return None if above is None else self.node(above).known_as or self.called(above)
 
-    def texts(self, findings: list[Finding], asking: str = "") -> list[str]:
+    def texts(self, findings: list[BuildFinding], asking: str = "") -> list[str]:
         """The sentences, those of one recipe together, and after them the lines to add. `asking` is
         a command that shows findings which these hide."""
         found: list[str] = []
@@ -312,7 +312,7 @@ class Sentences:
             " a rule with an empty recipe"
         )
 
-    def sentence(self, finding: Finding) -> str:
+    def sentence(self, finding: BuildFinding) -> str:
         """One finding that isn't a stale read."""
         when = ""
         if self.has_first and not finding.in_later:
@@ -379,7 +379,7 @@ class Sentences:
         """Whether a file that several recipes change isn't there after a build."""
         return len(self.writers.get(file, [])) > 1 and file not in self.build.made
 
-    def other(self, finding: Finding) -> str:
+    def other(self, finding: BuildFinding) -> str:
         """A finding of another kind."""
         words = list(finding.words)
         values = {"r": self.called(words[0]), "f": words[-1]}

@@ -128,7 +128,7 @@ FAILURE_CURES = {
 
 
 @dataclass
-class Verdict:
+class ReplayVerdict:
     """What the replays say: errors, notes, and what recipes did beside their late files."""
 
     failures: list[Failure] = field(default_factory=list)
@@ -152,13 +152,13 @@ def judge(
     trusted: frozenset[str],
     once: frozenset[str],
     makers: Mapping[str, list[str]],
-) -> Verdict:
+) -> ReplayVerdict:
     """The verdict. `once` are targets that no make makes again, and `makers` has who made which
     folder.
 
     A recipe that fails over its own outputs is an error only where a make may run it again.
     """
-    verdict = Verdict()
+    verdict = ReplayVerdict()
     for outcome in outcomes:
         target = outcome.trial.recipe.target
         verdict.judged.add(target)

@@ -9,7 +9,9 @@ from collections.abc import Mapping
 from dataclasses import dataclass
 from pathlib import Path
 
-from mkcheck_tools.answers.graphs import Checker, Graph, asked_graph, find_checker, warn_of_varying
+from mkcheck_tools.answers.checkers import Checker, find_checker
+from mkcheck_tools.answers.graphs import Graph
+from mkcheck_tools.answers.unrecorded import Unrecorded, asked_graph
 from mkcheck_tools.gnu.built_in import warn_of_rule_macros, warn_of_rules
 from mkcheck_tools.gnu.flags import warn_of_given_options, warn_of_other_reading
 from mkcheck_tools.gnu.macros import (
@@ -36,48 +38,45 @@ from mkcheck_tools.judge.refusals import check_opaque
 from mkcheck_tools.judge.verdicts import check_trust
 from mkcheck_tools.record.request import Request
 from mkcheck_tools.run.folders import Naming, sources_in
+from mkcheck_tools.run.places import Place
+
+VARYING_HELP = "use $?, which is empty here: write $^"
 
 
 @dataclass(frozen=True)
 class Build:
-    """What is to be recorded, with the fixed prefixes that are given. `varying` are the targets
-    whose commands use `$?`, and `macros` has variables to which the makefile gives other values."""
+    """What is to be recorded. `varying` are the targets whose commands use `$?`, and `macros` has
+    variables to which the makefile gives other values."""
 
     prober: Prober
     graph: Graph
-    prefixes: list[str]
     varying: frozenset[str]
     macros: Mapping[str, str]
 
     @property
-    def checker(self) -> Checker:
-        """The program mkcheck, and the makefile."""
-        return self.prober.checker
-
-    @property
-    def files(self) -> list[str]:
-        """The files that may be sources."""
-        return self.prober.files
+    def unrecorded(self) -> Unrecorded:
+        """The build as it was before."""
+        return self.prober.build
 
 
 def build_of(request: Request, scratch: str, warn: Warn) -> Build:
     """The build that is asked for. What makes would do otherwise is told, or refused."""
     choice, folder = request.choice, request.folder
     program = find_checker(Path(sys.argv[0]).resolve().parent)
-    checker = Checker(program, folder, choice.options, choice.words)
-    fixed = list(choice.fixed)
+    checker = Checker(program, Place(folder, folder), choice.options, choice.words)
     naming = Naming(folder, choice.fixed)
     hidden = request.hidden
     sources = [name for name in sources_in(folder, naming) if name not in hidden]
     refuse_mark(folder, plainly_included(folder, makefile_of(request)))
-    files, graph = asked_graph(checker, fixed, sources, scratch)
+    fixed, prefixes = list(choice.fixed), list(choice.prefixes)
+    unrecorded, graph = asked_graph(Unrecorded(checker, fixed, sources, scratch, prefixes))
     warn_of_prefixes(folder, choice.prefixes, warn)
     if choice.makefile is None and os.path.exists(os.path.join(folder, "GNUmakefile")):
         text = "GNU make reads GNUmakefile first, which isn't judged here; -f GNUmakefile judges it"
         warn(Note("", Kind.OTHER_MAKEFILE, text))
     check_trust(choice.trusted, graph.recipes)
     check_opaque(choice.opaque, graph.recipes)
-    prober = Prober(checker, fixed, files, scratch)
+    prober = Prober(unrecorded)
     refuse_predefined(graph, prober, warn)
     refuse_mark(folder, names_of_texts(prober))
     text_of_makefile = text_of(prober)
@@ -85,9 +84,18 @@ def build_of(request: Request, scratch: str, warn: Warn) -> Build:
     refuse_absent_compiler(graph)
     warn_of_stem(graph, prober, text_of_makefile, warn)
     warn_of_makes(graph, prober, choice.operands, warn)
-    varying = warn_of_varying(checker, fixed, files, scratch, warn)
+    varying = warn_of_varying(unrecorded, warn)
     macros = handed_down(prober, choice.operands)
-    return Build(prober, graph, list(choice.prefixes), frozenset(varying), macros)
+    return Build(prober, graph, frozenset(varying), macros)
+
+
+def warn_of_varying(build: Unrecorded, warn: Warn) -> list[str]:
+    """Warns of each recipe that uses `$?`, whose value no recording has, and returns the targets of
+    these."""
+    found = build.varying()
+    for target in found:
+        warn(Note(target, Kind.NEWER, f"the commands of {target} {VARYING_HELP}"))
+    return found
 
 
 def warn_of_makes(graph: Graph, prober: Prober, operands: dict[str, str], warn: Warn) -> None:

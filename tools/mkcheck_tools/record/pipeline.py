@@ -7,7 +7,6 @@ from __future__ import annotations
 import os
 import sys
 from dataclasses import dataclass, replace
-from functools import partial
 
 from mkcheck_tools.book.books import Book, make_book
 from mkcheck_tools.book.note_files import path_of_notes, text_of_notes
@@ -22,7 +21,7 @@ from mkcheck_tools.judge.late import with_met
 from mkcheck_tools.judge.leftovers import warn_of_left_over
 from mkcheck_tools.judge.modules import warn_of_modules
 from mkcheck_tools.judge.notes import Kind, Note, Notes, Warn, ignore
-from mkcheck_tools.judge.verdicts import Verdict, judge
+from mkcheck_tools.judge.verdicts import ReplayVerdict, judge
 from mkcheck_tools.record.building import Build, build_of, makefile_of, removes_on_error
 from mkcheck_tools.record.recording import Recorded, Workshop, record
 from mkcheck_tools.record.request import Request
@@ -68,7 +67,7 @@ def record_folder(request: Request, scratch: str) -> int:
     build = build_of(request, scratch, notes.add)
     shop = workshop(request, build, scratch, notes.add)
     recorded = recorded_by(shop, build, notes.add)
-    verdict = Verdict()
+    verdict = ReplayVerdict()
     try:
         if recorded.stopped is not None:
             raise recorded.stopped
@@ -80,7 +79,7 @@ def record_folder(request: Request, scratch: str) -> int:
             raise replayed.stopped
         for note in verdict.notes:
             notes.add(note)
-        result = result_of(build, recorded, verdict, scratch, notes.add)
+        result = result_of(build, recorded, verdict, notes.add)
     except BaseException as end:
         raise told_of_end(end, request, keep(shop, recorded, verdict, False))
     result = replace(result, failures=[*recorded.failures, *compared, *result.failures])
@@ -168,17 +167,17 @@ def warn_of_recorded(shop: Workshop, build: Build, recorded: Recorded, warn: War
     warn_of_unlooked(build.graph, build.prober, recorded.writers, warn)
     makefile = makefile_of(request)
     warn_of_left_over(request.folder, makefile, build.graph, recorded.footprints, warn)
-    refuse_other_meaning(build, recorded, shop.scratch)
+    refuse_other_meaning(build, recorded)
     warn_of_modules(recorded.footprints, shop.fixed, warn)
     if not request.replay:
         warn(Note("", Kind.UNREPLAYED, UNTESTED))
 
 
-def refuse_other_meaning(build: Build, recorded: Recorded, scratch: str) -> None:
+def refuse_other_meaning(build: Build, recorded: Recorded) -> None:
     """Refuses, before the replays, footprints without which the makefile means something else; what
     is of one recipe is said after them."""
     try:
-        book_of(build, recorded, recorded.footprints, scratch, ignore)
+        book_of(build, recorded, recorded.footprints, ignore)
     except RecipeFault as fault:
         if not fault.targets:
             raise
@@ -222,11 +221,13 @@ def replay(shop: Workshop, build: Build, recorded: Recorded, warn: Warn) -> Repl
     return replays.run(world.trials)
 
 
-def verdict_of(shop: Workshop, build: Build, recorded: Recorded, replayed: Replayed) -> Verdict:
+def verdict_of(
+    shop: Workshop, build: Build, recorded: Recorded, replayed: Replayed
+) -> ReplayVerdict:
     """What the replays say of the recipes."""
     world = recorded.world
     if world is None:
-        return Verdict()
+        return ReplayVerdict()
     trusted = frozenset(shop.request.choice.trusted)
     verdict = judge(replayed.outcomes, trusted, build.graph.once, world.makers)
     if shop.request.replay:
@@ -250,9 +251,7 @@ class Result:
     failures: list[Failure]
 
 
-def result_of(
-    build: Build, recorded: Recorded, verdict: Verdict, scratch: str, warn: Warn
-) -> Result:
+def result_of(build: Build, recorded: Recorded, verdict: ReplayVerdict, warn: Warn) -> Result:
     """The footprints of the recipes that passed. One that no footprint file can hold costs itself
     too."""
     failures = list(verdict.failures)
@@ -260,7 +259,7 @@ def result_of(
     found = with_met(recorded.footprints, recorded.late, verdict.met)
     while footprints := [one for one in found if one.recipe.target not in failed]:
         try:
-            text = book_of(build, recorded, footprints, scratch, warn).text()
+            text = book_of(build, recorded, footprints, warn).text()
             return Result(footprints, text, failures)
         except RecipeFault as fault:
             if not fault.targets:
@@ -269,19 +268,15 @@ def result_of(
             failures += [Failure(target, str(fault)) for target in fault.targets]
     if failures or recorded.failures:
         return Result([], None, failures)
-    return Result([], book_of(build, recorded, [], scratch, warn).text(), failures)
+    return Result([], book_of(build, recorded, [], warn).text(), failures)
 
 
-def book_of(
-    build: Build, recorded: Recorded, footprints: list[Footprint], scratch: str, warn: Warn
-) -> Book:
+def book_of(build: Build, recorded: Recorded, footprints: list[Footprint], warn: Warn) -> Book:
     """The footprint file with these footprints."""
-    checker, prefixes = build.checker, build.prefixes
-    book = partial(make_book, checker, build.graph, build.files, prefixes, scratch=scratch)
-    return book(footprints, warn=warn, late=recorded.looked_late)
+    return make_book(build.unrecorded, build.graph, footprints, warn, recorded.looked_late)
 
 
-def keep(shop: Workshop, recorded: Recorded, verdict: Verdict, whole: bool) -> bool:
+def keep(shop: Workshop, recorded: Recorded, verdict: ReplayVerdict, whole: bool) -> bool:
     """Keeps what was recorded in the state; tells whether that is done."""
     updating = shop.updating
     if updating is None or recorded.world is None or not (recorded.footprints or whole):
@@ -315,7 +310,7 @@ def told_of_end(end: BaseException, request: Request, kept: bool) -> BaseExcepti
 
 
 def write(
-    shop: Workshop, recorded: Recorded, verdict: Verdict, result: Result, notes: Notes
+    shop: Workshop, recorded: Recorded, verdict: ReplayVerdict, result: Result, notes: Notes
 ) -> int:
     """Writes the footprints, their notes and their state; tells what isn't there, and gives the
     status."""

@@ -12,7 +12,7 @@ import time
 from collections.abc import Callable, Iterator, Mapping
 from dataclasses import dataclass, field, replace
 
-from mkcheck_tools.answers.graphs import VARYING_HELP, Ancestors, Command, Recipe
+from mkcheck_tools.answers.graphs import Ancestors, Command, Recipe
 from mkcheck_tools.book.updating import Updating
 from mkcheck_tools.faults import FULL, Failure, Fault, RecipeFault, failure_of
 from mkcheck_tools.judge.footprints import (
@@ -26,6 +26,7 @@ from mkcheck_tools.judge.footprints import (
 from mkcheck_tools.judge.late import Late, folders_of, late_files
 from mkcheck_tools.judge.notes import Kind, Note, Warn
 from mkcheck_tools.judge.refusals import listed, refuse_unmade, refuse_unseen
+from mkcheck_tools.record.building import VARYING_HELP
 from mkcheck_tools.record.request import Request
 from mkcheck_tools.replay.versions import Store, Version, version_of
 from mkcheck_tools.replay.worlds import Effects, World

@@ -4,8 +4,8 @@ from __future__ import annotations
 
 from dataclasses import dataclass
 
+from mkcheck_tools.answers.graphs import Graph
 from mkcheck_tools.imports.footprints import Record, read_footprints
-from mkcheck_tools.report.nodes import Graph
 
 
 @dataclass(frozen=True)

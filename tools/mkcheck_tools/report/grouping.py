@@ -9,9 +9,9 @@ from __future__ import annotations
 
 from dataclasses import dataclass
 
-from mkcheck_tools.report.answers import Finding, Group
+from mkcheck_tools.answers.findings import Finding, Group
+from mkcheck_tools.answers.graphs import Graph
 from mkcheck_tools.report.books import Book
-from mkcheck_tools.report.nodes import Graph
 
 # Kinds that a line to add may mend.
 PAIRED = ("race", "stale", "loose")

@@ -4,27 +4,23 @@ from __future__ import annotations
 
 from dataclasses import dataclass, field
 
-from mkcheck_tools.answers.graphs import Refused
-from mkcheck_tools.book.note_files import Noted, read_notes
-from mkcheck_tools.faults import Fault
-from mkcheck_tools.report.answers import (
-    CHANGED,
+from mkcheck_tools.answers.checkers import NO, REFUSED, Checker
+from mkcheck_tools.answers.findings import (
     KINDS,
     Finding,
     Group,
-    Refusal,
     Way,
-    findings_of,
+    answer_of,
     groups_of,
     hidden_from,
-    refusal_of,
-    ways_of,
 )
-from mkcheck_tools.report.asking import NO, REFUSED, Checker
+from mkcheck_tools.answers.graphs import Graph, read_graph
+from mkcheck_tools.answers.refusals import CHANGED, Refusal, Refused, refusal_of
+from mkcheck_tools.book.note_files import Noted, read_notes
+from mkcheck_tools.faults import Fault
 from mkcheck_tools.report.books import Book, book_of
 from mkcheck_tools.report.escaping import counted, visible
 from mkcheck_tools.report.grouping import Grouping
-from mkcheck_tools.report.nodes import Graph, graph_of
 
 
 @dataclass
@@ -35,7 +31,7 @@ class Judged:
     version: str
     makefile: str
     status: int
-    graph: Graph = field(default_factory=lambda: Graph([], {}))
+    graph: Graph = field(default_factory=Graph)
     book: Book = field(default_factory=lambda: Book((), frozenset(), {}, {}))
     refusal: Refusal | None = None
     yes: str = ""
@@ -78,21 +74,34 @@ def graph_and_book(checker: Checker) -> tuple[Graph, Book]:
         raise Refused(visible(reply.text.strip("\n")))
     if not reply.text.startswith("goals "):
         raise Fault("mkcheck graph printed no goals")
-    graph = graph_of(reply.lines)
+    graph = read_graph(reply.text)
     return graph, book_of(checker.book, graph)
+
+
+def probe(checker: Checker) -> None:
+    """Tests that the program has what a report needs."""
+    commands, options = checker.run("--help").lines, checker.run("check", "--help").lines
+    lacks = [] if any(line.startswith("  -w") for line in options) else ["`check -w`"]
+    lacks += [] if any(line.startswith("  explain ") for line in commands) else ["`explain`"]
+    if lacks:
+        raise Fault(
+            f"{checker.program} has no {' and no '.join(lacks)}: install the mkcheck of the release"
+            " that this mkcheck-report comes from"
+        )
 
 
 def judge(checker: Checker) -> Judged:
     """Has a build judged."""
-    checker.probe()
+    probe(checker)
     reply = checker.ask("check")
-    judged = Judged(checker, checker.version(), checker.makefile_name(), reply.status)
+    judged = Judged(checker, checker.version(), checker.makefile, reply.status)
     judged.noted = read_notes(checker.book)
     if not reply.text:
         raise Fault("mkcheck check printed nothing")
     if reply.status not in (NO, REFUSED):
         judged.graph, judged.book = graph_and_book(checker)
-        judged.yes, judged.ways = reply.lines[0], ways_of(reply.lines)
+        answer = answer_of(reply)
+        judged.yes, judged.ways = answer.yes, list(answer.ways)
         return judged
     in_words = checker.ask("check", "-w")
     if in_words.status != reply.status:
@@ -101,7 +110,7 @@ def judge(checker: Checker) -> Judged:
         judged.refusal = refusal_of(reply.text[:-1], in_words.text[:-1])
         return judged
     judged.graph, judged.book = graph_and_book(checker)
-    judged.findings = findings_of(reply.lines)
+    judged.findings = list(answer_of(reply).findings)
     lines, hidden = hidden_from(in_words.lines)
     judged.groups, judged.notes = groups_of(lines, judged.makefile)
     judged.hidden = groups_of(hidden, judged.makefile)[0]

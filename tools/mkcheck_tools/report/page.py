@@ -5,9 +5,9 @@ from __future__ import annotations
 from collections.abc import Iterable
 
 from mkcheck_tools import VERSION
+from mkcheck_tools.answers.refusals import Refusal
 from mkcheck_tools.book.note_files import Noted, with_doubts
 from mkcheck_tools.judge.notes import Note
-from mkcheck_tools.report.answers import Refusal
 from mkcheck_tools.report.escaping import as_sentence, clipped, counted, markup, prose, shortened
 from mkcheck_tools.report.judging import Judged
 from mkcheck_tools.report.makefiles import Makefiles
@@ -80,7 +80,7 @@ def head(judged: Judged) -> str:
         ("Macros", " ".join(operands)),
     ]
     if judged.graph.nodes:
-        recipes = counted(judged.graph.recipes, "recipe")
+        recipes = counted(len(judged.graph.recipes), "recipe")
         rows.append(("Reached", f"{counted(len(judged.graph.nodes), 'name')}, {recipes}"))
     rows += [("Answer", judged.yes), ("Programs", f"{judged.version}, mkcheck-report {VERSION}")]
     listed = "".join(

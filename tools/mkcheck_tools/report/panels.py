@@ -7,15 +7,15 @@ from concurrent.futures import ThreadPoolExecutor
 from dataclasses import dataclass, field
 from functools import partial
 
+from mkcheck_tools.answers.checkers import Checker
+from mkcheck_tools.answers.findings import Finding, Group
+from mkcheck_tools.answers.plans import phases_of
 from mkcheck_tools.report import timelines
-from mkcheck_tools.report.answers import Finding, Group
-from mkcheck_tools.report.asking import Checker
 from mkcheck_tools.report.escaping import as_sentence, clipped, counted, markup, prose, shortened
 from mkcheck_tools.report.judging import Judged
 from mkcheck_tools.report.makefiles import Makefiles
 from mkcheck_tools.report.parts import Budget, look_of, place_of
 from mkcheck_tools.report.pictures import Drawing, around, as_list, drawn
-from mkcheck_tools.report.plans import phases_of
 
 # How much is shown in full, so that a page stays small.
 DETAILED_AT_MOST = 60

@@ -4,7 +4,8 @@ from __future__ import annotations
 
 from dataclasses import dataclass
 
-from mkcheck_tools.report.answers import Group, Refusal
+from mkcheck_tools.answers.findings import Group
+from mkcheck_tools.answers.refusals import Refusal
 from mkcheck_tools.report.escaping import clipped, markup
 from mkcheck_tools.report.pictures import width_of
 

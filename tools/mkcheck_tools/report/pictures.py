@@ -8,9 +8,9 @@ import subprocess
 import xml.etree.ElementTree as Tree
 from dataclasses import dataclass, field
 
+from mkcheck_tools.answers.graphs import Graph
 from mkcheck_tools.report.books import Book
 from mkcheck_tools.report.escaping import dot_string, markup, shortened
-from mkcheck_tools.report.nodes import Graph
 
 SVG = "http://www.w3.org/2000/svg"
 XLINK = "http://www.w3.org/1999/xlink"

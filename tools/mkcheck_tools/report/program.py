@@ -9,16 +9,16 @@ from functools import partial
 from pathlib import Path
 
 from mkcheck_tools import VERSION
-from mkcheck_tools.answers.graphs import find_checker
+from mkcheck_tools.answers.checkers import Checker, find_checker
 from mkcheck_tools.book.note_files import with_doubts
 from mkcheck_tools.faults import Fault
-from mkcheck_tools.report.asking import Checker
 from mkcheck_tools.report.escaping import clipped, visible
 from mkcheck_tools.report.judging import Judged, graph_and_book, judge
 from mkcheck_tools.report.page import page
 from mkcheck_tools.report.pictures import whole
 from mkcheck_tools.report.sarif import sarif
 from mkcheck_tools.run.ending import ended, write_text
+from mkcheck_tools.run.places import Place
 
 ABOUT = "Has mkcheck judge a build, and shows the answer: a page, SARIF, or the graph for Graphviz."
 STATUS = (
@@ -56,7 +56,8 @@ def checker_of(asked: argparse.Namespace) -> Checker:
             raise Fault(f"{name} is no file that can be read several times; give a file")
     options = (*(["-f", asked.f] if asked.f is not None else []), *(["-r"] if asked.r else []))
     program = find_checker(Path(sys.argv[0]).resolve().parent)
-    return Checker(program, asked.f, options, asked.b, tuple(asked.words))
+    folder = os.getcwd()
+    return Checker(program, Place(folder, folder), options, tuple(asked.words), asked.b)
 
 
 def report(asked: argparse.Namespace) -> int:
@@ -92,7 +93,7 @@ def output_of(asked: argparse.Namespace, checker: Checker) -> str | None:
     path = asked.o or ("-" if asked.sarif or asked.dot else "report.html")
     if path == "-":
         return None
-    judged = [os.path.realpath(name) for name in (checker.makefile_name(), str(asked.b))]
+    judged = [os.path.realpath(name) for name in (checker.makefile, str(asked.b))]
     if os.path.realpath(path) in judged:
         raise Fault(f"-o {path} is a file that is judged; name another one")
     return path

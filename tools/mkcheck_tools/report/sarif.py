@@ -10,9 +10,10 @@ import os
 from typing import Any
 from urllib.parse import quote
 
+from mkcheck_tools.answers.findings import KINDS, Group
 from mkcheck_tools.answers.graphs import goes_on
+from mkcheck_tools.answers.refusals import Refusal
 from mkcheck_tools.judge.notes import Kind, Note
-from mkcheck_tools.report.answers import KINDS, Group, Refusal
 from mkcheck_tools.report.escaping import as_sentence, clipped, visible
 from mkcheck_tools.report.judging import Judged
 from mkcheck_tools.report.makefiles import Makefiles

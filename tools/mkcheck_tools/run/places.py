@@ -267,9 +267,15 @@ def run(
                 status, timed_out = -signal.SIGKILL, True
         output.seek(0)
         text = output.read().decode("utf-8", "replace")
+    refuse_unentered(place, status, text)
+    return Ended(status, text, timed_out, process.pid)
+
+
+def refuse_unentered(place: Place, status: int, text: str) -> None:
+    """Refuses a command that wasn't run since its place could not be entered, by its status and
+    what was put out."""
     if status == 125 and text.rstrip().endswith(NOT_ENTERED):
         raise Fault(f"{place.folder} could not be mounted at {place.seen}: {text.strip()}")
-    return Ended(status, text, timed_out, process.pid)
 
 
 @contextlib.contextmanager

@@ -1,13 +1,13 @@
-"""Reads what `mkcheck check` prints, with numbers and in words (`-w`): ways, findings, refusals."""
+"""What `mkcheck check` prints, line by line and in words (`-w`): ways, findings and groups."""
 
 from __future__ import annotations
 
 import re
-from dataclasses import dataclass, field, replace
+from dataclasses import dataclass, field
 
+from mkcheck_tools.answers.checkers import NO, Reply
 from mkcheck_tools.faults import Fault
 
-CHANGED = "mkcheck check -w gives another answer than check; the files changed meanwhile"
 # The kinds of findings, worst first.
 KINDS = (
     "race",
@@ -30,13 +30,6 @@ HEAD = re.compile(r"(([^ ]+?)(?::([0-9]+))?): (.*) \[([a-z]+)\]", re.DOTALL)
 ADD, DO, LISTS = "  add: ", "  do: ", ("  targets: ", "  files: ")
 # The line before the groups of races and stale reads that other findings hide.
 THEN = "once these are mended, as far as can be seen now:"
-# A refusal: with its number, then its words, of which the first may be a place; in words, after the
-# place, with its name, and after its sentence a line of the file.
-REFUSED = re.compile(r"refused ([0-9]+)(?: (.*))?", re.DOTALL)
-NAMED = re.compile(r"([A-Za-z:]+) \(([0-9]+)\)")
-# The faults of a makefile whose word is told in sentences alone. It has no blanks.
-TOLD_IN_WORDS = ("BadName", "ArchiveMember")
-PLACED = re.compile(r"([^ ]+):([0-9]+)(?: (.*))?", re.DOTALL)
 
 
 @dataclass(frozen=True)
@@ -74,18 +67,22 @@ class Way:
 
 
 @dataclass(frozen=True)
-class Refusal:
-    """A refusal: its number, its name, its words, its sentence, how `check` prints it without
-    words, the line of the file that it prints, and its place if it has one."""
+class Answer:
+    """What `check` answers: a yes, its line and its ways, or a no, its findings."""
 
-    number: int
-    name: str
-    words: str
-    sentence: str
-    text: str
-    shown: str = ""
-    file: str | None = None
-    line: int | None = None
+    yes: str = ""
+    ways: tuple[Way, ...] = ()
+    findings: tuple[Finding, ...] = ()
+
+    @property
+    def recipes(self) -> int:
+        """Over how many recipes it is a yes."""
+        return int(self.yes.split(" ")[1]) if self.yes else 0
+
+    @property
+    def reads(self) -> int:
+        """How many files these read."""
+        return int(self.yes.split(" ")[3]) if self.yes else 0
 
 
 @dataclass
@@ -114,6 +111,18 @@ class Group:
         lines = [line for line in self.adds if not line.startswith(".PHONY:")]
         words = (word for line in lines for word in line.partition(":")[2].split(" "))
         return list(dict.fromkeys(filter(None, words)))
+
+
+def answer_of(reply: Reply) -> Answer:
+    """The answer in a reply of `check` that is no refusal."""
+    if reply.status == NO:
+        return Answer(findings=tuple(findings_of(reply.lines)))
+    return Answer(reply.lines[0], tuple(ways_of(reply.lines)))
+
+
+def varying_in(answer: Answer) -> list[str]:
+    """The targets whose commands use `$?`, by a no."""
+    return [one.names[0] for one in answer.findings if one.kind == "varying"]
 
 
 def findings_of(lines: list[str]) -> list[Finding]:
@@ -159,25 +168,3 @@ def groups_of(lines: list[str], makefile: str) -> tuple[list[Group], list[str]]:
             file, number = (makefile, None) if head[1] == makefile else (head[2], head[3])
             groups.append(Group(file, int(number) if number else None, head[5], head[4]))
     return groups, notes
-
-
-def refusal_of(numbered: str, worded: str) -> Refusal:
-    """The refusal that is printed in these two ways."""
-    found = REFUSED.fullmatch(numbered)
-    if found is None:
-        raise Fault(f"mkcheck printed a line that no refusal has: {numbered[:80]!r}")
-    words, front, place = found[2] or "", "", PLACED.fullmatch(found[2] or "")
-    if place is not None and worded.startswith(f"{place[1]}:{place[2]}: "):
-        words, front = place[3] or "", f"{place[1]}:{place[2]}: "
-    named = NAMED.match(worded, len(front))
-    behind = f": {words}: " if words else ": "
-    if named is None or named[2] != found[1] or not worded.startswith(behind, named.end()):
-        raise Fault(CHANGED)
-    sentence = worded[named.end() + len(behind) :]
-    if named[1] in TOLD_IN_WORDS and not words:
-        words, _, sentence = sentence.partition(": ")
-    sentence, _, shown = sentence.partition("\n")
-    refusal = Refusal(int(found[1]), named[1], words, sentence, numbered, shown[2:])
-    if front and place is not None:
-        return replace(refusal, file=place[1], line=int(place[2]))
-    return refusal
