@@ -1,4 +1,4 @@
-"""The program mkcheck is run in one way, and what is no reply is a fault that says what happened."""
+"""How mkcheck is run: what is no reply of it is a fault that says what happened."""
 
 from __future__ import annotations
 

@@ -6,10 +6,13 @@ import json
 import os
 import random
 import subprocess
+import tempfile
 import unittest
+from collections.abc import Sequence
 from pathlib import Path
 
 from mkcheck_tools.book import formats
+from mkcheck_tools.book.footprint_files import Footprints, Record, read_footprints
 from mkcheck_tools.faults import Fault
 from recorder.project import MKCHECK, ProjectTest
 
@@ -17,9 +20,16 @@ RECIPES, HEADERS = 70, 5000
 checked = unittest.skipUnless(os.access(MKCHECK, os.X_OK), "no mkcheck")
 
 
-def record(target: str, reads: list[str]) -> dict:
-    """A record of format 1."""
-    return {"target": target, "commands": [f"cc -c {target}"], "reads": reads, "writes": [target]}
+def record(target: str, reads: list[str]) -> Record:
+    """A record of a recipe that compiles."""
+    return Record(target, [f"cc -c {target}"], reads, [target])
+
+
+def footprints(
+    records: list[Record], goals: list[str], sources: Sequence[str] = (), fixed: Sequence[str] = ()
+) -> Footprints:
+    """What a file holds with these records."""
+    return Footprints(list(fixed), list(sources), {one.target: one for one in records}, goals)
 
 
 def reads_of(book: dict) -> dict[str, set[str]]:
@@ -48,18 +58,18 @@ class SharingTest(unittest.TestCase):
         ]
 
     def test_the_same_headers_for_each_recipe(self) -> None:
-        self.assertGreater(len(formats.first([], [], self.records)), 16_777_216)
-        text = formats.text_of(["/usr/"], ["o0.c"], ["o0.o"], self.records)
+        self.assertGreater(len(formats.first(footprints(self.records, []))), 16_777_216)
+        text = formats.text_of(footprints(self.records, ["o0.o"], ["o0.c"], ["/usr/"]))
         self.assertLess(len(text), 2_000_000)
         book = json.loads(text)
         self.assertEqual((book["format"], book["fixed"], book["sources"]), (2, ["/usr/"], ["o0.c"]))
         self.assertEqual(book["groups"][0]["goals"], ["o0.o"])
-        self.assertEqual(reads_of(book), {one["target"]: set(one["reads"]) for one in self.records})
+        self.assertEqual(reads_of(book), {one.target: set(one.reads) for one in self.records})
         lines = text.splitlines()
         self.assertEqual(len([line for line in lines if line.startswith('{"target":')]), RECIPES)
 
     def test_short_footprints_are_of_format_1(self) -> None:
-        text = formats.text_of([], [], ["o0.o"], self.records[:20])
+        text = formats.text_of(footprints(self.records[:20], ["o0.o"]))
         self.assertEqual(json.loads(text)["format"], 1)
 
     def test_lists_of_any_shape(self) -> None:
@@ -68,10 +78,10 @@ class SharingTest(unittest.TestCase):
         records = [
             record(f"o{at}", numbers.sample(names, numbers.randrange(200))) for at in range(40)
         ]
-        text = formats.second([], [], ["o1", "o2"], records)
-        self.assertLess(len(text), len(formats.first([], [], records)))
+        text = formats.second(footprints(records, ["o1", "o2"]))
+        self.assertLess(len(text), len(formats.first(footprints(records, []))))
         book = json.loads(text)
-        self.assertEqual(reads_of(book), {one["target"]: set(one["reads"]) for one in records})
+        self.assertEqual(reads_of(book), {one.target: set(one.reads) for one in records})
 
     def test_what_mkcheck_would_not_read(self) -> None:
         records = [
@@ -81,7 +91,22 @@ class SharingTest(unittest.TestCase):
         with self.assertRaisesRegex(
             Fault, "mkcheck reads at most 16,777,216 of a file: record fewer goals"
         ):
-            formats.text_of([], [], [], records)
+            formats.text_of(footprints(records, []))
+
+    def test_both_formats_are_read_as_they_were_written(self) -> None:
+        read = Path(self.enterContext(tempfile.TemporaryDirectory()), "book")
+        kept = footprints(self.records[:20], ["o0.o", "o1.o"], ["o0.c"], ["/usr/"])
+        for text in (formats.first(kept), formats.second(kept)):
+            read.write_text(text)
+            found = read_footprints(str(read))
+            self.assertEqual((found.fixed, found.sources), (["/usr/"], ["o0.c"]))
+            self.assertEqual(list(found.records), [one.target for one in self.records[:20]])
+            for one in found.records.values():
+                self.assertEqual(set(one.reads), set(kept.records[one.target].reads))
+        self.assertEqual(found.goals, ["o0.o", "o1.o"])
+        self.assertEqual(len(read_footprints(str(read), ["o0.o", "o1.o"]).records), 20)
+        with self.assertRaisesRegex(Fault, "can't be read as footprints"):
+            read_footprints(str(read), ["other"])
 
     def test_names_of_lists(self) -> None:
         self.assertEqual(
@@ -119,8 +144,8 @@ class AnswerTest(ProjectTest):
                 if at
             ]
             records.insert(0, record(goals[0], headers))
-            one = formats.first([], headers, records)
-            two = formats.second([], headers, ["all"], records)
+            one = formats.first(footprints(records, [], headers))
+            two = formats.second(footprints(records, ["all"], headers))
             self.assertEqual((json.loads(one)["format"], json.loads(two)["format"]), (1, 2))
             status, said = self.answers(one)
             other_status, other_said = self.answers(two)

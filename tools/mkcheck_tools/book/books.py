@@ -1,12 +1,12 @@
-"""Recorded footprints with what they presume: the sources and the fixed prefixes."""
+"""The footprint file of a recording: its sources, its fixed prefixes, and that it says enough."""
 
 from __future__ import annotations
 
-from dataclasses import dataclass, replace
+from dataclasses import replace
 
 from mkcheck_tools.answers.graphs import Graph
 from mkcheck_tools.answers.unrecorded import Unrecorded
-from mkcheck_tools.book import formats
+from mkcheck_tools.book.footprint_files import Footprints, Record
 from mkcheck_tools.faults import Fault, RecipeFault
 from mkcheck_tools.judge.footprints import Footprint
 from mkcheck_tools.judge.late import Late
@@ -18,21 +18,6 @@ BUILT_BEFORE = (
     "the folder holds files that recipes write, and without them the makefile means something else."
     " They were built before, so remove them, and record again:"
 )
-
-
-@dataclass(frozen=True)
-class Book:
-    """Footprints, the fixed prefixes and sources that they presume, and the recorded goals."""
-
-    fixed: list[str]
-    sources: list[str]
-    footprints: list[Footprint]
-    goals: list[str]
-
-    def text(self) -> str:
-        """The file."""
-        records = [footprint.record() for footprint in self.footprints]
-        return formats.text_of(self.fixed, self.sources, self.goals, records)
 
 
 def used(asked: list[str], names: set[str]) -> list[str]:
@@ -47,8 +32,8 @@ def make_book(
     footprints: list[Footprint],
     warn: Warn,
     late: Late | None = None,
-) -> Book:
-    """The book.
+) -> Footprints:
+    """The footprint file.
 
     Its sources are the files that the graph names and that recipes read, and none that recipes
     write. `late` has the late files of recipes, where it is to be told which weren't tested.
@@ -68,7 +53,12 @@ def make_book(
     ]
     if not is_same(replace(build, fixed=fixed, files=sources), graph):
         raise meaning_fault(replace(build, fixed=fixed), graph, footprints)
-    return Book(fixed, sources, footprints, graph.goals)
+    records = [
+        Record(footprint.recipe.target, footprint.recipe.lines, footprint.reads, footprint.writes)
+        for footprint in footprints
+    ]
+    by_target = {record.target: record for record in records}
+    return Footprints(fixed, sources, by_target, graph.goals)
 
 
 def is_same(build: Unrecorded, graph: Graph) -> bool:

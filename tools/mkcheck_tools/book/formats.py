@@ -3,9 +3,10 @@
 from __future__ import annotations
 
 import json
-from collections.abc import Sequence
-from dataclasses import dataclass
+from collections.abc import Iterable, Sequence
+from dataclasses import asdict, dataclass
 
+from mkcheck_tools.book.footprint_files import Footprints, Record
 from mkcheck_tools.faults import Fault
 
 # Above this many bytes format 2 is written.
@@ -16,25 +17,24 @@ FILE_AT_MOST = 16_777_216
 LIST_COSTS = 8
 DIGITS = "0123456789abcdefghijklmnopqrstuvwxyz"
 
-Record = dict[str, object]
+# A JSON object.
+Value = dict[str, object]
 
 
 @dataclass(frozen=True)
 class Shared:
     """Records of format 2, and their lists by name."""
 
-    records: list[Record]
+    records: list[Value]
     lists: dict[str, list[str]]
 
 
-def text_of(
-    fixed: list[str], sources: list[str], goals: list[str], records: Sequence[Record]
-) -> str:
+def text_of(footprints: Footprints) -> str:
     """The file. Format 1 serves any goals, format 2 these alone."""
-    text = first(fixed, sources, records)
+    text = first(footprints)
     if len(text.encode("utf-8")) <= FORMAT_1_AT_MOST:
         return text
-    text = second(fixed, sources, goals, records)
+    text = second(footprints)
     size = len(text.encode("utf-8"))
     if size > FILE_AT_MOST:
         raise Fault(
@@ -44,24 +44,29 @@ def text_of(
     return text
 
 
-def first(fixed: list[str], sources: list[str], records: Sequence[Record]) -> str:
+def first(footprints: Footprints) -> str:
     """The text of format 1: readable, with a record on a line."""
-    head = f'{{"format":1,"fixed":{compact(fixed)},"sources":{compact(sources)},"records":['
-    return f"{head}{lines(map(compact, records))}]}}\n"
+    values = (asdict(record) for record in footprints.records.values())
+    return f'{{"format":1,{presumed(footprints)},"records":[{lines(map(compact, values))}]}}\n'
 
 
-def second(
-    fixed: list[str], sources: list[str], goals: list[str], records: Sequence[Record]
-) -> str:
+def second(footprints: Footprints) -> str:
     """The text of format 2, with one group: a list and a record on a line each."""
-    shared = share(records)
+    shared = share(list(footprints.records.values()))
     lists = lines(f"{compact(name)}:{compact(names)}" for name, names in shared.lists.items())
-    head = f'{{"format":2,"fixed":{compact(fixed)},"sources":{compact(sources)}'
-    group = f'{{"goals":{compact(goals)},"records":[{lines(map(compact, shared.records))}]}}'
-    return f'{head},"lists":{{{lists}}},"groups":[\n{group}]}}\n'
+    head = f'{{"format":2,{presumed(footprints)},"lists":{{{lists}}}'
+    values = lines(map(compact, shared.records))
+    group = f'{{"goals":{compact(footprints.goals)},"records":[{values}]}}'
+    return f'{head},"groups":[\n{group}]}}\n'
 
 
-def lines(texts) -> str:  # type: ignore[no-untyped-def]
+def presumed(footprints: Footprints) -> str:
+    """What the records presume, as both formats have it."""
+    fixed, sources = compact(footprints.fixed), compact(footprints.sources)
+    return f'"fixed":{fixed},"sources":{sources}'
+
+
+def lines(texts: Iterable[str]) -> str:
     """These texts, each on a line of its own, with commas between them."""
     return ",".join("\n" + text for text in texts)
 
@@ -75,7 +80,7 @@ def share(records: Sequence[Record]) -> Shared:
     """The same records, with a list for files that the same records read, if that is shorter."""
     readers: dict[str, list[int]] = {}
     for number, record in enumerate(records):
-        for name in reads_of(record):
+        for name in dict.fromkeys(record.reads):
             readers.setdefault(name, []).append(number)
     groups: dict[tuple[int, ...], list[str]] = {}
     for name, numbers in readers.items():
@@ -89,19 +94,13 @@ def share(records: Sequence[Record]) -> Shared:
         if (readings - 1) * size > LIST_COSTS + len(called) + readings * (len(called) + 3):
             lists[called] = names
             list_of.update(dict.fromkeys(names, called))
-    found: list[Record] = []
+    found: list[Value] = []
     for record in records:
-        own = [name for name in reads_of(record) if name not in list_of]
-        shared = list(dict.fromkeys(list_of[name] for name in reads_of(record) if name in list_of))
-        found.append({**record, "reads": own, "shared": shared})
+        reads = dict.fromkeys(record.reads)
+        own = [name for name in reads if name not in list_of]
+        shared = list(dict.fromkeys(list_of[name] for name in reads if name in list_of))
+        found.append({**asdict(record), "reads": own, "shared": shared})
     return Shared(found, lists)
-
-
-def reads_of(record: Record) -> list[str]:
-    """The files that a record reads, each once."""
-    reads = record["reads"]
-    assert isinstance(reads, list)
-    return list(dict.fromkeys(reads))
 
 
 def name_of(number: int) -> str:

@@ -14,8 +14,8 @@ from __future__ import annotations
 
 from dataclasses import replace
 
+from mkcheck_tools.book.footprint_files import Footprints, Record
 from mkcheck_tools.imports.builds import Build, Command, Kind, Node, Setting
-from mkcheck_tools.imports.footprints import Footprints, Record
 from mkcheck_tools.imports.plain import is_phony, is_writable
 
 COMMAND = ": restat"

@@ -12,6 +12,8 @@ from mkcheck_tools.answers.checkers import NO, REFUSED, Checker, Reply
 from mkcheck_tools.answers.findings import THEN, answer_of
 from mkcheck_tools.answers.graphs import read_graph
 from mkcheck_tools.answers.refusals import CYCLE, NO_RULE, numbered
+from mkcheck_tools.book.footprint_files import Footprints, Record, read_footprints
+from mkcheck_tools.book.formats import first
 from mkcheck_tools.book.note_files import Noted, path_of_notes, read_notes, text_of_notes
 from mkcheck_tools.book.states import Unusable, path_of_state
 from mkcheck_tools.book.states import read as read_state
@@ -20,7 +22,6 @@ from mkcheck_tools.faults import Fault
 from mkcheck_tools.imports.alike import HANDING_ON, passing_through
 from mkcheck_tools.imports.builds import Build, Kind, Node
 from mkcheck_tools.imports.copies import Tail, run_here
-from mkcheck_tools.imports.footprints import Footprints, Record, read_footprints, text_of
 from mkcheck_tools.imports.plain import Names, goal_of, makefile, names_of, order_name
 from mkcheck_tools.judge.notes import Kind as NoteKind
 from mkcheck_tools.judge.notes import Note
@@ -313,7 +314,7 @@ class Judge:
         }
         sources = [word(name) for name in footprints.sources]
         book = Footprints(footprints.fixed, sources, records)
-        text = text_of(book)
+        text = first(book)
         write(self.path("footprint.json"), text)
         write(path_of_notes(self.path("footprint.json")), text_of_notes(text, noted.notes))
 

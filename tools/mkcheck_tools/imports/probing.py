@@ -12,9 +12,9 @@ import re
 import shutil
 from collections.abc import Iterable, Iterator
 
+from mkcheck_tools.book.footprint_files import Footprints, Record
 from mkcheck_tools.imports.builds import Build, Node, path_name
 from mkcheck_tools.imports.copies import run_here
-from mkcheck_tools.imports.footprints import Footprints, Record
 from mkcheck_tools.imports.gnumake import content
 from mkcheck_tools.imports.plain import shell_text
 from mkcheck_tools.imports.readings import followed

@@ -5,8 +5,8 @@ from __future__ import annotations
 import os
 from dataclasses import dataclass, field
 
+from mkcheck_tools.book.footprint_files import Footprints
 from mkcheck_tools.imports.builds import Build, Kind, Node
-from mkcheck_tools.imports.footprints import Footprints
 from mkcheck_tools.imports.judging import UNAWARE, BuildFinding
 
 OTHERS = {

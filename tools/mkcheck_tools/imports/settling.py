@@ -4,9 +4,9 @@ from __future__ import annotations
 
 import os
 
+from mkcheck_tools.book.footprint_files import Footprints, Record
 from mkcheck_tools.imports.alike import split_alike
 from mkcheck_tools.imports.builds import Build, Command, Kind, Node
-from mkcheck_tools.imports.footprints import Footprints, Record
 from mkcheck_tools.imports.ordering import Order
 from mkcheck_tools.imports.readings import all_need, followed
 

@@ -89,11 +89,6 @@ class Footprint:
     tried: frozenset[str] = frozenset()
     """Those of them for whose lock it wouldn't have waited, or only for a while."""
 
-    def record(self) -> dict[str, object]:
-        """The record of format 1."""
-        target, commands = self.recipe.target, self.recipe.lines
-        return {"target": target, "commands": commands, "reads": self.reads, "writes": self.writes}
-
 
 def kind_of(tree: Tree, path: str) -> int:
     """The kind of what stands at a path itself; 0 where nothing does."""

@@ -8,7 +8,9 @@ import os
 import sys
 from dataclasses import dataclass, replace
 
-from mkcheck_tools.book.books import Book, make_book
+from mkcheck_tools.book import formats
+from mkcheck_tools.book.books import make_book
+from mkcheck_tools.book.footprint_files import Footprints
 from mkcheck_tools.book.note_files import path_of_notes, text_of_notes
 from mkcheck_tools.book.states import Unusable, path_of_state
 from mkcheck_tools.book.updating import FIRST_TIME, Conditions, Updating, believed
@@ -259,7 +261,7 @@ def result_of(build: Build, recorded: Recorded, verdict: ReplayVerdict, warn: Wa
     found = with_met(recorded.footprints, recorded.late, verdict.met)
     while footprints := [one for one in found if one.recipe.target not in failed]:
         try:
-            text = book_of(build, recorded, footprints, warn).text()
+            text = formats.text_of(book_of(build, recorded, footprints, warn))
             return Result(footprints, text, failures)
         except RecipeFault as fault:
             if not fault.targets:
@@ -268,10 +270,12 @@ def result_of(build: Build, recorded: Recorded, verdict: ReplayVerdict, warn: Wa
             failures += [Failure(target, str(fault)) for target in fault.targets]
     if failures or recorded.failures:
         return Result([], None, failures)
-    return Result([], book_of(build, recorded, [], warn).text(), failures)
+    return Result([], formats.text_of(book_of(build, recorded, [], warn)), failures)
 
 
-def book_of(build: Build, recorded: Recorded, footprints: list[Footprint], warn: Warn) -> Book:
+def book_of(
+    build: Build, recorded: Recorded, footprints: list[Footprint], warn: Warn
+) -> Footprints:
     """The footprint file with these footprints."""
     return make_book(build.unrecorded, build.graph, footprints, warn, recorded.looked_late)
 

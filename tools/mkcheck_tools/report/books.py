@@ -5,13 +5,13 @@ from __future__ import annotations
 from dataclasses import dataclass
 
 from mkcheck_tools.answers.graphs import Graph
-from mkcheck_tools.imports.footprints import Record, read_footprints
+from mkcheck_tools.book.footprint_files import Record, read_footprints
 
 
 @dataclass(frozen=True)
-class Book:
-    """The fixed prefixes, the sources, the records of reached recipes by target, and for each file
-    the targets whose recipes write it."""
+class Reached:
+    """The footprints that count for a graph: the fixed prefixes, the sources, the records of
+    reached recipes by target, and for each file the targets whose recipes write it."""
 
     fixed: tuple[str, ...]
     sources: frozenset[str]
@@ -29,9 +29,9 @@ class Book:
         return next(iter(self.writers.get(name, [])), name)
 
 
-def book_of(path: str, graph: Graph) -> Book:
+def book_of(path: str, graph: Graph) -> Reached:
     """The footprints that count for a graph."""
     found = read_footprints(path, graph.goals)
     recipes = [node.name for node in graph.nodes.values() if node.recipe]
     found.records = {name: found.records[name] for name in recipes if name in found.records}
-    return Book(tuple(found.fixed), frozenset(found.sources), found.records, found.writers)
+    return Reached(tuple(found.fixed), frozenset(found.sources), found.records, found.writers)

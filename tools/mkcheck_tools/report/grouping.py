@@ -11,7 +11,7 @@ from dataclasses import dataclass
 
 from mkcheck_tools.answers.findings import Finding, Group
 from mkcheck_tools.answers.graphs import Graph
-from mkcheck_tools.report.books import Book
+from mkcheck_tools.report.books import Reached
 
 # Kinds that a line to add may mend.
 PAIRED = ("race", "stale", "loose")
@@ -31,7 +31,7 @@ class Topic:
 class Grouping:
     """Gives each finding its group."""
 
-    def __init__(self, groups: list[Group], book: Book, graph: Graph) -> None:
+    def __init__(self, groups: list[Group], book: Reached, graph: Graph) -> None:
         self.groups, self.book, self.graph = groups, book, graph
         # The targets of the lines to add, with their prerequisites, by the kind of their group.
         self.lines: dict[tuple[str, str], list[frozenset[str]]] = {}

@@ -18,7 +18,7 @@ from mkcheck_tools.answers.graphs import Graph, read_graph
 from mkcheck_tools.answers.refusals import CHANGED, Refusal, Refused, refusal_of
 from mkcheck_tools.book.note_files import Noted, read_notes
 from mkcheck_tools.faults import Fault
-from mkcheck_tools.report.books import Book, book_of
+from mkcheck_tools.report.books import Reached, book_of
 from mkcheck_tools.report.escaping import counted, visible
 from mkcheck_tools.report.grouping import Grouping
 
@@ -32,7 +32,7 @@ class Judged:
     makefile: str
     status: int
     graph: Graph = field(default_factory=Graph)
-    book: Book = field(default_factory=lambda: Book((), frozenset(), {}, {}))
+    book: Reached = field(default_factory=lambda: Reached((), frozenset(), {}, {}))
     refusal: Refusal | None = None
     yes: str = ""
     ways: list[Way] = field(default_factory=list)
@@ -67,7 +67,7 @@ class Judged:
         return [group for group in self.groups if group.kind == kind]
 
 
-def graph_and_book(checker: Checker) -> tuple[Graph, Book]:
+def graph_and_book(checker: Checker) -> tuple[Graph, Reached]:
     """The graph, and the footprints that count for it."""
     reply = checker.ask("graph")
     if reply.status != 0:

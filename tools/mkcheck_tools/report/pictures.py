@@ -9,7 +9,7 @@ import xml.etree.ElementTree as Tree
 from dataclasses import dataclass, field
 
 from mkcheck_tools.answers.graphs import Graph
-from mkcheck_tools.report.books import Book
+from mkcheck_tools.report.books import Reached
 from mkcheck_tools.report.escaping import dot_string, markup, shortened
 
 SVG = "http://www.w3.org/2000/svg"
@@ -90,7 +90,7 @@ class Drawing:
         return "\n".join([*lines, "}", ""])
 
 
-def whole(graph: Graph, book: Book, short: bool) -> Drawing:
+def whole(graph: Graph, book: Reached, short: bool) -> Drawing:
     """The whole graph. Edges that are missing are files that a recipe reads and doesn't list, and
     that can change."""
     drawing = Drawing(short=short)

@@ -1,4 +1,4 @@
-"""Reads and writes the files of footprints, for one set of goals."""
+"""What a footprint file holds for one set of goals, and how it is read; `formats` writes it."""
 
 from __future__ import annotations
 
@@ -21,11 +21,13 @@ class Record:
 
 @dataclass
 class Footprints:
-    """What a recording found."""
+    """Records by their targets, with what they presume: the fixed prefixes and the sources."""
 
     fixed: list[str] = field(default_factory=list)
     sources: list[str] = field(default_factory=list)
     records: dict[str, Record] = field(default_factory=dict)
+    goals: list[str] = field(default_factory=list)
+    """The goals, where they are known: format 1 serves any."""
 
     def is_fixed(self, name: str) -> bool:
         """Whether a file never changes."""
@@ -51,7 +53,7 @@ def read_footprints(path: str, goals: list[str] | None = None) -> Footprints:
         if goals is not None and values["format"] != 1:
             groups = [group for group in groups if group["goals"] == goals]
         records = groups[0]["records"]
-        found = Footprints(values["fixed"], values["sources"])
+        found = Footprints(values["fixed"], values["sources"], goals=groups[0].get("goals", []))
         for value in records:
             shared = [name for word in value.get("shared", []) for name in lists[word]]
             reads = list(dict.fromkeys([*value["reads"], *shared]))
@@ -60,23 +62,3 @@ def read_footprints(path: str, goals: list[str] | None = None) -> Footprints:
     except (OSError, ValueError, LookupError, TypeError, AttributeError) as error:
         raise Fault(f"{path} can't be read as footprints: {error}") from None
     return found
-
-
-def text_of(footprints: Footprints) -> str:
-    """The text of a file of format 1."""
-    records = ",\n".join(
-        json.dumps(
-            {
-                "target": record.target,
-                "commands": record.commands,
-                "reads": record.reads,
-                "writes": record.writes,
-            },
-            ensure_ascii=False,
-            separators=(",", ":"),
-        )
-        for record in footprints.records.values()
-    )
-    fixed = json.dumps(footprints.fixed, ensure_ascii=False)
-    sources = json.dumps(footprints.sources, ensure_ascii=False)
-    return f'{{"format":1,"fixed":{fixed},\n"sources":{sources},\n"records":[\n{records}]}}\n'
