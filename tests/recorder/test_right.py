@@ -177,6 +177,48 @@ class LookTest(RightTest):
         outcome = self.yes({"makefile": "out: a b\n\ttar cf out a b\n", "a": "", "b": "text\n"})
         self.assertEqual(outcome.own("out"), ({"a", "b"}, {"out"}))
 
+    def test_the_size_of_an_empty_file(self) -> None:
+        for way in (
+            "if test -s e; then echo 1; else echo 2; fi > out; cat x >> out",
+            "[ -s e ] && cat x x > out || cat x > out",
+            "find . -name e -size 0 > out; cat x >> out",
+            "find . -name e -size +0 > out; cat x >> out",
+        ):
+            for folder in ("serial", "parallel", "clean e"):
+                shutil.rmtree(self.scratch / folder, ignore_errors=True)
+            files = {"makefile": f"out: x e\n\t{way}\n", "x": "1\n", "e": ""}
+            outcome = self.yes(files, edits={"e": "text\n"})
+            self.assertEqual((outcome.own("out"), outcome.errors), (({"x", "e"}, {"out"}), ""), way)
+
+    def test_the_stamps_of_sources(self) -> None:
+        """A clean build finds the same ones, and each edit of one runs the recipe."""
+        way = "if test x -nt e; then echo 1; else echo 2; fi > out"
+        self.write({"makefile": f"out: x e\n\t{way}\n", "x": "1\n", "e": ""})
+        for stamps in ((1e9, 1e9), (1e9, 2e9), (2e9, 1e9)):
+            for name, stamp in zip("xe", stamps):
+                os.utime(self.folder / name, (stamp, stamp))
+            outcome = self.recorded()
+            self.assertEqual(outcome.own("out"), ({"x", "e"}, {"out"}), stamps)
+            self.assertEqual(self.check()[0][:4], "yes ")
+
+    def test_the_size_of_a_file_that_another_target_needs(self) -> None:
+        way = "if test -s e; then echo 1; else echo 2; fi > out; cat x >> out"
+        self.write({"makefile": f"all: out two\nout: x\n\t{way}\ntwo: e\n\tcp e two\n"})
+        self.write({"x": "1\n", "e": ""})
+        outcome = self.record("all")
+        self.assertTrue(outcome.lacks("out"), outcome.errors)
+        self.assertIn("\n\tit looks at e\n", outcome.errors)
+
+    def test_the_sizes_of_a_file_that_counts_and_of_another_one(self) -> None:
+        """That it depends on `f` shows also where it depends on what counts as read."""
+        way = "for i in e f; do if test -s $$i; then echo $$i; fi; done > out; cat x >> out"
+        for rules in (f"out: x e\n\t{way}\n", f"out: x e\n\t{way}\ne: y\n\tgrep none y > e || :\n"):
+            self.write({"makefile": rules, "x": "1\n", "y": "2\n", "f": ""})
+            (self.folder / "e").write_text("")
+            outcome = self.record()
+            self.assertTrue(outcome.lacks("out"), outcome.errors)
+            self.assertIn("\n\tit looks at f\n", outcome.errors)
+
     def test_a_file_that_a_recipe_makes_beside_a_source(self) -> None:
         outcome = self.yes(
             {"makefile": "out: a b\n\ttest -e a && test -e b && ls a b > out\na: x\n\tcp x a\n"}

@@ -5,12 +5,13 @@ from __future__ import annotations
 import contextlib
 import os
 import time
-from collections.abc import Iterable, Mapping
+from collections.abc import Container, Iterable, Mapping
 from dataclasses import dataclass, replace
 
 from mkcheck_tools.replay.differences import Difference, changed
 from mkcheck_tools.replay.layouts import lay_other
 from mkcheck_tools.replay.runs import LOOKED, Outcome, Runner
+from mkcheck_tools.replay.stamps import with_later_stamps
 from mkcheck_tools.replay.surroundings import NAMES, Surroundings, beside
 from mkcheck_tools.replay.versions import Version, lay
 from mkcheck_tools.replay.worlds import GIVEN, Trial, stamp_of, stamps_of
@@ -27,65 +28,85 @@ LARGE, EMPTY, AS_IT_IS = 1 << 30, 0, -1
 
 @dataclass(frozen=True)
 class Look:
-    """What is laid for a run: `others` in other versions, of this size, and `same` as they were.
-    The files in `first` are older than all that the recipe reads, the rest are newer."""
+    """What is laid for a run: `others` in other versions, of this size. The files in `first` are
+    older than all that the recipe reads, the rest are newer."""
 
     others: Mapping[str, Version]
-    same: Mapping[str, Version]
     first: frozenset[str]
     size: int
 
 
-@dataclass
+@dataclass(frozen=True)
 class Glances:
-    """Tries whether a recipe depends on files at which it only looks."""
+    """Tries in a place, with these further folders, whether a recipe depends on files at which it
+    only looks."""
 
     runner: Runner
+    place: Place
+    folders: frozenset[str]
 
-    def glancing(
-        self, trial: Trial, place: Place, folders: frozenset[str], outcome: Outcome
-    ) -> tuple[Outcome, Mapping[str, Version]]:
-        """The outcome of a recipe that passed, when it has run beside other versions of the files
-        at which it only looks; and those of them that recipes made, if it depends on these.
+    def deciding(self, trial: Trial) -> tuple[Mapping[str, Version], Outcome | None]:
+        """Those of the files at which a recipe that passed only looks that count as read, since it
+        depends on one of them: files that recipes made, and sources that its target needs. Or a run
+        that shows that it depends on one of the other sources.
 
         An edit makes a file the newest one, and edits of others leave it the oldest one. What is
         always made before another file is never newer, so it isn't made the newest one, and what is
         made from another file isn't made the oldest one. The files are very large, empty, and as
         they are.
         """
+        ancestors, target = self.runner.layout.ancestors, trial.recipe.target
         made, given = self.runner.layout.world.glanced(trial)
-        near = {*trial.before, *made}
-        oldest = frozenset(name for name in made if not self.needs_any(name, near - {name}))
-        newest: frozenset[str] = frozenset()
-        for first, size in ((newest, LARGE), (oldest.union(given), EMPTY), (newest, AS_IT_IS)):
-            look = Look({**made, **given}, {}, first, size)
-            found = self.looking(trial, place, folders, look)
-            if found.passed:
-                continue
-            if given and made:
-                apart = self.looking(trial, place, folders, Look(made, given, first, size))
-                made = {} if apart.passed else made
-            if made:
-                return outcome, made
-            return replace(found, glanced=tuple(sorted(given))), {}
-        return outcome, {}
+        needed = {name: given[name] for name in given if ancestors.any_before((name,), target)}
+        others = {name: version for name, version in given.items() if name not in needed}
+        counted: dict[str, Version] = {}
+        for newest, size in ((True, LARGE), (False, EMPTY), (True, AS_IT_IS)):
+            while True:
+                open_ones = without({**made, **needed}, counted)
+                if self.varied(trial, counted, {**open_ones, **others}, newest, size).passed:
+                    break
+                found = self.varied(trial, {**counted, **open_ones}, others, newest, size)
+                if not found.passed:
+                    return {}, replace(found, glanced=tuple(sorted(others)))
+                for group in (without(made, counted), without(needed, counted)):
+                    rest = {**counted, **without(open_ones, group), **others}
+                    if not self.varied(trial, rest, group, newest, size).passed:
+                        counted |= group
+                        break
+                else:
+                    counted |= open_ones
+        return counted, None
 
-    def looking(
+    def varied(
         self,
         trial: Trial,
-        place: Place,
-        folders: frozenset[str],
-        look: Look,
+        same: Mapping[str, Version],
+        others: Mapping[str, Version],
+        newest: bool,
+        size: int,
     ) -> Outcome:
-        """A run beside other versions of some files, and beside others as they were."""
-        others, same, first = look.others, look.same, look.first
+        """A run beside other versions of some files, the newest ones or the oldest ones, and beside
+        others as they were."""
+        tried = with_later_stamps(self.runner.layout.world, trial.with_reads(same))
+        oldest: frozenset[str] = frozenset()
+        if not newest:
+            near = {*tried.before, *(name for name in others if others[name] != GIVEN)}
+            oldest = frozenset(name for name in others if not self.needs_any(name, near - {name}))
+        return self.looking(tried, Look(others, oldest, size))
+
+    def looking(self, trial: Trial, look: Look) -> Outcome:
+        """A run beside other versions of some files."""
+        others, first, place = look.others, look.first, self.place
         if not others:
             return Outcome(trial)
-        self.runner.layout.furnish(trial, place.folder, folders)
+        self.runner.layout.furnish(trial, place.folder, self.folders)
         found = [
             (name, *self.runner.layout.world.material(name, version))
             for name, version in others.items()
         ]
+        # Files of one stamp come in both orders.
+        if look.size == AS_IT_IS:
+            found.reverse()
         # A source is never newer than what is made from it, so of the oldest ones it comes first.
         later = {name for name in others if name not in first or others[name] != GIVEN}
         found.sort(key=lambda one: (one[0] not in first, one[0] in later, -one[2].stamp))
@@ -96,10 +117,8 @@ class Glances:
         oldest = min(stamps, default=time.time_ns())
         early, late = (stamp - APART * len(found) for stamp in (oldest, time.time_ns()))
         with contextlib.suppress(OSError):
-            for name in [*others, *same]:
+            for name in others:
                 os.makedirs(os.path.dirname(os.path.join(place.folder, name)), exist_ok=True)
-            for name, version in same.items():
-                self.runner.layout.lay(name, version, place.folder, {})
             for number, (name, source, full) in enumerate(found):
                 path = os.path.join(place.folder, name)
                 stamp = (early if name in first else late) + APART * number
@@ -110,7 +129,7 @@ class Glances:
                     lay_other(look.size, path, full.mode, stamp)
             if place.is_bound:
                 Surroundings(frozenset({NAMES})).name_again(place.folder, list(others))
-        around = {name: stamp_of(os.path.join(place.folder, name)) for name in [*others, *same]}
+        around = {name: stamp_of(os.path.join(place.folder, name)) for name in others}
         outcome = self.runner.one(trial, place, LOOKED, stamps_of(trial, place.folder))
         rest = [one for one in outcome.differences if one.name not in around]
         for name, laid in around.items():
@@ -151,3 +170,8 @@ class Glances:
     def as_targets(self, name: str) -> tuple[str, ...]:
         """A file's name, and the targets whose recipes write it."""
         return (name, *self.runner.layout.writers.get(name, ()))
+
+
+def without(files: Mapping[str, Version], names: Container[str]) -> dict[str, Version]:
+    """These files but for some."""
+    return {name: version for name, version in files.items() if name not in names}

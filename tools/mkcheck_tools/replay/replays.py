@@ -269,15 +269,11 @@ class Replay:
                 outcome = self.tried(tried, place, folders)
                 if outcome.run != BARE:
                     seen = self.needed(trial, seen, place, folders)
+                    if outcome.passed:
+                        outcome, more = self.glancing(trial, seen, place, folders, outcome)
+                        seen = {**seen, **more}
                     tried = with_later_stamps(self.world, trial.with_reads(seen))
                     met = Met(seen=frozenset(seen))
-                    if outcome.passed:
-                        outcome, more = Glances(self.runner).glancing(
-                            tried, place, folders, outcome
-                        )
-                        met = Met(seen=met.seen | more.keys())
-                        if more:
-                            outcome = self.ordered(trial, {**seen, **more}, place, folders, outcome)
                     if outcome.passed and self.is_by_age(tried, place):
                         outcome = self.listed(tried, place, folders, outcome)
                     if late:
@@ -285,7 +281,7 @@ class Replay:
                         met = replace(self.beside(tried, place, late), seen=met.seen)
                         remove(folder)
                     half = outcome.passed and self.leaves_half(tried, place, folders)
-                    return replace(outcome, met=met, half=half)
+                    return replace(outcome, trial=trial, met=met, half=half)
                 failed.append(outcome)
             absent = trial.known - {*self.layout.folders_of(trial), *folders}
             for outcome, seen in zip(failed, sets):
@@ -424,20 +420,25 @@ class Replay:
             return outcome
         return replace(outcome, amid={**outcome.amid, LISTING: found})
 
-    def ordered(
+    def glancing(
         self,
         trial: Trial,
         seen: Mapping[str, Version],
         place: Place,
         folders: frozenset[str],
         outcome: Outcome,
-    ) -> Outcome:
-        """The outcome of a recipe that passed, when files at which it only looks count as read: it
-        may go by their stamps, and these come in another order too.
+    ) -> tuple[Outcome, Mapping[str, Version]]:
+        """The outcome of a recipe that passed beside these files at which it looked, when it has
+        run beside other versions of the rest of them; and those of the rest that count as read. It
+        has to pass with these as they were, and may go by the order of their stamps.
         """
-        tried = with_later_stamps(self.world, trial.with_reads(seen))
-        found = self.tried(tried, place, folders)
-        return found if found.run == ORDERED else outcome
+        more, shown = Glances(self.runner, place, folders).deciding(trial.with_reads(seen))
+        if shown is not None:
+            return shown, {}
+        if more:
+            tried = with_later_stamps(self.world, trial.with_reads({**seen, **more}))
+            outcome = self.tried(tried, place, folders)
+        return outcome, more
 
     def beside(self, trial: Trial, place: Place, late: tuple[str, ...]) -> Met:
         """Runs a recipe beside its late files, and tells which it uses.
