@@ -13,6 +13,7 @@ from pathlib import Path
 from mkcheck_tools.replay.surroundings import library
 from mkcheck_tools.run import places
 from mkcheck_tools.run.memory import memory
+from mkcheck_tools.run.terminals import has_terminals
 from recorder.project import OF_MAKE, ProjectTest, traced
 
 namespaces = unittest.skipUnless(places.namespace(), "no mount namespace is allowed")
@@ -161,6 +162,74 @@ class AmidTest(SurroundingsTest):
 
     def test_a_recipe_that_goes_by_nothing(self) -> None:
         self.passes("out: a\n\tcat a > out\n")
+
+
+@traced
+@namespaces
+@unittest.skipUnless(has_terminals(), "no pseudo terminals")
+class TerminalTest(SurroundingsTest):
+    """The streams of make are a terminal, as where a user starts it, or none."""
+
+    told = "run at a terminal, as where a user starts make, "
+    asking = "out: a\n\tx=0; test -t NUMBER && x=1; echo $$x > out; cat a >> out\n"
+
+    def at_a_terminal(self) -> str:
+        """What GNU make leaves in `out`, made from nothing at a terminal."""
+        outer, inner = os.openpty()
+        with subprocess.Popen(
+            ["make", "-s"],
+            cwd=self.folder,
+            env={key: value for key, value in os.environ.items() if key not in OF_MAKE},
+            stdin=inner,
+            stdout=inner,
+            stderr=inner,
+        ) as run:
+            self.assertEqual(run.wait(timeout=60), 0)
+        os.close(outer)
+        os.close(inner)
+        text = (self.folder / "out").read_text()
+        (self.folder / "out").unlink()
+        return text
+
+    def test_a_stream_that_is_a_terminal(self) -> None:
+        for number in "012":
+            told = f"{self.told}writes out with other contents: let it do the same"
+            self.doubt(self.asking.replace("NUMBER", number), told)
+            self.assertEqual((self.made(), self.at_a_terminal()), ("0\n1\n", "1\n1\n"))
+
+    def test_a_file_that_is_written_at_a_terminal_alone(self) -> None:
+        text = "out: a\n\ttest -t 2 && cat b >> log; cp a out\n"
+        self.doubt(text, f"{self.told}leaves log, which it didn't leave", files=MANY)
+
+    def test_a_file_that_is_read_at_a_terminal_alone(self) -> None:
+        text = "out: a\n\tcat a > out; if test -t 2; then cat b >> out; fi\n"
+        told = "fails, and looks for b, which it isn't recorded to read"
+        self.doubt(text, self.told + told, files=MANY)
+        self.assertEqual((self.made(), self.at_a_terminal()), ("1\n", "1\n2\n"))
+
+    def test_a_file_that_is_read_with_other_input_alone(self) -> None:
+        text = "out: a\n\tcat a > out; if read x; then cat b >> out; fi\n"
+        told = "with other standard input, fails, and looks for b, which it isn't recorded to read"
+        self.doubt(text, told, files=MANY)
+        self.assertEqual((self.made(), self.made(given="1\n")), ("1\n", "1\n2\n"))
+
+    def test_what_make_says_of_its_terminal(self) -> None:
+        for name in ("MAKE_TERMOUT", "MAKE_TERMERR"):
+            self.doubt(f'out: a\n\techo "$${{{name}:+yes}}" > out\n', self.told)
+            self.assertEqual((self.made(), self.at_a_terminal()), ("\n", "yes\n"))
+
+    def test_what_make_said_to_the_recorder_is_none(self) -> None:
+        self.write({"makefile": 'out: a\n\techo "$${MAKE_TERMOUT:-no}" > out; cat out; exit 3\n'})
+        self.write({"a": ""})
+        outcome = self.record(environment={"MAKE_TERMOUT": "/dev/pts/0"})
+        self.assertTrue(outcome.errors.endswith("\nno\n"), outcome.errors)
+
+    def test_recipes_that_say_other_things_at_a_terminal(self) -> None:
+        for command in ("ls -l --color=auto", "test ! -t 1 || echo hello", "cat", "tty || :"):
+            self.passes(f"out: a\n\t{command}; cp a out\n")
+
+    def test_much_that_is_said_at_a_terminal(self) -> None:
+        self.passes("out: a\n\tseq 100000; cp a out\n")
 
 
 @traced

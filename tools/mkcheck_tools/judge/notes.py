@@ -62,6 +62,7 @@ class Kind(Enum):
     STAMP = ("stamp", DOUBT, "a recipe gives a file an old stamp, or one of the future")
     STEM = ("stem", DOUBT, "`$*` is another one in GNU make")
     STOPPED = ("stopped", HINT, "after a make that was stopped, outputs may have to be removed")
+    TERMINAL = ("terminal", DOUBT, "a recipe writes other contents where it runs at a terminal")
     TRUSTED = ("trusted", DOUBT, "a recipe is taken as it is (`--trust`), and its replay differs")
     TRUSTED_NEEDLESSLY = (
         "trusted-needlessly",

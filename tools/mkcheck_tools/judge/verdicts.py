@@ -16,7 +16,15 @@ from mkcheck_tools.judge.modules import folder_of_modules
 from mkcheck_tools.judge.notes import Kind, Note
 from mkcheck_tools.judge.refusals import listed
 from mkcheck_tools.replay.runs import AGAIN, BARE, DAMAGED, HANDED, LOOKED, ORDERED, VARIED, Outcome
-from mkcheck_tools.replay.surroundings import CLOCK, FLAGS, FOLDERS, INPUT, LISTING, NAMES
+from mkcheck_tools.replay.surroundings import (
+    CLOCK,
+    FLAGS,
+    FOLDERS,
+    INPUT,
+    LISTING,
+    NAMES,
+    TERMINAL,
+)
 from mkcheck_tools.replay.worlds import GIVEN, Trial
 
 SHOWN_AT_MOST = 10
@@ -60,6 +68,11 @@ AMID = {
         Kind.LINKS,
         "where the files that it reads have second names, as hard links are",
         "let it go by what the files hold",
+    ),
+    TERMINAL: (
+        Kind.TERMINAL,
+        "at a terminal, as where a user starts make",
+        "let it do the same wherever its output goes",
     ),
 }
 LAID = " or to look at"
@@ -184,14 +197,17 @@ def judge(
 
 def notes_amid(outcome: Outcome) -> Iterator[Note]:
     """What is to be known of a recipe that passed, and does something else amid other surroundings.
-    A failure is seen, so that counts where another make has these alone."""
+    A failure is seen, so that counts where another make has these alone, or where it may be for a
+    file that the recipe isn't recorded to read."""
     target = outcome.trial.recipe.target
     for kind, other in outcome.amid.items():
-        if other.failed and kind != FLAGS:
+        if other.failed and kind != FLAGS and not other.missing:
             continue
         noted, where, cure = AMID[kind]
-        noted = Kind.ENDS_EARLY if other.failed else noted
+        noted = Kind.ENDS_EARLY if other.failed and not other.missing else noted
         what = "fails" if other.failed else other.differences[0].what
+        if other.missing:
+            what = f"fails, and looks for {listed(other.missing)}, which it isn't recorded to read"
         details = [] if other.failed else other.differences[0].details
         front = f"the recipe of {target}, run {where}, {what}: {cure}"
         yield Note(target, noted, "\n".join([front, *(f"\t{line}" for line in details)]))

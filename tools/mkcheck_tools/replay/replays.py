@@ -310,17 +310,30 @@ class Replay:
             return found
         kind = next((one for one in LIKELY if bench.without(one, others).passed), None)
         if kind is not None:
-            return found_amid(found, {kind: outcome})
+            return found_amid(found, {kind: self.with_missing(bench, outcome, others)})
         stamped = bench.tried(orders.OTHER)
         if not stamped.passed:
             ordered = stamped if bench.tried(orders.EARLIER).passed else bench.ordered()
             if not ordered.passed:
                 return replace(ordered, run=ORDERED)
-        alone = {one: bench.tried(orders.OLD, Surroundings(frozenset({one}))) for one in others}
-        shown = {kind: outcome for kind, outcome in alone.items() if not outcome.passed}
+        shown: dict[str, Outcome] = {}
+        for one in others:
+            amid = Surroundings(frozenset({one}))
+            outcome_amid = bench.tried(orders.OLD, amid)
+            if not outcome_amid.passed:
+                shown[one] = self.with_missing(bench, outcome_amid, amid)
         if shown or not stamped.passed:
             return found_amid(found, shown)
         return replace(outcome, run=VARIED)
+
+    def with_missing(self, bench: Bench, outcome: Outcome, amid: Surroundings) -> Outcome:
+        """What a recipe did amid others; where it failed, with what it then looked for in vain and
+        what was there in the recording."""
+        if not outcome.failed:
+            return outcome
+        missing = self.missing(bench.trial, bench.place, bench.folders, amid)
+        remove(bench.place.folder)
+        return replace(outcome, missing=missing)
 
     def needs_stamps(self, trial: Trial, place: Place, folders: frozenset[str]) -> bool:
         """Whether a recipe that fails or differs passes the bare run where the files that recipes
@@ -389,13 +402,20 @@ class Replay:
                 seen = less
         return seen
 
-    def missing(self, trial: Trial, place: Place, folders: frozenset[str]) -> tuple[str, ...]:
+    def missing(
+        self,
+        trial: Trial,
+        place: Place,
+        folders: frozenset[str],
+        amid: Surroundings = AS_RECORDED,
+    ) -> tuple[str, ...]:
         """What a recipe that fails or differs looks for in vain, and what was there when it was
         recorded."""
         self.layout.furnish(with_later_stamps(self.world, trial), place.folder, folders)
         accesses = Accesses(Tree.of(place))
+        follower = Follower(accesses, place.seen)
         try:
-            self.runner.run_commands(trial, place, Follower(accesses, place.seen), True)
+            self.runner.run_commands(trial, place, follower, True, amid=amid)
         except Fault:
             return ()
         front = place.seen + "/"

@@ -207,7 +207,6 @@ class Runner:
         allowed = LEAST_SECONDS + TIMES_AS_LONG * trial.seconds
         until = time.monotonic() + allowed
         output = ""
-        given = amid.environment(self.environment)
         for command in trial.recipe.commands:
             if self.stopped.is_set():
                 return "it was stopped"
@@ -215,6 +214,7 @@ class Runner:
             if follower is not None:
                 words = [*strace(looking=looking), inner, *words]
             with amid.input() as source:
+                given = amid.environment(self.environment, source)
                 ended = places.run(words, place, given, max(0.0, until - time.monotonic()), source)
             if CLOCK in amid:
                 clear(ended.process)

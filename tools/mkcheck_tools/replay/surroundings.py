@@ -1,5 +1,6 @@
 """What a recipe finds besides its files when it runs again: shell options, variables that make
-sets, the time, standard input, stamps of folders, and second names of the files that it reads.
+sets, the time, standard input, a terminal, stamps of folders, and second names of the files that it
+reads.
 
 The recording has one of each. Where the outputs are there already, the recipe runs amid all others
 at once, which takes no run of its own. Where that run shows something, each is tried alone.
@@ -19,13 +20,16 @@ from dataclasses import dataclass
 
 from mkcheck_tools.answers.graphs import Command
 from mkcheck_tools.replay.worlds import OTHER_BYTES
+from mkcheck_tools.run.terminals import Terminal, has_terminals, terminal
 
 FLAGS, JOBS, CLOCK, INPUT = "flags", "jobs", "clock", "input"
-NAMES, FOLDERS = "names", "folders"
+NAMES, FOLDERS, TERMINAL = "names", "folders", "terminal"
 # A run of its own: folders list their names the other way round.
 LISTING = "listing"
 # What GNU make 4 gives to recipes where it has two jobs.
 OF_JOBS = {"MAKEFLAGS": " -j2 --jobserver-auth=3,4", "MAKELEVEL": "1"}
+# What GNU make 4 gives to recipes where its output goes to a terminal, by the name of that.
+OF_TERMINAL = ("MAKE_TERMOUT", "MAKE_TERMERR")
 # So much later each part of a date is another one: the year, the month, the day of the month and of
 # the week, the hour, the minute.
 LATER = ((400 * 24 + 13) * 60 + 7) * 60 + 9
@@ -62,8 +66,10 @@ class Surroundings:
             words = ["env", *later(library() or ""), *words]
         return words
 
-    def environment(self, given: Mapping[str, str]) -> dict[str, str]:
-        """The variables of a run. Macro operands stay in MAKEFLAGS."""
+    def environment(self, given: Mapping[str, str], source: int | Terminal) -> dict[str, str]:
+        """The variables of a run with this input. Macro operands stay in MAKEFLAGS."""
+        if isinstance(source, Terminal):
+            given = {**given, **dict.fromkeys(OF_TERMINAL, source.name)}
         if JOBS not in self.others:
             return dict(given)
         operands = given.get("MAKEFLAGS", "")
@@ -71,15 +77,19 @@ class Surroundings:
         return {**given, **OF_JOBS, "MAKEFLAGS": flags}
 
     @contextlib.contextmanager
-    def input(self) -> Iterator[int]:
-        """A descriptor for standard input."""
-        if INPUT not in self.others:
+    def input(self) -> Iterator[int | Terminal]:
+        """A descriptor for standard input, or a terminal."""
+        given = OTHER_BYTES if INPUT in self.others else b""
+        if TERMINAL in self.others:
+            with terminal(given) as found:
+                yield found
+        elif not given:
             yield subprocess.DEVNULL
-            return
-        with tempfile.TemporaryFile() as file:
-            file.write(OTHER_BYTES)
-            file.seek(0)
-            yield file.fileno()
+        else:
+            with tempfile.TemporaryFile() as file:
+                file.write(given)
+                file.seek(0)
+                yield file.fileno()
 
     def name_again(self, folder: str, names: Sequence[str]) -> None:
         """Gives files second names beside the folder, which the recipe doesn't see."""
@@ -150,6 +160,8 @@ def all_others(strict: bool, bound: bool) -> Surroundings:
         found.add(NAMES)
     if library() is not None:
         found.add(CLOCK)
+    if has_terminals():
+        found.add(TERMINAL)
     return Surroundings(frozenset(found))
 
 

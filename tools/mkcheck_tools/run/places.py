@@ -25,6 +25,7 @@ from pathlib import Path
 from mkcheck_tools.faults import Fault
 from mkcheck_tools.run import stopping
 from mkcheck_tools.run.folders import temporary_folder
+from mkcheck_tools.run.terminals import Terminal
 from mkcheck_tools.trace.calls import unescaped
 
 # Folders for temporary files, which stay open, and what no file system of a disk holds.
@@ -250,23 +251,27 @@ def run(
     place: Place,
     environment: Mapping[str, str],
     seconds: float | None = None,
-    given: int = subprocess.DEVNULL,
+    given: int | Terminal = subprocess.DEVNULL,
 ) -> Ended:
-    """Runs a command in a place, with no input or the one that is given, and waits until it ends;
-    `seconds` limits its time, after which it is killed.
+    """Runs a command in a place, with no input, the one that is given, or at a terminal, and waits
+    until it ends; `seconds` limits its time, after which it is killed.
 
     The output has both of its streams. However this function ends, all processes of the command's
     group are killed, so that none goes on in the background. Threads may call it.
     """
-    with tempfile.TemporaryFile() as output:
+    with tempfile.TemporaryFile() as file:
         words = place.words(command)
-        with started(words, place.seen, environment, output.fileno(), given) as process:
+        source, output = given, file.fileno()
+        if isinstance(source, Terminal):
+            source = output = source.inner
+        with started(words, place.seen, environment, output, source) as process:
             try:
                 status, timed_out = process.wait(seconds), False
             except subprocess.TimeoutExpired:
                 status, timed_out = -signal.SIGKILL, True
-        output.seek(0)
-        text = output.read().decode("utf-8", "replace")
+        file.seek(0)
+        said = file.read().decode("utf-8", "replace")
+        text = given.text() if isinstance(given, Terminal) else said
     refuse_unentered(place, status, text)
     return Ended(status, text, timed_out, process.pid)
 

@@ -33,7 +33,10 @@ from mkcheck_tools.trace.calls import (
 from mkcheck_tools.trace.makes import Makes
 
 # What a make hands down to the makes that it starts says nothing of this one.
-OF_MAKE = ("MAKEFLAGS", "MAKELEVEL", "MFLAGS", "MAKEOVERRIDES")
+OF_MAKE = (
+    *("MAKEFLAGS", "MAKELEVEL", "MFLAGS", "MAKEOVERRIDES"),
+    *("MAKE_TERMOUT", "MAKE_TERMERR"),
+)
 # A variable of this name that no macro changes, by POSIX.
 SHELL = "SHELL"
 STOPPED = (
