@@ -27,6 +27,7 @@ from mkcheck_tools.judge.verdicts import ReplayVerdict, judge
 from mkcheck_tools.record.building import Build, build_of, makefile_of, removes_on_error
 from mkcheck_tools.record.recording import Recorded, Workshop, record
 from mkcheck_tools.record.request import Request
+from mkcheck_tools.replay.meetings import meetings_of
 from mkcheck_tools.replay.replays import Replay, Replayed
 from mkcheck_tools.run import places
 from mkcheck_tools.run.ending import write_text
@@ -218,7 +219,8 @@ def replay(shop: Workshop, build: Build, recorded: Recorded, warn: Warn) -> Repl
         recorded.late,
         recorded.writers,
         build.graph.once,
-        failing=shop.failing,
+        meetings_of(recorded.footprints, world.trials),
+        shop.failing,
     )
     return replays.run(world.trials)
 

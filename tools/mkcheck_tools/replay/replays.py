@@ -33,6 +33,7 @@ from mkcheck_tools.replay.differences import is_file
 from mkcheck_tools.replay.glances import Glances
 from mkcheck_tools.replay.layouts import Layout
 from mkcheck_tools.replay.listings import Age, age_of, is_listed
+from mkcheck_tools.replay.meetings import Meetings, Turns
 from mkcheck_tools.replay.runs import BARE, HANDED, ORDERED, VARIED, Outcome, Runner
 from mkcheck_tools.replay.stamps import with_later_stamps
 from mkcheck_tools.replay.surroundings import (
@@ -74,8 +75,9 @@ class Replay:
     """Replays the recipes of a world.
 
     `environment` is that of the recipes, and `late` are their late files. `writers` has the targets
-    whose recipes write a file, and `once` those that no make makes again. Where the system allows
-    no mount namespace, the recipes ran at `seen` itself, and are replayed there one at a time.
+    whose recipes write a file, `once` those that no make makes again, and `meetings` what recipes
+    share elsewhere. Where the system allows no mount namespace, the recipes ran at `seen` itself,
+    and are replayed there one at a time.
     """
 
     world: World
@@ -86,6 +88,7 @@ class Replay:
     late: Late = field(default_factory=dict)
     writers: Mapping[str, list[str]] = field(default_factory=dict)
     once: frozenset[str] = frozenset()
+    meetings: Meetings = field(default_factory=dict)
     failing: bool = True
     """Whether each recipe is run once more where writes to its target fail."""
     memory: Memory | None = None
@@ -100,6 +103,11 @@ class Replay:
     def runner(self) -> Runner:
         """What runs the recipes in them."""
         return Runner(self.layout, self.scratch, self.environment, self._stopped)
+
+    @functools.cached_property
+    def turns(self) -> Turns:
+        """What keeps recipes from meeting."""
+        return Turns(self.meetings)
 
     def run(self, trials: list[Trial]) -> Replayed:
         """Replays these recipes, several at a time where that can be. Returns outcomes in order, or
@@ -149,7 +157,8 @@ class Replay:
     def replay_safely(self, trial: Trial, number: int, folders: frozenset[str]) -> Outcome:
         """The same, where an error that nobody thought of costs this recipe alone."""
         try:
-            return self.replay(trial, number, folders)
+            with self.turns.turn(trial.recipe.target):
+                return self.replay(trial, number, folders)
         except Exception as error:
             if isinstance(error, OSError) and error.errno in FULL:
                 raise
@@ -157,7 +166,7 @@ class Replay:
 
     def alone(self, outcomes: list[Outcome]) -> list[Outcome]:
         """The outcomes, where each that shows something is of a replay with no other beside it:
-        two may meet at a port, or at a name elsewhere.
+        two may meet elsewhere by what no trace shows, or need all processors.
 
         One that differs without its outputs is first run as it differed at last.
         """
