@@ -54,8 +54,8 @@ def make_book(
     if not is_same(replace(build, fixed=fixed, files=sources), graph):
         raise meaning_fault(replace(build, fixed=fixed), graph, footprints)
     records = [
-        Record(footprint.recipe.target, footprint.recipe.lines, footprint.reads, footprint.writes)
-        for footprint in footprints
+        Record(one.recipe.target, one.recipe.lines, [*one.reads], [*one.writes])
+        for one in footprints
     ]
     by_target = {record.target: record for record in records}
     return Footprints(fixed, sources, by_target, graph.goals)
@@ -87,7 +87,7 @@ def refuse_phony_reads(graph: Graph, files: list[str], footprints: list[Footprin
 def meaning_fault(build: Unrecorded, graph: Graph, footprints: list[Footprint]) -> RecipeFault:
     """The fault where the makefile means something else without the files that recipes write; of
     the recipes that write a source, if that is the cause."""
-    writers = {
+    writers: dict[str, str] = {
         name: footprint.recipe.target for footprint in footprints for name in footprint.writes
     }
     named = [

@@ -21,6 +21,7 @@ from mkcheck_tools.judge.notes import KINDS, Note
 from mkcheck_tools.replay.versions import FILE, FOLDER, LINK, THERE, Version
 from mkcheck_tools.replay.worlds import Effects, Trial
 from mkcheck_tools.run.folders import is_own, is_plain_path
+from mkcheck_tools.run.paths import Name
 
 FORMAT = 5
 DIGEST = re.compile(r"[0-9a-f]{64}")
@@ -37,10 +38,10 @@ class Entry:
     of what is always made before it."""
 
     footprint: Footprint
-    looks: Mapping[str, Version | None]
-    lists: Mapping[str, str]
-    after: Mapping[str, Version | None]
-    made: tuple[str, ...]
+    looks: Mapping[Name, Version | None]
+    lists: Mapping[Name, str]
+    after: Mapping[Name, Version | None]
+    made: tuple[Name, ...]
     notes: tuple[Note, ...]
     order: str
     waiting: Effects | None = None
@@ -212,11 +213,11 @@ class Writer:
             "seconds": entry.seconds,
         }
 
-    def versions(self, versions: Mapping[str, Version | None]) -> list[int]:
+    def versions(self, versions: Mapping[Name, Version | None]) -> list[int]:
         """The numbers of these names with what stood there."""
         return [self.number(name, version) for name, version in versions.items()]
 
-    def number(self, name: str, version: Version | None) -> int:
+    def number(self, name: Name, version: Version | None) -> int:
         """The number of a name with what stood there."""
         found = self.numbers.get((name, version))
         if found is None:
@@ -230,7 +231,7 @@ class Writer:
 class Reader:
     """Reads a state. What is of another shape raises ValueError, KeyError or TypeError."""
 
-    table: list[tuple[str, Version | None]] = field(default_factory=list)
+    table: list[tuple[Name, Version | None]] = field(default_factory=list)
 
     def state(self, body: dict[str, Any]) -> State:
         """The state of a JSON value."""
@@ -243,16 +244,16 @@ class Reader:
             {entry.footprint.recipe.target: entry for entry in entries},
         )
 
-    def row(self, row: list[Any]) -> tuple[str, Version | None]:
+    def row(self, row: list[Any]) -> tuple[Name, Version | None]:
         """A name with what stood there."""
         if len(row) == 1:
-            return text(row[0]), None
+            return Name(text(row[0])), None
         name, kind, mode, content = row
         if kind not in VERSIONS or type(mode) is not int or not 0 <= mode < 0o10000:
             raise ValueError("no version")
         if kind == FILE and not DIGEST.fullmatch(text(content)):
             raise ValueError("no digest")
-        return text(name), Version(kind, mode, text(content))
+        return Name(text(name)), Version(kind, mode, text(content))
 
     def entry(self, entry: dict[str, Any]) -> Entry:
         """The entry of a JSON value. What the recipe left has to lie in the project."""
@@ -264,30 +265,30 @@ class Reader:
         )
         footprint = Footprint(
             recipe,
-            texts(entry["reads"]),
-            texts(entry["writes"]),
-            frozenset(texts(entry["scratch"])),
-            frozenset(texts(entry["missed"])),
-            frozenset(texts(entry["lost"])),
-            texts(entry["links"]),
-            sought=frozenset(texts(entry["sought"])),
-            made=frozenset(texts(entry["made"])),
-            listed=frozenset(texts(entry["listed"])),
+            names(entry["reads"]),
+            names(entry["writes"]),
+            frozenset(names(entry["scratch"])),
+            frozenset(names(entry["missed"])),
+            frozenset(names(entry["lost"])),
+            names(entry["links"]),
+            sought=frozenset(names(entry["sought"])),
+            made=frozenset(names(entry["made"])),
+            listed=frozenset(names(entry["listed"])),
             late=text(entry["late"]),
-            met=frozenset(texts(entry["met"])),
-            taken=frozenset(texts(entry["taken"])),
-            seen=frozenset(texts(entry["seen"])),
+            met=frozenset(names(entry["met"])),
+            taken=frozenset(names(entry["taken"])),
+            seen=frozenset(names(entry["seen"])),
             ports=frozenset(texts(entry["ports"])),
             processes=entry["processes"] is True,
-            locked=frozenset(texts(entry["locked"])),
-            tried=frozenset(texts(entry["tried"])),
+            locked=frozenset(names(entry["locked"])),
+            tried=frozenset(names(entry["tried"])),
         )
         after = self.versions(entry["after"])
-        made = texts(entry["made"])
+        made = names(entry["made"])
         for name in [*after, *made]:
             if not is_plain_path(name) or not is_own(name):
                 raise ValueError("no name of the project")
-        lists = {text(name): text(value) for name, value in entry["lists"].items()}
+        lists = {Name(text(name)): text(value) for name, value in entry["lists"].items()}
         looks = self.versions(entry["looks"])
         notes = tuple(
             Note(recipe.target, KINDS[text(kind)], text(said)) for kind, said in entry["notes"]
@@ -305,7 +306,7 @@ class Reader:
             float(entry["seconds"]),
         )
 
-    def versions(self, numbers: list[int]) -> dict[str, Version | None]:
+    def versions(self, numbers: list[int]) -> dict[Name, Version | None]:
         """Names with what stood there, by their numbers."""
         return dict(self.table[number] for number in numbers if number >= 0)
 
@@ -321,7 +322,7 @@ def effects_of(value: Mapping[str, object] | None) -> Effects | None:
     """What a recipe did, of a JSON value."""
     if value is None:
         return None
-    found = {one.name: tuple(texts(value[one.name])) for one in fields(Effects)}
+    found = {one.name: tuple(names(value[one.name])) for one in fields(Effects)}
     locked, caches = frozenset(found.pop("locked")), frozenset(found.pop("caches"))
     return Effects(**found, locked=locked, caches=caches)
 
@@ -331,6 +332,11 @@ def text(value: object) -> str:
     if not isinstance(value, str):
         raise TypeError("no text")
     return value
+
+
+def names(value: object) -> list[Name]:
+    """A value that has to be a list of names."""
+    return [Name(one) for one in texts(value)]
 
 
 def texts(value: object) -> list[str]:

@@ -29,6 +29,7 @@ from mkcheck_tools.judge.notes import Note, Warn, ignore
 from mkcheck_tools.replay.versions import Store, Version, digest_of, lay
 from mkcheck_tools.replay.worlds import Effects, Trial, World
 from mkcheck_tools.run.ending import write_text
+from mkcheck_tools.run.paths import Name, RealPath, real_in, seen_in
 from mkcheck_tools.run.places import Place
 from mkcheck_tools.trace import tracing
 from mkcheck_tools.trace.trees import Tree
@@ -119,7 +120,7 @@ class Updating:
                 drop_damaged(folder)
         except OSError as error:
             raise Fault(f"{folder} can't be made: {error.strerror}") from None
-        return Store(folder)
+        return Store(RealPath(folder))
 
     def refuse(self, late: Late) -> bool:
         """Refuses to keep recipes that weren't run beside these late files; tells whether there
@@ -179,15 +180,15 @@ class Updating:
                 os.makedirs(os.path.join(place.folder, name), exist_ok=True)
             for name, version in entry.after.items():
                 self.lay_one(name, version, place)
-                path = os.path.join(place.seen, name)
+                path = seen_in(place.seen, name)
                 tree.refresh(path)
                 if version is not None and version.kind == "link":
                     tree.made.add(path)
         self.pending.clear()
 
-    def lay_one(self, name: str, version: Version | None, place: Place) -> None:
+    def lay_one(self, name: Name, version: Version | None, place: Place) -> None:
         """Lays one file, or takes it away. Its bytes have to be those that were left."""
-        path = os.path.join(place.folder, name)
+        path = real_in(place.folder, name)
         if os.path.lexists(path):
             os.unlink(path)
         if version is None:
@@ -268,7 +269,7 @@ class Updating:
 def drop_damaged(folder: str) -> None:
     """Removes the kept files that hold something else than their names say."""
     for name in filter(states.DIGEST.match, os.listdir(folder)):
-        path = os.path.join(folder, name)
+        path = RealPath(os.path.join(folder, name))
         if not os.path.isfile(path) or digest_of(path) != name:
             os.unlink(path)
 
@@ -309,7 +310,7 @@ def believed(book: str, conditions: Conditions) -> State:
             f"was written under other conditions ({', '.join(others[:SHOWN_AT_MOST])}{more})"
         )
     for digest in sorted(state.digests()):
-        path = os.path.join(states.path_of_store(book), digest)
+        path = RealPath(os.path.join(states.path_of_store(book), digest))
         if not os.path.isfile(path) or digest_of(path) != digest:
             raise Unusable("misses a file that a recipe left")
     return state

@@ -13,10 +13,11 @@ from mkcheck_tools.answers.graphs import Graph
 from mkcheck_tools.gnu.macros import Prober
 from mkcheck_tools.judge.notes import Kind, Note, Warn
 from mkcheck_tools.judge.refusals import listed
+from mkcheck_tools.run.paths import Name
 
 
 def warn_of_unlooked(
-    graph: Graph, prober: Prober, writers: Mapping[str, Sequence[str]], warn: Warn
+    graph: Graph, prober: Prober, writers: Mapping[Name, Sequence[str]], warn: Warn
 ) -> None:
     """Warns of each such file, where a recipe needs it that doesn't need the target itself.
 
@@ -30,7 +31,7 @@ def warn_of_unlooked(
         (name, writer): [one for one in needing[name] if writer not in graph.prerequisites[one]]
         for name in needing
         if name not in graph.targets and name not in graph.phony and graph.prerequisites[name]
-        for writer in writers.get(name, ())
+        for writer in writers.get(Name(name), ())
     }
     found = {pair: targets for pair, targets in users.items() if targets}
     bare = frozenset(without_commands(prober, list(dict.fromkeys(name for name, _ in found))))

@@ -12,6 +12,7 @@ from dataclasses import dataclass, field, replace
 
 from mkcheck_tools.faults import Fault
 from mkcheck_tools.run.folders import Copier
+from mkcheck_tools.run.paths import RealPath, SeenPath
 from mkcheck_tools.run.places import Place, kill_group, namespace
 
 # How long a program may take to clear up, when it is asked to end.
@@ -74,14 +75,14 @@ class Copies:
             self.made.add(word)
             self.make(self.kept(word))
         if namespace() is not None:
-            return Place(self.kept(word), self.root)
+            return Place(RealPath(self.kept(word)), SeenPath(self.root))
         if self.used != word:
             os.makedirs(os.path.dirname(self.seen), exist_ok=True)
             if self.used:
                 os.rename(self.seen, self.kept(self.used))
             os.rename(self.kept(word), self.seen)
             self.used = word
-        return Place(self.seen, self.seen)
+        return Place.of(RealPath(self.seen))
 
     def copy(self, word: str, other: str) -> str:
         """Makes the copy of another word one of the copy of a word, as that is now; gives where it

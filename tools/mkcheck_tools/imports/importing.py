@@ -29,6 +29,7 @@ from mkcheck_tools.imports.sentences import Sentences
 from mkcheck_tools.imports.settling import Settling
 from mkcheck_tools.imports.telling import Telling
 from mkcheck_tools.judge.notes import Kind
+from mkcheck_tools.run.paths import RealPath
 from mkcheck_tools.run.places import Place
 from mkcheck_tools.trace.tracing import strace
 
@@ -189,7 +190,7 @@ class Import:
             self.step("read", self.front.read)
             self.make_judge(self.copies.place("read"))
         else:
-            self.make_judge(Place(self.root, self.root))
+            self.make_judge(Place.of(RealPath(self.root)))
         self.has_first = os.path.exists(self.judge.path(FIRST))
         if only == "graph":
             self.step("graph", lambda: self.judge.graph(self.has_first))

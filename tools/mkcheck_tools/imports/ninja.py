@@ -12,6 +12,7 @@ from mkcheck_tools.imports.ninja_files import Edge, Manifest, canonical, read_ma
 from mkcheck_tools.imports.ninja_inputs import Inputs, Resolver
 from mkcheck_tools.imports.ninja_text import NinjaFault
 from mkcheck_tools.imports.plain import LINE_AT_MOST
+from mkcheck_tools.run.paths import SeenPath
 from mkcheck_tools.run.places import Place, run
 
 MANIFEST = "build.ninja"
@@ -26,7 +27,7 @@ class NinjaBuild:
 
     def __init__(self, place: Place, folder: str, manifest: Manifest, version: str = ""):
         self.place, self.folder, self.manifest = place, folder, manifest
-        self.seen = os.path.normpath(os.path.join(place.seen, folder))
+        self.seen = SeenPath(os.path.normpath(os.path.join(place.seen, folder)))
         self.build = Build(place.seen, f"ninja {version}".rstrip())
         self.resolver = Resolver(manifest, self.is_there, self.tell_of_file)
         self.names: dict[str, str] = {}
@@ -61,7 +62,7 @@ class NinjaBuild:
 
     def real(self, path: str, place: Place | None = None) -> str:
         """Where this program finds a file, before the build or in another place."""
-        return (place or self.place).real(os.path.normpath(os.path.join(self.seen, path)))
+        return (place or self.place).real(SeenPath(os.path.normpath(os.path.join(self.seen, path))))
 
     def is_there(self, path: str) -> bool:
         """Whether a file or a folder is there before the build."""
@@ -281,7 +282,7 @@ def read_ninja(
     version = run(["ninja", "--version"], place, environment)
     if version.status:
         raise Fault("ninja isn't there: install it (Debian: apt-get install ninja-build)")
-    seen = os.path.normpath(os.path.join(place.seen, folder))
+    seen = SeenPath(os.path.normpath(os.path.join(place.seen, folder)))
     try:
         manifest = read_manifest(place.real(seen), MANIFEST)
         has_dyndep = any(edge.value("dyndep") for edge in manifest.edges)

@@ -6,6 +6,7 @@ import re
 from collections.abc import Callable, Iterable
 from dataclasses import dataclass, field
 
+from mkcheck_tools.run.paths import SeenPath
 from mkcheck_tools.trace.accesses import Accesses, Follower
 from mkcheck_tools.trace.calls import Call, texts_of
 
@@ -36,7 +37,7 @@ class ByCommand(Accesses):
 
     readers: dict[str, dict[Started | None, None]] = field(default_factory=dict)
 
-    def read(self, path: str) -> None:
+    def read(self, path: SeenPath) -> None:
         """A read by the present command."""
         if self.is_recipe:
             return
@@ -112,7 +113,7 @@ class Reader(Follower):
                 self.accesses.current = command
         super().on_execve(call)
 
-    def started(self, call: Call, name: str) -> None:
+    def started(self, call: Call, name: SeenPath) -> None:
         """A program is started. A make is no part of a command."""
         if call.process not in self.recipes:
             self.programs.add(self.accesses.reach(name))
@@ -122,7 +123,7 @@ class Reader(Follower):
         if call.process in self.makers and call.process in self.commands:
             self.starting.add(self.commands.pop(call.process))
 
-    def looked_into(self, link: str) -> None:
+    def looked_into(self, link: SeenPath) -> None:
         """The text of a link is read."""
         super().looked_into(link)
         if link in self.accesses.over and not self.accesses.is_recipe:

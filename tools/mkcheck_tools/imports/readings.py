@@ -118,7 +118,7 @@ class Readings:
         environment = {**outer_environment(), **more}
         done = tracing.run(command, place, environment, scratch, looking=looking, texts=True)
         reader.follow(done.calls)
-        self.outside.update(reader.accesses.forbidden)
+        self.outside.update(dict.fromkeys(reader.accesses.forbidden))
         return reader
 
     def is_of_recipe(self, command: Started) -> bool:

@@ -15,6 +15,7 @@ from mkcheck_tools.judge.notes import Kind, Note, Warn, ignore
 from mkcheck_tools.record.recording import Recorded, Workshop
 from mkcheck_tools.run import places
 from mkcheck_tools.run.folders import Naming, plain_folder, temporary_folder
+from mkcheck_tools.run.paths import SeenPath
 from mkcheck_tools.trace import tracing
 from mkcheck_tools.trace.accesses import Accesses, Follower
 
@@ -78,7 +79,7 @@ def compare_make(shop: Workshop, words: list[str], recorded: Recorded, warn: War
                 Follower(accesses, shop.place.seen).follow(tracing.read_trace(traced.trace))
                 # A make that the recipe starts gets the shell of this one, which is none of the
                 # project's files.
-                accesses.reads.pop(str(traced.trace.parent / SHELL_NAME), None)
+                accesses.reads.pop(SeenPath(str(traced.trace.parent / SHELL_NAME)), None)
             accesses.servers.clear()
             other = footprint_of(footprint.recipe, accesses, naming, ignore)
             differences(footprint, other, warn)

@@ -8,6 +8,7 @@ from collections.abc import Iterator, Sequence
 from mkcheck_tools.judge.notes import Kind, Note
 from mkcheck_tools.replay.versions import FILE, LINK, Version
 from mkcheck_tools.replay.worlds import Trial, World
+from mkcheck_tools.run.paths import Name
 
 # As C's __DATE__ and `date +%F` have it, and other usual ways, down to the month of a manual page.
 FORMATS = (
@@ -42,7 +43,7 @@ def without_told(notes: Sequence[Note], dates: Sequence[Note]) -> Iterator[Note]
             yield note
 
 
-def date_in(world: World, name: str, version: Version | None, texts: dict[str, None]) -> str:
+def date_in(world: World, name: Name, version: Version | None, texts: dict[str, None]) -> str:
     """The first of these texts that a file holds, or nothing. Very long files aren't searched."""
     if version is None or version.kind == LINK:
         return ""

@@ -13,6 +13,7 @@ from mkcheck_tools.faults import RecipeFault
 from mkcheck_tools.judge.notes import Kind, Note, Warn
 from mkcheck_tools.judge.unsteady import unsteady
 from mkcheck_tools.run.folders import UNWRITTEN, Naming, is_cache, is_plain_path
+from mkcheck_tools.run.paths import Name, SeenPath, seen_in
 from mkcheck_tools.trace.accesses import DELETED, Accesses
 from mkcheck_tools.trace.trees import Tree
 
@@ -20,8 +21,10 @@ TOLD_AT_MOST = 10
 # Stands for an option, till the files are known that need it.
 ANY_PREFIX = "--fixed PREFIX"
 TWINS = "which are one file: mkcheck takes them for two, so let rules and recipes use one name"
+# The name of the project's own folder.
+HERE = Name(".")
 # The folder that names all processes.
-PROCESSES = "/proc"
+PROCESSES = SeenPath("/proc")
 LOCK_CURE = "lock a folder in place of the file (flock . COMMAND, or exec 9<. and flock 9)"
 # Some file systems keep stamps by two seconds.
 COARSE = 2_500_000_000
@@ -34,47 +37,47 @@ class Footprint:
     does that other recipes may notice. All are names from the project's folder."""
 
     recipe: Recipe
-    reads: list[str]
-    writes: list[str]
-    scratch: frozenset[str] = frozenset()
+    reads: list[Name]
+    writes: list[Name]
+    scratch: frozenset[Name] = frozenset()
     """Files and folders that it made or removed, and that are gone when it has ended. Some have
     names that footprints can't hold, and those outside of the project's folder are paths."""
 
-    missed: frozenset[str] = frozenset()
+    missed: frozenset[Name] = frozenset()
     """Files and folders that it failed to remove, named as those of `scratch`: nothing was there,
     or the folder wasn't empty."""
 
-    lost: frozenset[str] = frozenset()
+    lost: frozenset[Name] = frozenset()
     """Files that it removed and hadn't made."""
 
-    links: list[str] = field(default_factory=list)
+    links: list[Name] = field(default_factory=list)
     """Symbolic links of the project that it followed and that no recipe made."""
 
-    owned: frozenset[str] = frozenset()
+    owned: frozenset[Name] = frozenset()
     """Folders that it hadn't made, and whose mode, owner or attributes it changed."""
 
-    sought: frozenset[str] = frozenset()
+    sought: frozenset[Name] = frozenset()
     """Files that it looked for and that weren't there."""
 
-    dropped: frozenset[str] = frozenset()
+    dropped: frozenset[Name] = frozenset()
     """Folders without files that it removed and hadn't made."""
 
-    made: frozenset[str] = frozenset()
+    made: frozenset[Name] = frozenset()
     """Folders that it made and left there."""
 
-    listed: frozenset[str] = frozenset()
+    listed: frozenset[Name] = frozenset()
     """Folders whose names it read; `.` is the project's own."""
 
     late: str = ""
     """The key of its late files, if the replay ran it beside them; else empty."""
 
-    met: frozenset[str] = frozenset()
+    met: frozenset[Name] = frozenset()
     """The late files that it then read."""
 
-    taken: frozenset[str] = frozenset()
+    taken: frozenset[Name] = frozenset()
     """The late files that it then wrote or removed."""
 
-    seen: frozenset[str] = frozenset()
+    seen: frozenset[Name] = frozenset()
     """Files of other recipes at which it looked, and without which its replay fails."""
 
     ports: frozenset[str] = frozenset()
@@ -83,26 +86,26 @@ class Footprint:
     processes: bool = False
     """Whether it looked through all processes."""
 
-    locked: frozenset[str] = frozenset()
+    locked: frozenset[Name] = frozenset()
     """Files and folders that it locked, named as those of `scratch`; `.` is the project's own."""
 
-    tried: frozenset[str] = frozenset()
+    tried: frozenset[Name] = frozenset()
     """Those of them for whose lock it wouldn't have waited, or only for a while."""
 
 
-def kind_of(tree: Tree, path: str) -> int:
+def kind_of(tree: Tree, path: SeenPath) -> int:
     """The kind of what stands at a path itself; 0 where nothing does."""
     status = tree.status(path)
     return 0 if status is None else stat.S_IFMT(status.st_mode)
 
 
-def file_of(tree: Tree, path: str) -> tuple[int, int] | None:
+def file_of(tree: Tree, path: SeenPath) -> tuple[int, int] | None:
     """Which file stands at a path itself, where it has other names too."""
     status = tree.status(path)
     return None if status is None or status.st_nlink < 2 else (status.st_dev, status.st_ino)
 
 
-def left(tree: Tree, paths: Iterable[str]) -> Iterator[str]:
+def left(tree: Tree, paths: Iterable[SeenPath]) -> Iterator[SeenPath]:
     """The files and links among these that are there."""
     for path in paths:
         unwritten = path.startswith(UNWRITTEN) and not tree.has(path)
@@ -110,13 +113,13 @@ def left(tree: Tree, paths: Iterable[str]) -> Iterator[str]:
             yield path
 
 
-def within(tree: Tree, paths: Iterable[str]) -> Iterator[str]:
+def within(tree: Tree, paths: Iterable[SeenPath]) -> Iterator[SeenPath]:
     """What is in these folders, however deep."""
     for path in paths:
         if kind_of(tree, path) == stat.S_IFDIR:
             real = tree.place.real(path)
             yield from sorted(
-                path + os.path.join(folder, name)[len(real) :]
+                SeenPath(path + os.path.join(folder, name)[len(real) :])
                 for folder, _, names in os.walk(real)
                 for name in names
             )
@@ -135,7 +138,7 @@ def footprint_of(recipe: Recipe, accesses: Accesses, naming: Naming, warn: Warn)
     written = [path for path in written if not is_cache(path)]
     refuse_nameless(recipe, read, written, naming, accesses.locked)
     for path in lost if written else ():
-        warn_of_lost(recipe, naming.name(path) or path, warn)
+        warn_of_lost(recipe, naming.name_or_path(path), warn)
     here = set(written)
     dropped = [path for path in accesses.dropped if is_gone(path, accesses)]
     dropped = [path for path in dropped if not any(one.startswith(path + "/") for one in lost)]
@@ -160,13 +163,13 @@ def footprint_of(recipe: Recipe, accesses: Accesses, naming: Naming, warn: Warn)
         recipe,
         named(read, naming),
         named(written, naming),
-        frozenset(naming.name(path) or path for path in [*gone, *dropped]),
-        frozenset(naming.name(path) or path for path in accesses.missed if path not in here),
+        frozenset(naming.name_or_path(path) for path in [*gone, *dropped]),
+        frozenset(naming.name_or_path(path) for path in accesses.missed if path not in here),
         frozenset(named((path for path in lost if not is_cache(path)), naming)),
         named(accesses.over, naming),
         frozenset(named(filter(tree.has, accesses.owned), naming)),
         frozenset(named((path for path in accesses.sought if not is_cache(path)), naming)),
-        frozenset(naming.name(path) or path for path in dropped),
+        frozenset(naming.name_or_path(path) for path in dropped),
         frozenset(named(folders_made(accesses), naming)),
         frozenset(listed_in(accesses, naming)),
         ports=frozenset(accesses.ports),
@@ -176,7 +179,7 @@ def footprint_of(recipe: Recipe, accesses: Accesses, naming: Naming, warn: Warn)
     )
 
 
-def warn_of_lost(recipe: Recipe, name: str, warn: Warn) -> None:
+def warn_of_lost(recipe: Recipe, name: Name, warn: Warn) -> None:
     """Warns of a file that a recipe takes away and hadn't made."""
     text = (
         f"the recipe of {recipe.target} takes away {name}, which it didn't make: let it leave that"
@@ -196,7 +199,7 @@ def warn_of_configuration(recipe: Recipe, accesses: Accesses, naming: Naming, wa
             warn(Note(recipe.target, Kind.CONFIGURATION, text))
 
 
-def warn_of_git(recipe: Recipe, read: list[str], naming: Naming, warn: Warn) -> None:
+def warn_of_git(recipe: Recipe, read: list[Name], naming: Naming, warn: Warn) -> None:
     """Warns of a recipe that reads the state of git, which no prerequisite can stand for."""
     found = [name for name in read if ".git" in name.split("/") and not naming.is_fixed(name)]
     if found:
@@ -210,34 +213,34 @@ def warn_of_git(recipe: Recipe, read: list[str], naming: Naming, warn: Warn) -> 
         warn(Note(recipe.target, Kind.GIT, text))
 
 
-def folders_made(accesses: Accesses) -> Iterator[str]:
+def folders_made(accesses: Accesses) -> Iterator[SeenPath]:
     """The folders that a recipe made, or renamed with what is in them, and that are there."""
     tree = accesses.tree
-    moved: list[str] = []
+    moved: list[SeenPath] = []
     for path in accesses.moved:
         real = tree.place.real(path)
         if not os.path.islink(real):
-            moved += [path + folder[len(real) :] for folder, _, _ in os.walk(real)]
+            moved += [SeenPath(path + folder[len(real) :]) for folder, _, _ in os.walk(real)]
     for path in dict.fromkeys([*accesses.folders, *moved]):
         if kind_of(tree, path) == stat.S_IFDIR:
             yield path
 
 
-def listed_in(accesses: Accesses, naming: Naming) -> Iterator[str]:
+def listed_in(accesses: Accesses, naming: Naming) -> Iterator[Name]:
     """The folders of the project whose names a recipe read."""
     for path in accesses.listed:
         if path == naming.root:
-            yield "."
+            yield HERE
         elif accesses.tree.has(path):
-            yield path[len(naming.root) + 1 :]
+            yield Name(path[len(naming.root) + 1 :])
 
 
-def locked_name(path: str, naming: Naming) -> str:
+def locked_name(path: SeenPath, naming: Naming) -> Name:
     """The name of what a recipe locked: `.` for the project's folder, a path for what has none."""
-    return "." if path == naming.root else naming.name(path) or path
+    return HERE if path == naming.root else naming.name_or_path(path)
 
 
-def is_gone(path: str, accesses: Accesses) -> bool:
+def is_gone(path: SeenPath, accesses: Accesses) -> bool:
     """Whether a file or a folder that a recipe made or took away is gone."""
     tree = accesses.tree
     if tree.has(path):
@@ -247,13 +250,13 @@ def is_gone(path: str, accesses: Accesses) -> bool:
     return tree.status(path) is None
 
 
-def has_name(path: str, naming: Naming) -> bool:
+def has_name(path: SeenPath, naming: Naming) -> bool:
     """Whether footprints can name a file."""
     name = naming.name(path)
     return name is not None and is_plain_path(name)
 
 
-def is_outside(path: str, naming: Naming) -> bool:
+def is_outside(path: SeenPath, naming: Naming) -> bool:
     """Whether a file lies outside of the project's folder."""
     return not path.startswith(naming.root + "/")
 
@@ -263,7 +266,7 @@ def refuse_forbidden(recipe: Recipe, accesses: Accesses, naming: Naming) -> None
     refuse_nameless(recipe, [], list(accesses.forbidden), naming)
 
 
-def is_needless(path: str, naming: Naming) -> bool:
+def is_needless(path: SeenPath, naming: Naming) -> bool:
     """Whether a read needs no name: it never changes and can't have one, or decides nothing."""
     name = naming.name(path)
     if naming.is_steady(path) or is_cache(path):
@@ -271,7 +274,7 @@ def is_needless(path: str, naming: Naming) -> bool:
     return name is not None and naming.is_fixed(name) and not is_plain_path(name)
 
 
-def named(paths: Iterable[str], naming: Naming) -> list[str]:
+def named(paths: Iterable[SeenPath], naming: Naming) -> list[Name]:
     """The names of these files, of those that have one."""
     names = (name for path in paths if (name := naming.name(path)) is not None)
     return list(dict.fromkeys(name for name in names if is_plain_path(name)))
@@ -279,8 +282,8 @@ def named(paths: Iterable[str], naming: Naming) -> list[str]:
 
 def refuse_nameless(
     recipe: Recipe,
-    read: list[str],
-    written: list[str],
+    read: list[SeenPath],
+    written: list[SeenPath],
     naming: Naming,
     locked: Container[str] = (),
 ) -> None:
@@ -296,7 +299,7 @@ def refuse_nameless(
     ]
     if not nameless:
         return
-    told: dict[str, list[tuple[str, str]]] = {}
+    told: dict[str, list[tuple[str, SeenPath]]] = {}
     for verb, path in nameless:
         told.setdefault(what_helps(verb, path, naming), []).append((verb, path))
     lines: list[str] = []
@@ -309,7 +312,7 @@ def refuse_nameless(
     raise RecipeFault("\n".join(lines))
 
 
-def prefix_above(paths: list[str], naming: Naming) -> str:
+def prefix_above(paths: list[SeenPath], naming: Naming) -> str:
     """The innermost folder that holds all these files, as it is given to --fixed; `PREFIX` where
     that is a home, or holds the project, and so may hold anything."""
     folder = os.path.commonpath([os.path.dirname(path) for path in paths])
@@ -322,7 +325,7 @@ def prefix_above(paths: list[str], naming: Naming) -> str:
     return f"{os.path.relpath(folder, naming.root) if is_near else folder}/"
 
 
-def what_helps(verb: str, path: str, naming: Naming) -> str:
+def what_helps(verb: str, path: SeenPath, naming: Naming) -> str:
     """What is said of a file that has no name."""
     if verb == "locks":
         return f"locks files outside the folder, which no footprint can name: {LOCK_CURE}"
@@ -363,8 +366,8 @@ def warn_of_links(recipe: Recipe, accesses: Accesses, naming: Naming, warn: Warn
             and kind_of(tree, alias.real) == stat.S_IFREG
         ):
             first, second = (
-                naming.name(alias.name) or alias.name,
-                naming.name(alias.real) or alias.real,
+                naming.name_or_path(alias.name),
+                naming.name_or_path(alias.real),
             )
             text = (
                 f"the recipe of {recipe.target} reaches {second} as {first} too, over a symbolic"
@@ -399,9 +402,9 @@ def warn_of_stamps(
     tree = accesses.tree
     changing = [name for name in footprint.reads if not naming.is_fixed(name)]
     warn_of_old_links(footprint, tree, changing, naming, begun, warn)
-    only = tree.status(os.path.join(tree.root, changing[0])) if len(changing) == 1 else None
+    only = tree.status(seen_in(tree.root, changing[0])) if len(changing) == 1 else None
     for name in footprint.writes:
-        path = os.path.join(tree.root, name)
+        path = seen_in(tree.root, name)
         status = tree.status(path) if path in accesses.stamped else None
         if status is None or not stat.S_ISREG(status.st_mode):
             continue
@@ -425,14 +428,14 @@ def warn_of_stamps(
 
 
 def warn_of_old_links(
-    footprint: Footprint, tree: Tree, changing: list[str], naming: Naming, begun: int, warn: Warn
+    footprint: Footprint, tree: Tree, changing: list[Name], naming: Naming, begun: int, warn: Warn
 ) -> None:
     """A link is told that a recipe makes and that leads to an older file, by whose stamp make goes.
 
     Where the recipe reads nothing else that can change, the link leads there each time.
     """
     for name in footprint.writes:
-        path = os.path.join(tree.root, name)
+        path = seen_in(tree.root, name)
         if kind_of(tree, path) != stat.S_IFLNK:
             continue
         goal, _ = tree.follow(path)
@@ -441,7 +444,7 @@ def warn_of_old_links(
         except OSError:
             continue
         apart = 0 if status.st_ctime_ns % SECOND else COARSE
-        other = naming.name(goal) or goal
+        other = naming.name_or_path(goal)
         if status.st_mtime_ns < begun - apart and {*changing} - {other}:
             text = (
                 f"the recipe of {footprint.recipe.target} makes {name} a link to {shown(other)},"
@@ -452,7 +455,7 @@ def warn_of_old_links(
             warn(Note(footprint.recipe.target, Kind.OLD_LINK, text))
 
 
-def warn_of_twins(recipe: Recipe, tree: Tree, naming: Naming, path: str, warn: Warn) -> None:
+def warn_of_twins(recipe: Recipe, tree: Tree, naming: Naming, path: SeenPath, warn: Warn) -> None:
     """Warns of a file that is used by two names, hard links; of each name once."""
     file = file_of(tree, path)
     if file is None:

@@ -17,10 +17,11 @@ from dataclasses import dataclass, replace
 from mkcheck_tools.answers.graphs import Ancestors
 from mkcheck_tools.judge.footprints import Footprint
 from mkcheck_tools.run.folders import is_own, is_plain_path
+from mkcheck_tools.run.paths import Name
 
 # The name of the project's folder.
-ROOT = "."
-Late = Mapping[str, tuple[str, ...]]
+ROOT = Name(".")
+Late = Mapping[str, tuple[Name, ...]]
 
 
 @dataclass(frozen=True)
@@ -31,22 +32,22 @@ class Met:
     are files of recipes before, at which it looked or whose folder it listed.
     """
 
-    read: frozenset[str] = frozenset()
-    taken: frozenset[str] = frozenset()
-    seen: frozenset[str] = frozenset()
+    read: frozenset[Name] = frozenset()
+    taken: frozenset[Name] = frozenset()
+    seen: frozenset[Name] = frozenset()
 
 
-def folders_of(name: str) -> Iterator[str]:
+def folders_of(name: Name) -> Iterator[Name]:
     """The folders in which a name lies, within the project's or from the root on."""
     while "/" in name:
-        name = name.rpartition("/")[0]
+        name = Name(name.rpartition("/")[0])
         if name:
             yield name
 
 
 def late_files(
     footprints: Sequence[Footprint],
-    given: frozenset[str],
+    given: frozenset[Name],
     ancestors: Ancestors,
     with_made: bool = True,
 ) -> Late:
@@ -57,7 +58,7 @@ def late_files(
     `with_made` this doesn't count.
     """
     since = {ROOT: -1, **dict.fromkeys(given, -1)}
-    later: dict[str, None] = {}
+    later: dict[Name, None] = {}
     for number, footprint in enumerate(footprints):
         for name in (*footprint.made, *footprint.writes):
             since.setdefault(name, number)
@@ -65,12 +66,12 @@ def late_files(
     filled = {folder for name in later for folder in folders_of(name)}
     empty = {name for footprint in footprints for name in footprint.made if name not in filled}
     later.update(dict.fromkeys(empty))
-    passing: dict[str, list[str]] = {}
+    passing: dict[Name, list[str]] = {}
     for footprint in footprints:
         for name in scratch_of(footprint):
             if name not in since:
                 passing.setdefault(name, []).append(footprint.recipe.target)
-    found: dict[str, tuple[str, ...]] = {}
+    found: dict[str, tuple[Name, ...]] = {}
     for number, footprint in enumerate(footprints):
         target = footprint.recipe.target
         sought = footprint.sought | footprint.made if with_made else footprint.sought
@@ -97,7 +98,7 @@ def is_beside(target: str, others: Sequence[str], ancestors: Ancestors) -> bool:
     return not all(other == target or ancestors.in_order(target, other) for other in others)
 
 
-def scratch_of(footprint: Footprint) -> list[str]:
+def scratch_of(footprint: Footprint) -> list[Name]:
     """The files of the project that a recipe makes and takes away, no folders that hold some."""
     passing = footprint.scratch - footprint.lost - footprint.dropped
     names = {name for name in passing if is_own(name) and is_plain_path(name)}
@@ -106,11 +107,11 @@ def scratch_of(footprint: Footprint) -> list[str]:
 
 
 def is_met(
-    name: str,
+    name: Name,
     number: int,
-    since: Mapping[str, int],
-    listed: frozenset[str],
-    sought: frozenset[str],
+    since: Mapping[Name, int],
+    listed: frozenset[Name],
+    sought: frozenset[Name],
 ) -> bool:
     """Whether a recipe sought a folder of this file, or listed the innermost one that was there."""
     inner = ROOT
@@ -122,7 +123,7 @@ def is_met(
     return inner in listed
 
 
-def key_of(names: tuple[str, ...]) -> str:
+def key_of(names: tuple[Name, ...]) -> str:
     """What tells late files from others."""
     return hashlib.sha256("\0".join(names).encode("utf-8")).hexdigest() if names else ""
 

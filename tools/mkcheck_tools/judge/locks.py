@@ -12,13 +12,14 @@ from mkcheck_tools.answers.graphs import Ancestors
 from mkcheck_tools.judge.footprints import LOCK_CURE, Footprint, shown
 from mkcheck_tools.judge.notes import Kind, Note, Warn
 from mkcheck_tools.judge.refusals import listed
+from mkcheck_tools.run.paths import Name
 
 
 def warn_of_locks(footprints: Sequence[Footprint], ancestors: Ancestors, warn: Warn) -> None:
     """Warns of each file that several recipes lock and one of these writes, and of each lock for
     which a recipe doesn't wait and that another one may have.
     """
-    users: dict[str, list[Footprint]] = {}
+    users: dict[Name, list[Footprint]] = {}
     for footprint in footprints:
         for name in footprint.locked:
             users.setdefault(name, []).append(footprint)

@@ -32,6 +32,7 @@ from mkcheck_tools.judge.locks import warn_of_locks
 from mkcheck_tools.judge.notes import Kind, Note, Warn, ignore
 from mkcheck_tools.judge.refusals import listed
 from mkcheck_tools.run.folders import is_plain_path
+from mkcheck_tools.run.paths import Name
 
 PATTERN = re.compile(r"[*?\[]")
 
@@ -41,9 +42,9 @@ class Makers:
     """Targets by the names that their recipes make, be it for a moment."""
 
     graph: Graph
-    makers: dict[str, set[str]] = field(default_factory=dict)
-    momentary: set[str] = field(default_factory=set)
-    folders: dict[str, set[str]] = field(default_factory=dict)
+    makers: dict[Name, set[str]] = field(default_factory=dict)
+    momentary: set[Name] = field(default_factory=set)
+    folders: dict[Name, set[str]] = field(default_factory=dict)
 
     def __post_init__(self) -> None:
         self.ancestors = self.graph.ancestors()
@@ -56,14 +57,14 @@ class Makers:
         for name in footprint.made:
             self.folders.setdefault(name, set()).add(footprint.recipe.target)
 
-    def others(self, footprint: Footprint, name: str) -> list[str]:
+    def others(self, footprint: Footprint, name: Name) -> list[str]:
         """The other recipes that make a name; a folder only where the recipe uses it."""
         makers = self.makers.get(name, set())
         if name in footprint.met:
             makers = makers | self.folders.get(name, set())
         return sorted(makers - {footprint.recipe.target})
 
-    def cure(self, footprint: Footprint, names: list[str]) -> str:
+    def cure(self, footprint: Footprint, names: list[Name]) -> str:
         """What helps a recipe that looks for what others make."""
         target = footprint.recipe.target
         makers = [self.others(footprint, name) for name in names]
@@ -87,13 +88,13 @@ class Uses:
     """
 
     ancestors: Ancestors
-    users: dict[str, set[str]] = field(default_factory=dict)
-    fillers: dict[str, set[str]] = field(default_factory=dict)
-    takers: dict[str, set[str]] = field(default_factory=dict)
-    owners: dict[str, set[str]] = field(default_factory=dict)
-    meeters: dict[str, set[str]] = field(default_factory=dict)
-    lasting: set[str] = field(default_factory=set)
-    folders: set[str] = field(default_factory=set)
+    users: dict[Name, set[str]] = field(default_factory=dict)
+    fillers: dict[Name, set[str]] = field(default_factory=dict)
+    takers: dict[Name, set[str]] = field(default_factory=dict)
+    owners: dict[Name, set[str]] = field(default_factory=dict)
+    meeters: dict[Name, set[str]] = field(default_factory=dict)
+    lasting: set[Name] = field(default_factory=set)
+    folders: set[Name] = field(default_factory=set)
 
     def take(self, footprint: Footprint, makers: Makers) -> None:
         """Takes what a recipe uses."""
@@ -116,7 +117,7 @@ class Uses:
         for name in footprint.met:
             self.meeters.setdefault(name, set()).add(target)
 
-    def others(self, footprint: Footprint, name: str) -> set[str]:
+    def others(self, footprint: Footprint, name: Name) -> set[str]:
         """The other recipes that one would disturb by taking a name away.
 
         Where it makes a folder of that name later, those that only read in it do so afterwards.
@@ -126,17 +127,17 @@ class Uses:
             return self.beside(footprint, name, self.fillers[name])
         return self.beside(footprint, name, self.users.get(name, set()))
 
-    def is_folder(self, footprint: Footprint, name: str) -> bool:
+    def is_folder(self, footprint: Footprint, name: Name) -> bool:
         """Whether a name is that of a folder that a recipe takes away, as far as recipes tell, and
         that no other one takes away."""
         others = self.takers.get(name, set()) - {footprint.recipe.target}
         return not others and (name in footprint.dropped or name in self.folders)
 
-    def others_taking(self, footprint: Footprint, name: str) -> set[str]:
+    def others_taking(self, footprint: Footprint, name: Name) -> set[str]:
         """The other recipes that would disturb this one by taking a name away."""
         return self.beside(footprint, name, self.takers.get(name, set()))
 
-    def beside(self, footprint: Footprint, name: str, targets: set[str]) -> set[str]:
+    def beside(self, footprint: Footprint, name: Name, targets: set[str]) -> set[str]:
         """Those of some recipes that are others than this one, and that may run side by side with
         it where no file stays there. In each make one then finds nothing that another one left.
         """
@@ -194,7 +195,7 @@ def with_sought(footprint: Footprint, makers: Makers, warn: Warn) -> Footprint:
 
 
 def warn_of_late(
-    footprint: Footprint, names: list[str], verb: str, makers: Makers, warn: Warn
+    footprint: Footprint, names: list[Name], verb: str, makers: Makers, warn: Warn
 ) -> None:
     """Warns of files that a recipe looks for and that others make, later or for a moment."""
     target = footprint.recipe.target
@@ -298,7 +299,7 @@ def with_own(footprint: Footprint, uses: Uses, warn: Warn) -> Footprint:
     target = footprint.recipe.target
     names = sorted({*footprint.scratch, *footprint.missed})
     used = {name: others for name in names if (others := uses.others(footprint, name))}
-    removed: set[str] = set()
+    removed: set[Name] = set()
     if not footprint.writes:
         removed = used.keys() & (footprint.lost | footprint.missed - footprint.scratch)
     if removed:
@@ -347,7 +348,7 @@ def with_modes(footprint: Footprint, uses: Uses, warn: Warn) -> Footprint:
     return replace(footprint, reads=list(dict.fromkeys(reads)), writes=writes)
 
 
-def tell(footprint: Footprint, name: str, others: str, warn: Warn) -> None:
+def tell(footprint: Footprint, name: Name, others: str, warn: Warn) -> None:
     """Warns of a shared name, or refuses it where no footprint can hold it."""
     verb = "makes and takes away"
     if name in footprint.lost:
@@ -369,7 +370,7 @@ def tell(footprint: Footprint, name: str, others: str, warn: Warn) -> None:
     warn(Note(footprint.recipe.target, Kind.SHARED, text))
 
 
-def tell_of_folder(footprint: Footprint, name: str, others: list[str], warn: Warn) -> None:
+def tell_of_folder(footprint: Footprint, name: Name, others: list[str], warn: Warn) -> None:
     """Warns of a folder that a recipe takes away while others use it."""
     target = footprint.recipe.target
     verb = "would take away"

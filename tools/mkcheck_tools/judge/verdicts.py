@@ -16,16 +16,9 @@ from mkcheck_tools.judge.modules import folder_of_modules
 from mkcheck_tools.judge.notes import Kind, Note
 from mkcheck_tools.judge.refusals import listed
 from mkcheck_tools.replay.runs import AGAIN, BARE, DAMAGED, HANDED, LOOKED, ORDERED, VARIED, Outcome
-from mkcheck_tools.replay.surroundings import (
-    CLOCK,
-    FLAGS,
-    FOLDERS,
-    INPUT,
-    LISTING,
-    NAMES,
-    TERMINAL,
-)
+from mkcheck_tools.replay.surroundings import CLOCK, FLAGS, FOLDERS, INPUT, LISTING, NAMES, TERMINAL
 from mkcheck_tools.replay.worlds import GIVEN, Trial
+from mkcheck_tools.run.paths import Name
 
 SHOWN_AT_MOST = 10
 
@@ -164,7 +157,7 @@ def judge(
     outcomes: Iterable[Outcome],
     trusted: frozenset[str],
     once: frozenset[str],
-    makers: Mapping[str, list[str]],
+    makers: Mapping[Name, list[str]],
 ) -> ReplayVerdict:
     """The verdict. `once` are targets that no make makes again, and `makers` has who made which
     folder.
@@ -220,7 +213,7 @@ def subject(outcome: Outcome) -> str:
     return f"the recipe of {outcome.trial.recipe.target}, run {setting}, {what}"
 
 
-def complaint(outcome: Outcome, makers: Mapping[str, list[str]]) -> str:
+def complaint(outcome: Outcome, makers: Mapping[Name, list[str]]) -> str:
     """The error of a replay that failed, or left other files than the recording."""
     target = outcome.trial.recipe.target
     if outcome.broken:
@@ -283,7 +276,7 @@ def is_kept(outcome: Outcome) -> bool:
     return bool(outcome.differences) and outcome.differences[0].kept and outcome.run != ORDERED
 
 
-def likely_causes(outcome: Outcome, makers: Mapping[str, list[str]]) -> list[str]:
+def likely_causes(outcome: Outcome, makers: Mapping[Name, list[str]]) -> list[str]:
     """What a recipe uses and no record can name: folders of others, files that it takes away; and
     what Python keeps."""
     trial = outcome.trial

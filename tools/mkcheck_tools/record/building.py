@@ -38,6 +38,7 @@ from mkcheck_tools.judge.refusals import check_opaque
 from mkcheck_tools.judge.verdicts import check_trust
 from mkcheck_tools.record.request import Request
 from mkcheck_tools.run.folders import Naming, sources_in
+from mkcheck_tools.run.paths import RealPath, unbound
 from mkcheck_tools.run.places import Place
 
 VARYING_HELP = "use $?, which is empty here: write $^"
@@ -59,12 +60,12 @@ class Build:
         return self.prober.build
 
 
-def build_of(request: Request, scratch: str, warn: Warn) -> Build:
+def build_of(request: Request, scratch: RealPath, warn: Warn) -> Build:
     """The build that is asked for. What makes would do otherwise is told, or refused."""
     choice, folder = request.choice, request.folder
     program = find_checker(Path(sys.argv[0]).resolve().parent)
-    checker = Checker(program, Place(folder, folder), choice.options, choice.words)
-    naming = Naming(folder, choice.fixed)
+    checker = Checker(program, Place.of(folder), choice.options, choice.words)
+    naming = Naming(unbound(folder), choice.fixed)
     hidden = request.hidden
     sources = [name for name in sources_in(folder, naming) if name not in hidden]
     refuse_mark(folder, plainly_included(folder, makefile_of(request)))

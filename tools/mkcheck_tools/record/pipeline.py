@@ -31,6 +31,7 @@ from mkcheck_tools.replay.meetings import meetings_of
 from mkcheck_tools.replay.replays import Replay, Replayed
 from mkcheck_tools.run import places
 from mkcheck_tools.run.ending import write_text
+from mkcheck_tools.run.paths import RealPath, real_in, unbound
 from mkcheck_tools.run.places import Place
 from mkcheck_tools.run.stopping import Stopped
 from mkcheck_tools.trace import tracing
@@ -60,7 +61,7 @@ def tell(text: str) -> None:
     print(f"mkcheck-record: {text}", file=sys.stderr)
 
 
-def record_folder(request: Request, scratch: str) -> int:
+def record_folder(request: Request, scratch: RealPath) -> int:
     """Records a folder, writes what was recorded, and gives the status.
 
     Whatever ends it early, the state keeps what was recorded.
@@ -89,17 +90,17 @@ def record_folder(request: Request, scratch: str) -> int:
     return write(shop, recorded, verdict, result, notes)
 
 
-def workshop(request: Request, build: Build, scratch: str, warn: Warn) -> Workshop:
+def workshop(request: Request, build: Build, scratch: RealPath, warn: Warn) -> Workshop:
     """Where the recipes run: on a copy, at the project's own path where the system allows it, or in
     the folder."""
     folder, choice = request.folder, request.choice
-    copied = os.path.join(scratch, "copy", os.path.basename(folder))
+    copied = real_in(scratch, os.path.join("copy", os.path.basename(folder)))
     os.mkdir(os.path.dirname(copied))
-    place = Place(copied, copied)
+    place = Place.of(copied)
     if request.in_place:
-        place = Place(folder, folder)
+        place = Place.of(folder)
     elif places.namespace() is not None:
-        place = Place(copied, folder, shut=True)
+        place = Place(copied, unbound(folder), shut=True)
         if places.shut() is None:
             warn(Note("", Kind.OPEN, OPEN))
     else:
@@ -213,7 +214,7 @@ def replay(shop: Workshop, build: Build, recorded: Recorded, warn: Warn) -> Repl
     replays = Replay(
         world,
         shop.place.seen,
-        os.path.join(shop.scratch, "replays"),
+        real_in(shop.scratch, "replays"),
         shop.environment,
         shop.ancestors,
         recorded.late,

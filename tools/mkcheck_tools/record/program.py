@@ -20,6 +20,7 @@ from mkcheck_tools.record.request import Request
 from mkcheck_tools.run import places
 from mkcheck_tools.run.ending import ended
 from mkcheck_tools.run.folders import prefix_of, scratch_folder
+from mkcheck_tools.run.paths import resolved
 
 ABOUT = "Builds goals once under strace, and writes down which files each recipe reads and writes."
 STATUS = (
@@ -95,7 +96,7 @@ def words_of(arguments: list[str]) -> argparse.Namespace:
 
 def request_of(asked: argparse.Namespace) -> Request:
     """The recording that is asked for. An update takes what isn't given from the one before."""
-    folder = os.path.realpath(asked.C)
+    folder = resolved(asked.C)
     if not os.path.isdir(folder) or folder == "/":
         raise Fault(
             f"-C {asked.C}: no folder" if folder != "/" else "the root of all files is no project"

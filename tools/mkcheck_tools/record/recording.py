@@ -16,6 +16,7 @@ from mkcheck_tools.answers.graphs import Ancestors, Command, Recipe
 from mkcheck_tools.book.updating import Updating
 from mkcheck_tools.faults import FULL, Failure, Fault, RecipeFault, failure_of
 from mkcheck_tools.judge.footprints import (
+    HERE,
     Footprint,
     footprint_of,
     kind_of,
@@ -31,6 +32,7 @@ from mkcheck_tools.record.request import Request
 from mkcheck_tools.replay.versions import Store, Version, version_of
 from mkcheck_tools.replay.worlds import Effects, World
 from mkcheck_tools.run.folders import UNWRITTEN, Naming, copy, is_cache, is_own
+from mkcheck_tools.run.paths import Name, RealPath, SeenPath, real_in, seen_in
 from mkcheck_tools.run.places import Place
 from mkcheck_tools.run.progress import Progress
 from mkcheck_tools.run.stopping import Stopped
@@ -60,7 +62,7 @@ class Workshop:
     request: Request
     place: Place
     absent: frozenset[str]
-    scratch: str
+    scratch: RealPath
     ancestors: Ancestors = field(default_factory=Ancestors)
     macros: Mapping[str, str] = field(default_factory=dict)
     varying: frozenset[str] = frozenset()
@@ -70,7 +72,7 @@ class Workshop:
     """Whether the replay tries what recipes leave where a write fails."""
 
     @property
-    def folder(self) -> str:
+    def folder(self) -> RealPath:
         """The project's folder."""
         return self.request.folder
 
@@ -106,7 +108,7 @@ class Workshop:
 
     def follow(self) -> World:
         """What follows the files, for the replay."""
-        kept = os.path.join(self.scratch, "store")
+        kept = real_in(self.scratch, "store")
         store = Store(kept) if self.updating is None else self.updating.store()
         world = World.of(self.folder, self.place.folder, store)
         if self.updating is not None:
@@ -125,7 +127,7 @@ class Recorded:
     contents: list[dict[str, str]]
     failures: list[Failure] = field(default_factory=list)
     world: World | None = None
-    given: frozenset[str] = frozenset()
+    given: frozenset[Name] = frozenset()
     ancestors: Ancestors = field(default_factory=Ancestors)
     stopped: BaseException | None = None
     """What ended the recording before its last recipe."""
@@ -141,9 +143,9 @@ class Recorded:
         return late_files(self.footprints, self.given, self.ancestors, with_made=False)
 
     @functools.cached_property
-    def writers(self) -> dict[str, list[str]]:
+    def writers(self) -> dict[Name, list[str]]:
         """The targets whose recipes write a file, by its name."""
-        found: dict[str, list[str]] = {}
+        found: dict[Name, list[str]] = {}
         for footprint in self.footprints:
             for name in footprint.writes:
                 found.setdefault(name, []).append(footprint.recipe.target)
@@ -235,15 +237,15 @@ class Bench:
         done.footprints.append(footprint)
         done.contents.append({name: content_of(left[name]) for name in footprint.writes})
 
-    def left(self, footprint: Footprint) -> Mapping[str, Version | None]:
+    def left(self, footprint: Footprint) -> Mapping[Name, Version | None]:
         """What a recipe left at the files that it wrote."""
         folder = self.shop.place.folder
-        return {name: version_of(os.path.join(folder, name)) for name in footprint.writes}
+        return {name: version_of(real_in(folder, name)) for name in footprint.writes}
 
     def clear(self, world: World | None) -> None:
         """Takes away what a recipe left that isn't recorded, so that no other one finds it."""
         for name in world.clear_unknown() if world is not None and self.is_copy else ():
-            self.tree.refresh(os.path.join(self.shop.place.seen, name))
+            self.tree.refresh(seen_in(self.shop.place.seen, name))
 
     @property
     def is_copy(self) -> bool:
@@ -269,7 +271,7 @@ def effects_of(footprint: Footprint, accesses: Accesses, naming: Naming) -> Effe
         if is_own(name)
     ]
     looked = [
-        naming.name(path) or path
+        naming.name_or_path(path)
         for path in accesses.looked
         if not is_unwritten(path, naming) and not is_cache(path)
     ]
@@ -294,14 +296,14 @@ def effects_of(footprint: Footprint, accesses: Accesses, naming: Naming) -> Effe
     )
 
 
-def is_unwritten(path: str, naming: Naming) -> bool:
+def is_unwritten(path: SeenPath, naming: Naming) -> bool:
     """Whether a path leads to what is no file that lasts."""
     return path.startswith(UNWRITTEN) and naming.name(path) is None
 
 
-def name_of_folder(path: str, naming: Naming) -> str:
+def name_of_folder(path: SeenPath, naming: Naming) -> Name:
     """The name of a folder, `.` for the project's, or its path where it has none."""
-    return "." if path == naming.root else naming.name(path) or path
+    return HERE if path == naming.root else naming.name_or_path(path)
 
 
 def run(
@@ -361,7 +363,7 @@ def missed_targets(
     target = recipe.target
     missing = [path for path in accesses.sought if accesses.tree.status(path) is None]
     sought, absent = named(accesses.sought, naming), set(named(missing, naming))
-    inside = [name for name in shop.ancestors.bits if absent.intersection(folders_of(name))]
+    inside = [name for name in shop.ancestors.bits if absent.intersection(folders_of(Name(name)))]
     for name in dict.fromkeys([*sought, *inside]):
         if name in shop.ancestors.bits and name in shop.absent and name != target:
             folder = "" if name in sought else "the folder of "
@@ -408,6 +410,6 @@ def content_of(version: Version | None) -> str:
     return f"{version.kind} {version.content}" if version is not None else ""
 
 
-def is_pipe(tree: Tree, path: str) -> bool:
+def is_pipe(tree: Tree, path: SeenPath) -> bool:
     """Whether a pipe or a socket stands at a path: footprints don't name these."""
     return kind_of(tree, path) in (stat.S_IFIFO, stat.S_IFSOCK)

@@ -8,13 +8,14 @@ from dataclasses import dataclass
 from mkcheck_tools.book.choices import Choice
 from mkcheck_tools.book.note_files import path_of_notes
 from mkcheck_tools.book.states import path_of_state, path_of_store
+from mkcheck_tools.run.paths import RealPath
 
 
 @dataclass(frozen=True)
 class Request:
     """A recording: of which folder, of what, and what becomes of it."""
 
-    folder: str
+    folder: RealPath
     choice: Choice
     output: str | None
     """Where the footprints go; standard output without it."""

@@ -7,8 +7,9 @@ from collections.abc import Iterator, Mapping
 from dataclasses import dataclass
 
 from mkcheck_tools.replay.layouts import Layout
-from mkcheck_tools.replay.versions import FILE, FOLDER, LINK, Version, version_of
-from mkcheck_tools.replay.worlds import EMPTY, OTHER, Trial, entries, mode_of, stamp_of
+from mkcheck_tools.replay.versions import FILE, FOLDER, LINK, NOWHERE, Version, version_of
+from mkcheck_tools.replay.worlds import EMPTY, OTHER, Trial, above, entries, mode_of, stamp_of
+from mkcheck_tools.run.paths import Name, RealPath, real_in
 
 SHOWN_BYTES = 1 << 16
 
@@ -17,7 +18,7 @@ SHOWN_BYTES = 1 << 16
 class Difference:
     """How a replay differs from the recording at one name."""
 
-    name: str
+    name: Name
     what: str
     """A sentence without its subject, the recipe."""
 
@@ -35,13 +36,13 @@ class Comparison:
     layout: Layout
 
     def differences(
-        self, trial: Trial, folder: str, laid: Mapping[str, tuple[int, ...]]
+        self, trial: Trial, folder: RealPath, laid: Mapping[Name, tuple[int, ...]]
     ) -> Iterator[Difference]:
         """Where what a run left differs from what the recording left."""
         for name, version in trial.after.items():
             if name in trial.caches:
                 continue
-            path = os.path.join(folder, name)
+            path = real_in(folder, name)
             if name in trial.before and trial.before[name] is version:
                 if laid[name] != stamp_of(path):
                     yield Difference(
@@ -55,18 +56,18 @@ class Comparison:
                 yield Difference(name, *difference(name, version, found, self.kept(version), path))
         yield from self.left(trial, folder)
 
-    def kept(self, version: Version | None) -> str:
+    def kept(self, version: Version | None) -> RealPath:
         """Where the bytes lie that a recipe left when it was recorded."""
         if version is None or version.kind != FILE:
-            return ""
+            return NOWHERE
         return self.layout.world.store.path(version)
 
-    def left(self, trial: Trial, folder: str) -> Iterator[Difference]:
+    def left(self, trial: Trial, folder: RealPath) -> Iterator[Difference]:
         """What a run left that the recording didn't, and folders that it failed to make."""
         folders = {*trial.known, *self.layout.folders_of(trial)}
-        folders.update(os.path.dirname(name) for name in trial.after)
+        folders.update(above(name) for name in trial.after)
         for name in list(folders):
-            while name := os.path.dirname(name):
+            while name := above(name):
                 folders.add(name)
         for name, entry in entries(folder):
             if entry.is_dir(follow_symlinks=False):
@@ -78,13 +79,13 @@ class Comparison:
             elif name not in trial.after and name not in trial.links:
                 yield Difference(name, f"leaves {name}, which it didn't leave when it was recorded")
         for name, goal in trial.links.items():
-            path = os.path.join(folder, name)
+            path = real_in(folder, name)
             if name not in trial.after and not (os.path.islink(path) and os.readlink(path) == goal):
                 yield Difference(
                     name, f"{changed(path)} the link {name}, which it wasn't recorded to write"
                 )
         for name, mode in trial.given.items():
-            found = mode_of(os.path.join(folder, name))
+            found = mode_of(real_in(folder, name))
             if found != mode:
                 yield Difference(
                     name,
@@ -92,7 +93,7 @@ class Comparison:
                     " recorded",
                 )
         for name in trial.made:
-            if not os.path.isdir(os.path.join(folder, name)):
+            if not os.path.isdir(real_in(folder, name)):
                 yield Difference(
                     name, f"doesn't make the folder {name}, as it did when it was recorded"
                 )
@@ -103,12 +104,12 @@ def is_file(version: Version | None) -> bool:
     return version is not None and version.kind == FILE
 
 
-def changed(path: str) -> str:
+def changed(path: RealPath) -> str:
     """What a recipe did to a file that it only reads, by what stands there now."""
     return "changes" if os.path.lexists(path) else "takes away"
 
 
-def only_touched(version: Version | None, path: str) -> bool:
+def only_touched(version: Version | None, path: RealPath) -> bool:
     """Whether a damaged file kept its bytes, and was empty when it was recorded.
 
     So `touch` does it. Where no other recipe writes the file, it is empty whenever it is there.
@@ -123,7 +124,7 @@ def only_touched(version: Version | None, path: str) -> bool:
 
 
 def difference(
-    name: str, version: Version | None, found: Version | None, old: str, new: str
+    name: Name, version: Version | None, found: Version | None, old: RealPath, new: RealPath
 ) -> tuple[str, tuple[str, ...]]:
     """What is said where a file isn't as the recording left it, and the first lines that differ."""
     if version is None:
@@ -151,7 +152,7 @@ def difference(
     )
 
 
-def lines_that_differ(old: str, new: str) -> tuple[str, ...]:
+def lines_that_differ(old: RealPath, new: RealPath) -> tuple[str, ...]:
     """The first line in which two texts differ, where they are texts."""
     with open(old, "rb") as one, open(new, "rb") as two:
         first, second = one.read(SHOWN_BYTES), two.read(SHOWN_BYTES)

@@ -16,6 +16,7 @@ from mkcheck_tools.replay.surroundings import NAMES, Surroundings, beside
 from mkcheck_tools.replay.versions import Version, lay
 from mkcheck_tools.replay.worlds import GIVEN, Trial, stamp_of, stamps_of
 from mkcheck_tools.run.folders import remove
+from mkcheck_tools.run.paths import Name, real_in
 from mkcheck_tools.run.places import Place
 
 # Between the stamps of files that a recipe only looks at, in nanoseconds.
@@ -31,8 +32,8 @@ class Look:
     """What is laid for a run: `others` in other versions, of this size. The files in `first` are
     older than all that the recipe reads, the rest are newer."""
 
-    others: Mapping[str, Version]
-    first: frozenset[str]
+    others: Mapping[Name, Version]
+    first: frozenset[Name]
     size: int
 
 
@@ -43,9 +44,9 @@ class Glances:
 
     runner: Runner
     place: Place
-    folders: frozenset[str]
+    folders: frozenset[Name]
 
-    def deciding(self, trial: Trial) -> tuple[Mapping[str, Version], Outcome | None]:
+    def deciding(self, trial: Trial) -> tuple[Mapping[Name, Version], Outcome | None]:
         """Those of the files at which a recipe that passed only looks that count as read, since it
         depends on one of them: files that recipes made, and sources that its target needs. Or a run
         that shows that it depends on one of the other sources.
@@ -59,7 +60,7 @@ class Glances:
         made, given = self.runner.layout.world.glanced(trial)
         needed = {name: given[name] for name in given if ancestors.any_before((name,), target)}
         others = {name: version for name, version in given.items() if name not in needed}
-        counted: dict[str, Version] = {}
+        counted: dict[Name, Version] = {}
         for newest, size in ((True, LARGE), (False, EMPTY), (True, AS_IT_IS)):
             while True:
                 open_ones = without({**made, **needed}, counted)
@@ -80,15 +81,15 @@ class Glances:
     def varied(
         self,
         trial: Trial,
-        same: Mapping[str, Version],
-        others: Mapping[str, Version],
+        same: Mapping[Name, Version],
+        others: Mapping[Name, Version],
         newest: bool,
         size: int,
     ) -> Outcome:
         """A run beside other versions of some files, the newest ones or the oldest ones, and beside
         others as they were."""
         tried = with_later_stamps(self.runner.layout.world, trial.with_reads(same))
-        oldest: frozenset[str] = frozenset()
+        oldest: frozenset[Name] = frozenset()
         if not newest:
             near = {*tried.before, *(name for name in others if others[name] != GIVEN)}
             oldest = frozenset(name for name in others if not self.needs_any(name, near - {name}))
@@ -111,16 +112,16 @@ class Glances:
         later = {name for name in others if name not in first or others[name] != GIVEN}
         found.sort(key=lambda one: (one[0] not in first, one[0] in later, -one[2].stamp))
         bound = self.bound(others, trial.before) - first
-        paths = [os.path.join(place.folder, name) for name in trial.before]
+        paths = [real_in(place.folder, name) for name in trial.before]
         stamps = [os.lstat(path).st_mtime_ns for path in paths]
         stamps += [full.stamp for name, _, full in found if name in bound]
         oldest = min(stamps, default=time.time_ns())
         early, late = (stamp - APART * len(found) for stamp in (oldest, time.time_ns()))
         with contextlib.suppress(OSError):
             for name in others:
-                os.makedirs(os.path.dirname(os.path.join(place.folder, name)), exist_ok=True)
+                os.makedirs(os.path.dirname(real_in(place.folder, name)), exist_ok=True)
             for number, (name, source, full) in enumerate(found):
-                path = os.path.join(place.folder, name)
+                path = real_in(place.folder, name)
                 stamp = (early if name in first else late) + APART * number
                 stamp = full.stamp if name in bound else stamp
                 if look.size == AS_IT_IS:
@@ -129,11 +130,11 @@ class Glances:
                     lay_other(look.size, path, full.mode, stamp)
             if place.is_bound:
                 Surroundings(frozenset({NAMES})).name_again(place.folder, list(others))
-        around = {name: stamp_of(os.path.join(place.folder, name)) for name in others}
+        around = {name: stamp_of(real_in(place.folder, name)) for name in others}
         outcome = self.runner.one(trial, place, LOOKED, stamps_of(trial, place.folder))
         rest = [one for one in outcome.differences if one.name not in around]
         for name, laid in around.items():
-            path = os.path.join(place.folder, name)
+            path = real_in(place.folder, name)
             if laid != stamp_of(path):
                 what = f"{changed(path)} {name}, which it wasn't recorded to write"
                 rest.append(Difference(name, what))
@@ -141,7 +142,7 @@ class Glances:
         remove(beside(place.folder))
         return replace(outcome, differences=tuple(rest))
 
-    def needs_any(self, name: str, others: Iterable[str]) -> bool:
+    def needs_any(self, name: Name, others: Iterable[Name]) -> bool:
         """Whether one of some files is always made before a file that recipes make."""
         makers = [maker for other in others for maker in self.as_targets(other)]
         return any(
@@ -149,7 +150,7 @@ class Glances:
             for one in self.runner.layout.writers.get(name, ())
         )
 
-    def bound(self, names: Iterable[str], others: Iterable[str]) -> frozenset[str]:
+    def bound(self, names: Iterable[Name], others: Iterable[Name]) -> frozenset[Name]:
         """Those of some files that are always made, or there, before another one of them or of the
         others is made."""
         names = list(names)
@@ -167,11 +168,11 @@ class Glances:
             )
         )
 
-    def as_targets(self, name: str) -> tuple[str, ...]:
+    def as_targets(self, name: Name) -> tuple[str, ...]:
         """A file's name, and the targets whose recipes write it."""
         return (name, *self.runner.layout.writers.get(name, ()))
 
 
-def without(files: Mapping[str, Version], names: Container[str]) -> dict[str, Version]:
+def without(files: Mapping[Name, Version], names: Container[Name]) -> dict[Name, Version]:
     """These files but for some."""
     return {name: version for name, version in files.items() if name not in names}

@@ -15,8 +15,9 @@ from mkcheck_tools.replay import orders
 from mkcheck_tools.replay.listings import Listings, age_of, as_laid
 from mkcheck_tools.replay.stamps import made_since
 from mkcheck_tools.replay.versions import FILE, LINK, Version, lay
-from mkcheck_tools.replay.worlds import GIVEN, OTHER_BYTES, Trial, World, stamp_of, stamps_of
+from mkcheck_tools.replay.worlds import GIVEN, OTHER_BYTES, Trial, World, above, stamp_of, stamps_of
 from mkcheck_tools.run.folders import remove
+from mkcheck_tools.run.paths import Name, RealPath, real_in
 
 # How many blocks a file with holes has at most.
 MOST_BLOCKS = 1 << 12
@@ -29,7 +30,7 @@ class Layout:
 
     world: World
     ancestors: Ancestors
-    writers: Mapping[str, list[str]] = field(default_factory=dict)
+    writers: Mapping[Name, list[str]] = field(default_factory=dict)
 
     @functools.cached_property
     def listings(self) -> Listings:
@@ -38,7 +39,7 @@ class Layout:
         return Listings(self.world.place, makers, self.ancestors)
 
     def furnish(
-        self, trial: Trial, folder: str, folders: frozenset[str], back: bool = False
+        self, trial: Trial, folder: RealPath, folders: frozenset[Name], back: bool = False
     ) -> None:
         """Makes the folder, with what a bare run needs.
 
@@ -48,15 +49,15 @@ class Layout:
         os.mkdir(folder)
         inner = {*self.folders_of(trial), *folders}
         for name in list(inner):
-            while name := os.path.dirname(name):
+            while name := above(name):
                 inner.add(name)
         links = {name: goal for name, goal in trial.links.items() if name not in trial.after}
         made = {name for name, version in trial.before.items() if version != GIVEN}
         made.update(name for name in inner if name in self.world.makers)
         names = self.listings.arranged({*inner, *links, *trial.before}, frozenset(made), back)
-        twins: dict[tuple[int, int], str] = {}
-        for name in as_laid(names, age_of(os.path.dirname(folder))):
-            path = os.path.join(folder, name)
+        twins: dict[tuple[int, int], RealPath] = {}
+        for name in as_laid(names, age_of(RealPath(os.path.dirname(folder)))):
+            path = real_in(folder, name)
             if name in trial.before:
                 self.lay(name, trial.before[name], folder, twins)
             elif name in links:
@@ -65,22 +66,22 @@ class Layout:
                 os.makedirs(path, exist_ok=True)
         self.liken(trial, folder)
 
-    def liken(self, trial: Trial, folder: str) -> None:
+    def liken(self, trial: Trial, folder: RealPath) -> None:
         """Gives folders the modes that they had when the recipe began, and folders of the project
         also their stamps, since `tar` stores these.
 
         A folder in which a recipe wrote has another stamp in each build, so it gets none.
         """
         for name, mode in trial.modes.items():
-            path = os.path.join(folder, name)
+            path = real_in(folder, name)
             with contextlib.suppress(OSError):
                 if mode & 0o700 == 0o700 or name in trial.given:
                     os.chmod(path, mode)
-                status = os.stat(os.path.join(self.world.place, name))
+                status = os.stat(real_in(self.world.place, name))
                 if name in self.world.given_folders and status.st_mtime < self.world.begun:
                     os.utime(path, ns=(status.st_mtime_ns, status.st_mtime_ns))
 
-    def folders_of(self, trial: Trial) -> Iterator[str]:
+    def folders_of(self, trial: Trial) -> Iterator[Name]:
         """The folders that are always there when a recipe begins.
 
         Where another recipe takes one away, those that make it may not run in the next make.
@@ -89,23 +90,23 @@ class Layout:
         yield from (self.world.given_folders & trial.known) - gone
         for name in trial.before:
             if os.path.dirname(name):
-                yield os.path.dirname(name)
+                yield above(name)
         for name, makers in self.world.makers.items():
             there = name in trial.known and name not in gone
             if there and self.ancestors.any_before(makers, trial.recipe.target):
                 yield name
 
-    def taken_away(self, trial: Trial) -> frozenset[str]:
+    def taken_away(self, trial: Trial) -> frozenset[Name]:
         """The folders that other recipes take away and hadn't made."""
         own = {trial.recipe.target}
         return frozenset(name for name, others in self.world.droppers.items() if others - own)
 
     def lay(
-        self, name: str, version: Version, folder: str, twins: dict[tuple[int, int], str]
+        self, name: Name, version: Version, folder: RealPath, twins: dict[tuple[int, int], RealPath]
     ) -> None:
         """Lays a file that the recipe reads. Hard links of the project are hard links here too."""
         source, full = self.world.material(name, version)
-        goal = os.path.join(folder, name)
+        goal = real_in(folder, name)
         status = os.lstat(source) if version == GIVEN else None
         if status is not None and status.st_nlink > 1:
             first = twins.setdefault((status.st_dev, status.st_ino), goal)
@@ -114,17 +115,17 @@ class Layout:
                 return
         lay(source, goal, full)
 
-    def restore(self, trial: Trial, folder: str) -> dict[str, tuple[int, ...]]:
+    def restore(self, trial: Trial, folder: RealPath) -> dict[Name, tuple[int, ...]]:
         """Lays those reads anew that the recipe wrote or took away itself.
 
         Folders to which it gave a mode are open until `close` gives them their modes back.
         """
         for name in sorted(trial.given):
             with contextlib.suppress(OSError):
-                os.chmod(os.path.join(folder, name), 0o700)
+                os.chmod(real_in(folder, name), 0o700)
         for name, version in trial.before.items():
             if trial.after.get(name) is not version:
-                path = os.path.join(folder, name)
+                path = real_in(folder, name)
                 if os.path.isdir(path) and not os.path.islink(path):
                     remove(path)
                 elif os.path.lexists(path):
@@ -133,12 +134,12 @@ class Layout:
                 self.lay(name, version, folder, {})
         return stamps_of(trial, folder)
 
-    def reorder(self, trial: Trial, folder: str, order: str) -> bool:
+    def reorder(self, trial: Trial, folder: RealPath, order: str) -> bool:
         """Gives the files that a recipe reads other stamps; tells whether it gave some."""
-        stamps: dict[str, int] = {}
+        stamps: dict[Name, int] = {}
         for name in trial.before:
             with contextlib.suppress(OSError):
-                status = os.lstat(os.path.join(folder, name))
+                status = os.lstat(real_in(folder, name))
                 if stat.S_ISREG(status.st_mode) and status.st_nlink == 1:
                     stamps[name] = status.st_mtime_ns
         new = made_since(self.world, trial, time.time_ns())
@@ -146,16 +147,16 @@ class Layout:
         sources = [name for name in stamps if trial.before[name] == GIVEN]
         others = orders.with_order(order, stamps, made, sources, self.ancestors)
         for name, stamp in others.items():
-            os.utime(os.path.join(folder, name), ns=(stamp, stamp))
+            os.utime(real_in(folder, name), ns=(stamp, stamp))
         return bool(others)
 
-    def close(self, trial: Trial, folder: str) -> None:
+    def close(self, trial: Trial, folder: RealPath) -> None:
         """Gives folders the modes that they had before the recipe gave them others."""
         for name in sorted(trial.given, reverse=True):
             with contextlib.suppress(OSError):
-                os.chmod(os.path.join(folder, name), trial.modes[name])
+                os.chmod(real_in(folder, name), trial.modes[name])
 
-    def stand_in(self, name: str, path: str) -> None:
+    def stand_in(self, name: Name, path: RealPath) -> None:
         """Puts something at the path of a late file: of its kind, mode and size.
 
         What was there for a moment is taken for a short file.
@@ -180,14 +181,14 @@ class Layout:
             os.chmod(path, version.mode)
 
 
-def aged(path: str) -> tuple[int, ...]:
+def aged(path: RealPath) -> tuple[int, ...]:
     """Makes a file a millisecond older, so that a new stamp differs even on a coarse clock."""
     stamp = os.lstat(path).st_mtime_ns - 1_000_000
     os.utime(path, ns=(stamp, stamp), follow_symlinks=False)
     return stamp_of(path)
 
 
-def damage(path: str) -> None:
+def damage(path: RealPath) -> None:
     """Gives an output other bytes and the newest stamp; its mode stays."""
     mode = stat.S_IMODE(os.lstat(path).st_mode)
     os.unlink(path)
@@ -196,7 +197,7 @@ def damage(path: str) -> None:
     os.chmod(path, mode)
 
 
-def lay_other(size: int, path: str, mode: int, stamp: int) -> None:
+def lay_other(size: int, path: RealPath, mode: int, stamp: int) -> None:
     """Lays a file of this size with other bytes, and with holes where it is large. Where the disk
     has none, it is shorter."""
     with open(path, "xb") as file:

@@ -14,6 +14,7 @@ from enum import Enum
 
 from mkcheck_tools.answers.graphs import Ancestors
 from mkcheck_tools.replay.orders import bounds
+from mkcheck_tools.run.paths import Name, RealPath
 
 # The names of a probe, in no order that a digest would give by chance.
 PROBES = ("m", "c", "z", "a", "k", "x", "b")
@@ -29,13 +30,13 @@ class Age(Enum):
     NEITHER = "neither"
 
 
-def age_of(above: str) -> Age:
+def age_of(above: RealPath) -> Age:
     """How the file system of a folder lists, found by trying."""
     return tried(above, os.stat(above).st_dev)
 
 
 @functools.lru_cache(maxsize=64)
-def tried(above: str, _: int) -> Age:
+def tried(above: RealPath, _: int) -> Age:
     """The same, kept for each folder and file system."""
     with tempfile.TemporaryDirectory(dir=above) as folder:
         for name in PROBES:
@@ -52,13 +53,13 @@ class Listings:
     """Orders of names. `place` is where recipes ran, and `makers` has the targets whose recipes
     write a file or make a folder."""
 
-    place: str
-    makers: Mapping[str, Sequence[str]]
+    place: RealPath
+    makers: Mapping[Name, Sequence[str]]
     ancestors: Ancestors
     ranks: dict[str, dict[str, int]] = field(default_factory=dict)
     """By folder the places of its names, as they are listed where recipes ran."""
 
-    def rank(self, name: str) -> tuple[int, str]:
+    def rank(self, name: Name) -> tuple[int, Name]:
         """The place of a name in its folder; names that aren't there now come last."""
         folder, base = os.path.split(name)
         if folder not in self.ranks:
@@ -70,15 +71,15 @@ class Listings:
         known = self.ranks[folder]
         return (known.get(base, len(known)), name)
 
-    def arranged(self, names: Iterable[str], made: frozenset[str], back: bool) -> list[str]:
+    def arranged(self, names: Iterable[Name], made: frozenset[Name], back: bool) -> list[Name]:
         """Names in the order in which they are to be listed, folders before what is in them: that
         of the recording, but with those that recipes made in another order; or all the other way
         round, if `back`.
         """
-        groups: dict[str, list[str]] = {}
+        groups: dict[str, list[Name]] = {}
         for name in sorted(names, key=self.rank):
             groups.setdefault(os.path.dirname(name), []).append(name)
-        found: list[str] = []
+        found: list[Name] = []
         for folder in sorted(groups, key=lambda one: (one.count("/") + (one != ""), one)):
             own = groups[folder]
             if back:
@@ -88,18 +89,18 @@ class Listings:
             found += [next(moved) if name in made else name for name in own]
         return found
 
-    def otherwise(self, names: Sequence[str]) -> list[str]:
+    def otherwise(self, names: Sequence[Name]) -> list[Name]:
         """Names in an order that is as far from theirs as one may be. What is always made before
         another one keeps its place beside that, and so does what the same recipes made."""
         if len(names) < 2 or len(names) > MOST:
             return list(names)
         ranks = {name: number for number, name in enumerate(names)}
-        after: dict[str, set[str]] = {name: set() for name in names}
+        after: dict[Name, set[Name]] = {name: set() for name in names}
         for name, others in bounds(ranks, self.made_by(names), self.ancestors).items():
             for other in others:
                 first, second = sorted((name, other), key=ranks.__getitem__)
                 after[first].add(second)
-        last: dict[tuple[str, ...], str] = {}
+        last: dict[tuple[str, ...], Name] = {}
         for name in names:
             makers = tuple(self.makers.get(name, ()))
             if makers in last:
@@ -111,7 +112,7 @@ class Listings:
                 counts[other] += 1
         ready = [(-ranks[name], name) for name, count in counts.items() if not count]
         heapq.heapify(ready)
-        found: list[str] = []
+        found: list[Name] = []
         while ready:
             _, name = heapq.heappop(ready)
             found.append(name)
@@ -121,23 +122,23 @@ class Listings:
                     heapq.heappush(ready, (-ranks[other], other))
         return found
 
-    def made_by(self, names: Sequence[str]) -> dict[str, Sequence[str]]:
+    def made_by(self, names: Sequence[Name]) -> dict[Name, Sequence[str]]:
         """The makers of names, each of which has some."""
         return {name: self.makers.get(name, (name,)) for name in names}
 
 
-def as_laid(names: Sequence[str], age: Age) -> list[str]:
+def as_laid(names: Sequence[Name], age: Age) -> list[Name]:
     """The order in which names are to be laid, so that their folders list them in this one. A
     folder still comes before what is in it."""
     if age != Age.NEWEST_FIRST:
         return list(names)
-    groups: dict[str, list[str]] = {}
+    groups: dict[str, list[Name]] = {}
     for name in names:
         groups.setdefault(os.path.dirname(name), []).append(name)
     return [name for own in groups.values() for name in reversed(own)]
 
 
-def is_listed(names: Iterable[str], listed: Iterable[str]) -> bool:
+def is_listed(names: Iterable[Name], listed: Iterable[Name]) -> bool:
     """Whether two of some names lie in one folder that is listed; `.` is the project's."""
     folders = {"" if folder == "." else folder for folder in listed}
     seen: set[str] = set()

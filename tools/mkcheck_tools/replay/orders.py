@@ -12,6 +12,7 @@ import heapq
 from collections.abc import Mapping, Sequence
 
 from mkcheck_tools.answers.graphs import Ancestors
+from mkcheck_tools.run.paths import Name
 
 # Which stamps a recipe finds: those of the recording; the same ones in another order, of all files
 # or of made ones alone; or of sources earlier ones, in the same order.
@@ -21,11 +22,11 @@ DAY = 86_400_000_000_000
 
 def with_order(
     order: str,
-    stamps: Mapping[str, int],
-    made: Mapping[str, Sequence[str]],
-    sources: Sequence[str],
+    stamps: Mapping[Name, int],
+    made: Mapping[Name, Sequence[str]],
+    sources: Sequence[Name],
     ancestors: Ancestors,
-) -> dict[str, int]:
+) -> dict[Name, int]:
     """The new stamps of those files that get some. `made` has for each file that recipes made, and
     whose stamp they didn't choose, their targets."""
     moved = sources if len(sources) + len(made) == len(stamps) else ()
@@ -39,19 +40,19 @@ def with_order(
 
 
 def in_other_order(
-    stamps: Mapping[str, int], makers: Mapping[str, Sequence[str]], ancestors: Ancestors
-) -> dict[str, int]:
+    stamps: Mapping[Name, int], makers: Mapping[Name, Sequence[str]], ancestors: Ancestors
+) -> dict[Name, int]:
     """The same stamps, in an order that is as far from theirs as one may be. `makers` has for each
     file that is no source the targets whose recipes made it."""
     before = bounds(stamps, makers, ancestors)
-    after: dict[str, list[str]] = {}
+    after: dict[Name, list[Name]] = {}
     for name, others in before.items():
         for other in others:
             after.setdefault(other, []).append(name)
     counts = {name: len(others) for name, others in before.items()}
     ready = [rank(name, stamps, makers) for name, count in counts.items() if not count]
     heapq.heapify(ready)
-    order: list[str] = []
+    order: list[Name] = []
     while ready:
         name = heapq.heappop(ready)[-1]
         order.append(name)
@@ -63,29 +64,29 @@ def in_other_order(
 
 
 def rank(
-    name: str, stamps: Mapping[str, int], makers: Mapping[str, Sequence[str]]
-) -> tuple[bool, int, str]:
+    name: Name, stamps: Mapping[Name, int], makers: Mapping[Name, Sequence[str]]
+) -> tuple[bool, int, Name]:
     """Where a file comes if nothing binds it: first those that recipes made, the newest first."""
     source = name not in makers
     return (source, stamps[name] if source else -stamps[name], name)
 
 
 def bounds(
-    stamps: Mapping[str, int], makers: Mapping[str, Sequence[str]], ancestors: Ancestors
-) -> dict[str, set[str]]:
+    stamps: Mapping[Name, int], makers: Mapping[Name, Sequence[str]], ancestors: Ancestors
+) -> dict[Name, set[Name]]:
     """For each file those that are always older: all of their makers come before one of its own.
 
     So no two files are ever older than each other, also where a recipe writes what others made.
     """
-    masks: dict[str, int] = {}
-    names: dict[int, list[str]] = {}
+    masks: dict[Name, int] = {}
+    names: dict[int, list[Name]] = {}
     for name in stamps:
         bits = {ancestors.bits.get(target, 0) for target in makers.get(name, (name,))}
         masks[name] = sum(bits)
         for bit in filter(None, bits):
             names.setdefault(bit, []).append(name)
     known = sum(names)
-    found: dict[str, set[str]] = {}
+    found: dict[Name, set[Name]] = {}
     for name in stamps:
         over = ancestors.union(makers.get(name, ()))
         above = over & known

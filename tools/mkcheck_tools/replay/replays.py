@@ -51,6 +51,7 @@ from mkcheck_tools.replay.worlds import GIVEN, Trial, World, stamps_of
 from mkcheck_tools.run import places
 from mkcheck_tools.run.folders import remove
 from mkcheck_tools.run.memory import LACKS, Memory, is_full, memory
+from mkcheck_tools.run.paths import Name, RealPath, SeenPath, real_in, seen_in, unbound
 from mkcheck_tools.run.places import Place
 from mkcheck_tools.run.progress import Progress
 from mkcheck_tools.trace.accesses import Accesses, Follower
@@ -81,12 +82,12 @@ class Replay:
     """
 
     world: World
-    seen: str
-    scratch: str
+    seen: SeenPath
+    scratch: RealPath
     environment: Mapping[str, str]
     ancestors: Ancestors
     late: Late = field(default_factory=dict)
-    writers: Mapping[str, list[str]] = field(default_factory=dict)
+    writers: Mapping[Name, list[str]] = field(default_factory=dict)
     once: frozenset[str] = frozenset()
     meetings: Meetings = field(default_factory=dict)
     failing: bool = True
@@ -116,12 +117,12 @@ class Replay:
         jobs = processors()
         if places.namespace() is None:
             jobs = 1
-            aside = os.path.join(self.scratch, "built")
+            aside = real_in(self.scratch, "built")
             os.rename(self.world.place, aside)
             self.world.place = aside
         progress = Progress(len(trials), title="replay")
         waiting: list[Future[Outcome]] = []
-        with memory(self.scratch) as self.memory, ThreadPoolExecutor(jobs) as pool:
+        with memory(unbound(self.scratch)) as self.memory, ThreadPoolExecutor(jobs) as pool:
             try:
                 for number, trial in enumerate(trials):
                     waiting.append(pool.submit(self.replay_safely, trial, number, frozenset()))
@@ -154,7 +155,7 @@ class Replay:
             if not done:
                 progress.goes_on(next(iter(left.values())))
 
-    def replay_safely(self, trial: Trial, number: int, folders: frozenset[str]) -> Outcome:
+    def replay_safely(self, trial: Trial, number: int, folders: frozenset[Name]) -> Outcome:
         """The same, where an error that nobody thought of costs this recipe alone."""
         try:
             with self.turns.turn(trial.recipe.target):
@@ -192,7 +193,7 @@ class Replay:
     def place_of(self, number: int) -> Place:
         """The folder for a replay, and where the recipe sees it."""
         bound = places.namespace() is not None
-        folder = os.path.join(self.scratch, str(number)) if bound else self.seen
+        folder = real_in(self.scratch, str(number)) if bound else RealPath(self.seen)
         return Place(folder, self.seen, shut=True)
 
     def with_folders(self, pool: ThreadPoolExecutor, outcomes: list[Outcome]) -> list[Outcome]:
@@ -204,7 +205,7 @@ class Replay:
         left = {outcome.trial.recipe.target: outcome.folders for outcome in outcomes}
         tried: list[Future[Outcome] | Outcome] = []
         for number, outcome in enumerate(outcomes):
-            others: frozenset[str] = frozenset()
+            others: frozenset[Name] = frozenset()
             if outcome.run == BARE and not outcome.passed:
                 own = outcome.trial.recipe.target
                 above = (target for target in left if self.ancestors.any_before((target,), own))
@@ -223,7 +224,7 @@ class Replay:
             )
         return [one.result() if isinstance(one, Future) else one for one in tried]
 
-    def replay(self, trial: Trial, number: int, folders: frozenset[str]) -> Outcome:
+    def replay(self, trial: Trial, number: int, folders: frozenset[Name]) -> Outcome:
         """Replays one recipe, with these further folders: in memory, where there is room, and
         elsewhere if it needs what memory doesn't have."""
         outcome = None
@@ -236,9 +237,9 @@ class Replay:
             outcome = self.replay_at(trial, self.place_of(number), folders)
         return replace(outcome, given=folders)
 
-    def leaves_half(self, trial: Trial, place: Place, folders: frozenset[str]) -> bool:
+    def leaves_half(self, trial: Trial, place: Place, folders: frozenset[Name]) -> bool:
         """Whether a recipe that makes its target anew leaves it half-written if a write fails."""
-        target = trial.recipe.target
+        target = Name(trial.recipe.target)
         if not self.failing or target in trial.before or not is_file(trial.after.get(target)):
             return False
         try:
@@ -249,12 +250,12 @@ class Replay:
 
     def size_of(self, trial: Trial) -> int:
         """How many bytes a recipe reads and writes in files of the project."""
-        versions: dict[str, Version | None] = {**trial.before, **trial.after}
+        versions: dict[Name, Version | None] = {**trial.before, **trial.after}
         sizes = (self.world.size(name, one) for name, one in versions.items() if one is not None)
         return sum(sizes)
 
     def replay_in_memory(
-        self, trial: Trial, place: Place, folders: frozenset[str]
+        self, trial: Trial, place: Place, folders: frozenset[Name]
     ) -> Outcome | None:
         """Replays one recipe in memory; None where that has no room, or not all that it needs."""
         try:
@@ -266,7 +267,7 @@ class Replay:
         lacks = any(text in outcome.failed for text in LACKS)
         return None if lacks else outcome
 
-    def replay_at(self, trial: Trial, place: Place, folders: frozenset[str]) -> Outcome:
+    def replay_at(self, trial: Trial, place: Place, folders: frozenset[Name]) -> Outcome:
         """Replays one recipe in a place."""
         folder = place.folder
         try:
@@ -303,7 +304,7 @@ class Replay:
         finally:
             remove(folder)
 
-    def tried(self, trial: Trial, place: Place, folders: frozenset[str]) -> Outcome:
+    def tried(self, trial: Trial, place: Place, folders: frozenset[Name]) -> Outcome:
         """The runs of a recipe in a folder that is made for them.
 
         Where one fails or differs over outputs, they are repeated with the stamps in the old order
@@ -344,7 +345,7 @@ class Replay:
         remove(bench.place.folder)
         return replace(outcome, missing=missing)
 
-    def needs_stamps(self, trial: Trial, place: Place, folders: frozenset[str]) -> bool:
+    def needs_stamps(self, trial: Trial, place: Place, folders: frozenset[Name]) -> bool:
         """Whether a recipe that fails or differs passes the bare run where the files that recipes
         make have the stamps of the recording.
         """
@@ -352,7 +353,7 @@ class Replay:
             return False
         return self.tried(trial, place, folders).run != BARE
 
-    def seen_by(self, trial: Trial) -> Iterator[Mapping[str, Version]]:
+    def seen_by(self, trial: Trial) -> Iterator[Mapping[Name, Version]]:
         """The files that are laid beside the reads, one set after another: none, then those at
         which the recipe looked, then also those in folders that it listed.
 
@@ -368,8 +369,8 @@ class Replay:
             for name, version in around.items()
             if self.ancestors.any_before((name,), target)
         }
-        nothing: Mapping[str, Version] = {}
-        ways: tuple[tuple[Mapping[str, Version], Mapping[str, Version]], ...] = (
+        nothing: Mapping[Name, Version] = {}
+        ways: tuple[tuple[Mapping[Name, Version], Mapping[Name, Version]], ...] = (
             (nothing, nothing),
             (nothing, needed),
             (looked, nothing),
@@ -379,7 +380,7 @@ class Replay:
             (looked, {**needed, **given}),
             (listed, around),
         )
-        tried: list[dict[str, Version]] = []
+        tried: list[dict[Name, Version]] = []
         for made, sources in ways:
             found = {**made, **sources}
             if found not in tried:
@@ -389,16 +390,16 @@ class Replay:
     def needed(
         self,
         trial: Trial,
-        seen: Mapping[str, Version],
+        seen: Mapping[Name, Version],
         place: Place,
-        folders: frozenset[str],
-    ) -> Mapping[str, Version]:
+        folders: frozenset[Name],
+    ) -> Mapping[Name, Version]:
         """Those of some files without which a recipe fails or differs: of sources that its target
         doesn't need and at which it didn't look, those in the same folder with the same end are
         left out together, where that changes nothing.
         """
         target = trial.recipe.target
-        groups: dict[tuple[str, str], set[str]] = {}
+        groups: dict[tuple[str, str], set[Name]] = {}
         for name, version in seen.items():
             if version == GIVEN and name not in trial.looked:
                 if not self.ancestors.any_before((name,), target):
@@ -415,9 +416,9 @@ class Replay:
         self,
         trial: Trial,
         place: Place,
-        folders: frozenset[str],
+        folders: frozenset[Name],
         amid: Surroundings = AS_RECORDED,
-    ) -> tuple[str, ...]:
+    ) -> tuple[Name, ...]:
         """What a recipe that fails or differs looks for in vain, and what was there when it was
         recorded."""
         self.layout.furnish(with_later_stamps(self.world, trial), place.folder, folders)
@@ -428,17 +429,17 @@ class Replay:
         except Fault:
             return ()
         front = place.seen + "/"
-        names = [path[len(front) :] for path in accesses.sought if path.startswith(front)]
+        names = [Name(path[len(front) :]) for path in accesses.sought if path.startswith(front)]
         return tuple(name for name in names if self.world.was_there(name, trial))
 
     def is_by_age(self, trial: Trial, place: Place) -> bool:
         """Whether a recipe lists a folder with several files, in a place where the order of these
         can be chosen."""
         listed = is_listed({*trial.before, *trial.links}, trial.listed)
-        return listed and age_of(os.path.dirname(place.folder)) != Age.NEITHER
+        return listed and age_of(RealPath(os.path.dirname(place.folder))) != Age.NEITHER
 
     def listed(
-        self, trial: Trial, place: Place, folders: frozenset[str], outcome: Outcome
+        self, trial: Trial, place: Place, folders: frozenset[Name], outcome: Outcome
     ) -> Outcome:
         """The outcome of a recipe that passed, when it has run where folders list their names the
         other way round."""
@@ -452,11 +453,11 @@ class Replay:
     def glancing(
         self,
         trial: Trial,
-        seen: Mapping[str, Version],
+        seen: Mapping[Name, Version],
         place: Place,
-        folders: frozenset[str],
+        folders: frozenset[Name],
         outcome: Outcome,
-    ) -> tuple[Outcome, Mapping[str, Version]]:
+    ) -> tuple[Outcome, Mapping[Name, Version]]:
         """The outcome of a recipe that passed beside these files at which it looked, when it has
         run beside other versions of the rest of them; and those of the rest that count as read. It
         has to pass with these as they were, and may go by the order of their stamps.
@@ -469,7 +470,7 @@ class Replay:
             outcome = self.tried(tried, place, folders)
         return outcome, more
 
-    def beside(self, trial: Trial, place: Place, late: tuple[str, ...]) -> Met:
+    def beside(self, trial: Trial, place: Place, late: tuple[Name, ...]) -> Met:
         """Runs a recipe beside its late files, and tells which it uses.
 
         Where it does something else and opens none of them, it may use any.
@@ -477,14 +478,14 @@ class Replay:
         folders = {folder for name in late for folder in folders_of(name)}
         for name in late:
             with contextlib.suppress(OSError):
-                self.layout.stand_in(name, os.path.join(place.folder, name))
+                self.layout.stand_in(name, real_in(place.folder, name))
         laid = stamps_of(trial, place.folder)
         accesses = Accesses(Tree.of(place))
         try:
             failed = self.runner.run_commands(trial, place, Follower(accesses, place.seen))
         except Fault:
             failed = "its trace ends before it does"
-        paths = {name: os.path.join(place.seen, name) for name in late}
+        paths = {name: seen_in(place.seen, name) for name in late}
         taken = frozenset(name for name, path in paths.items() if path in accesses.touched)
         opened = {*accesses.reads, *accesses.over}
         read = frozenset(name for name, path in paths.items() if path in opened)
@@ -498,7 +499,7 @@ class Replay:
         other = any(name not in paths and name not in folders for name in changed)
         return Met(frozenset(late) if other else frozenset())
 
-    def met_by(self, target: str, late: tuple[str, ...]) -> frozenset[str]:
+    def met_by(self, target: str, late: tuple[Name, ...]) -> frozenset[Name]:
         """The late files that may be there when a recipe runs: not those that are always made after
         it, where no make makes it again.
         """
@@ -511,7 +512,7 @@ class Replay:
             or not all(self.ancestors.any_before((target,), maker) for maker in makers)
         )
 
-    def makers_of(self, name: str) -> list[str]:
+    def makers_of(self, name: Name) -> list[str]:
         """The targets whose recipes write a late file or make a late folder; none for one that is
         there for a moment."""
         return [*self.writers.get(name, ()), *self.world.makers.get(name, ())]
@@ -524,7 +525,7 @@ class Bench:
     runner: Runner
     trial: Trial
     place: Place
-    folders: frozenset[str]
+    folders: frozenset[Name]
 
     def tried(self, order: str, amid: Surroundings = AS_RECORDED) -> Outcome:
         """The runs of the recipe in a folder that is made for them, with this order of stamps."""

@@ -17,6 +17,7 @@ from mkcheck_tools.replay.versions import version_of
 from mkcheck_tools.replay.worlds import Trial, entries, stamp_of, stamps_of
 from mkcheck_tools.run import places
 from mkcheck_tools.run.folders import remove
+from mkcheck_tools.run.paths import Name, RealPath, real_in, seen_in
 from mkcheck_tools.run.places import Place
 from mkcheck_tools.run.progress import first_line
 from mkcheck_tools.trace.accesses import Follower
@@ -48,20 +49,20 @@ class Outcome:
     warning: str = ""
     """How the recipe failed over its own damaged outputs, which isn't always an error."""
 
-    folders: frozenset[str] = frozenset()
+    folders: frozenset[Name] = frozenset()
     """The folders that the bare run left."""
 
-    absent: frozenset[str] = frozenset()
+    absent: frozenset[Name] = frozenset()
     """The folders that were there in the recording, and not in the bare run that failed."""
 
-    missing: tuple[str, ...] = ()
+    missing: tuple[Name, ...] = ()
     """Where the bare run failed or differed: what it looked for in vain, and what was there in the
     recording."""
 
     laid: int = 0
     """How many files at which it only looked, or in folders that it listed, were there in it."""
 
-    given: frozenset[str] = frozenset()
+    given: frozenset[Name] = frozenset()
     """The further folders that were laid for its runs."""
 
     stamps: bool = False
@@ -73,7 +74,7 @@ class Outcome:
     half: bool = False
     """Whether it leaves its target half-written where a write to that fails."""
 
-    glanced: tuple[str, ...] = ()
+    glanced: tuple[Name, ...] = ()
     """The files at which it only looked, where a run shows that it depends on one."""
 
     amid: Mapping[str, Outcome] = field(default_factory=dict)
@@ -93,7 +94,7 @@ class Runner:
     """Runs recipes in folders that are laid for them, with the environment of the recording."""
 
     layout: Layout
-    scratch: str
+    scratch: RealPath
     environment: Mapping[str, str]
     stopped: threading.Event = field(default_factory=threading.Event)
 
@@ -125,7 +126,7 @@ class Runner:
         laid = self.layout.restore(trial, place.folder)
         if self.layout.reorder(trial, place.folder, order):
             laid = stamps_of(trial, place.folder)
-        paths = {name: os.path.join(place.folder, name) for name in outputs}
+        paths = {name: real_in(place.folder, name) for name in outputs}
         old = {name: aged(path) for name, path in paths.items()}
         self.layout.close(trial, place.folder)
         amid.name_again(place.folder, [name for name in laid if laid[name]])
@@ -168,7 +169,7 @@ class Runner:
         trial: Trial,
         place: Place,
         run: str,
-        laid: Mapping[str, tuple[int, ...]],
+        laid: Mapping[Name, tuple[int, ...]],
         amid: Surroundings = AS_RECORDED,
     ) -> Outcome:
         """One run of a recipe in a folder that is ready for it."""
@@ -182,10 +183,10 @@ class Runner:
     def leaves_half(self, trial: Trial, place: Place) -> bool:
         """Whether a recipe leaves its target, which wasn't there, with other contents than whole
         ones where each write to it fails. The folder is ready for it."""
-        target = trial.recipe.target
-        front = failing(os.path.join(place.seen, target))
+        target = Name(trial.recipe.target)
+        front = failing(seen_in(place.seen, target))
         self.run_commands(trial, place, front=front)
-        left = version_of(os.path.join(place.folder, target))
+        left = version_of(real_in(place.folder, target))
         return left is not None and left != trial.after.get(target)
 
     def run_commands(

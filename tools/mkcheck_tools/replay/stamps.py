@@ -12,6 +12,7 @@ from dataclasses import replace
 
 from mkcheck_tools.replay.versions import FILE, Version
 from mkcheck_tools.replay.worlds import GIVEN, Trial, World
+from mkcheck_tools.run.paths import Name
 
 SECOND = 1_000_000_000
 # Archives of zip keep stamps by two seconds.
@@ -20,7 +21,7 @@ LEAST = 2 * SECOND
 STEP = SECOND // 50
 
 
-def made_since(world: World, trial: Trial, until: int) -> dict[str, Version]:
+def made_since(world: World, trial: Trial, until: int) -> dict[Name, Version]:
     """The files that a recipe reads and that got their stamps since the recording began."""
     begun = int(world.begun * SECOND) - STEP
     return {

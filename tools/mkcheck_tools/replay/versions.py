@@ -8,6 +8,7 @@ import stat
 from dataclasses import dataclass, field
 
 from mkcheck_tools.faults import Fault
+from mkcheck_tools.run.paths import RealPath, real_in
 
 FILE = "file"
 LINK = "link"
@@ -22,6 +23,7 @@ KINDS = {
     stat.S_IFSOCK: "socket",
 }
 CHUNK = 1 << 20
+NOWHERE = RealPath("")
 
 
 @dataclass(frozen=True)
@@ -38,7 +40,7 @@ class Version:
     stamp: int = field(default=0, compare=False)
 
 
-def version_of(path: str) -> Version | None:
+def version_of(path: RealPath) -> Version | None:
     """The version at a path itself, which may be a link; None where nothing is there."""
     try:
         status = os.lstat(path)
@@ -49,7 +51,7 @@ def version_of(path: str) -> Version | None:
     return Version(kind, mode, content_of(path, kind), status.st_mtime_ns)
 
 
-def content_of(path: str, kind: str) -> str:
+def content_of(path: RealPath, kind: str) -> str:
     """What tells one content from another: a digest, or where a link leads."""
     try:
         if kind == LINK:
@@ -59,7 +61,7 @@ def content_of(path: str, kind: str) -> str:
         raise Fault(f"{path} can't be read: {error.strerror}") from None
 
 
-def digest_of(path: str) -> str:
+def digest_of(path: RealPath) -> str:
     """A digest of the bytes of a file."""
     digest = hashlib.sha256()
     with open(path, "rb", buffering=0) as file:
@@ -68,7 +70,7 @@ def digest_of(path: str) -> str:
     return digest.hexdigest()
 
 
-def copy_bytes(source: str, goal: str) -> None:
+def copy_bytes(source: RealPath, goal: RealPath) -> None:
     """Copies the bytes of a file to a new file, which shares them where the disk can."""
     with open(source, "rb", buffering=0) as old, open(goal, "xb", buffering=0) as new:
         try:
@@ -84,7 +86,7 @@ def copy_bytes(source: str, goal: str) -> None:
                     written += new.write(chunk[written:])
 
 
-def lay(source: str, goal: str, version: Version) -> None:
+def lay(source: RealPath, goal: RealPath, version: Version) -> None:
     """Lays a version at a path where nothing is: a link, or a file with the bytes of another."""
     if version.kind == LINK:
         os.symlink(version.content, goal)
@@ -98,24 +100,24 @@ def lay(source: str, goal: str, version: Version) -> None:
 class Store:
     """Keeps the bytes of files in a folder, by digest. What `older` has isn't kept again."""
 
-    folder: str
-    older: str = ""
+    folder: RealPath
+    older: RealPath = NOWHERE
 
-    def path(self, version: Version) -> str:
+    def path(self, version: Version) -> RealPath:
         """Where the bytes of a version lie."""
         if self.older:
-            path = os.path.join(self.older, version.content)
+            path = real_in(self.older, version.content)
             if os.path.exists(path):
                 return path
-        return os.path.join(self.folder, version.content)
+        return real_in(self.folder, version.content)
 
-    def keep(self, path: str) -> Version | None:
+    def keep(self, path: RealPath) -> Version | None:
         """The version at a path, whose bytes are kept where it is a file."""
         version = version_of(path)
         if version is None or version.kind != FILE or os.path.exists(self.path(version)):
             return version
-        goal = os.path.join(self.folder, version.content)
-        beside = goal + ".new"
+        goal = real_in(self.folder, version.content)
+        beside = RealPath(goal + ".new")
         if os.path.lexists(beside):
             os.unlink(beside)
         copy_bytes(path, beside)

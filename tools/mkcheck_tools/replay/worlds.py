@@ -14,6 +14,7 @@ from mkcheck_tools.answers.graphs import Recipe
 from mkcheck_tools.faults import Fault
 from mkcheck_tools.replay.versions import FILE, FOLDER, LINK, THERE, Store, Version, version_of
 from mkcheck_tools.run.folders import is_own
+from mkcheck_tools.run.paths import Name, RealPath, real_in
 
 # A file that was there before any recipe, and that no recipe has changed yet.
 GIVEN = Version("given", 0, "")
@@ -30,36 +31,36 @@ EMPTY, OTHER = (hashlib.sha256(text).hexdigest() for text in (b"", OTHER_BYTES))
 class Effects:
     """What a recipe did, by the names of files."""
 
-    reads: tuple[str, ...]
-    writes: tuple[str, ...]
-    gone: tuple[str, ...] = ()
+    reads: tuple[Name, ...]
+    writes: tuple[Name, ...]
+    gone: tuple[Name, ...] = ()
     """Files that it removed and hadn't made."""
 
-    made: tuple[str, ...] = ()
+    made: tuple[Name, ...] = ()
     """Folders that it made."""
 
-    links: tuple[str, ...] = ()
+    links: tuple[Name, ...] = ()
     """Links that it followed and that no recipe made."""
 
-    others: tuple[str, ...] = ()
+    others: tuple[Name, ...] = ()
     """What it left that is no file, such as pipes."""
 
-    looked: tuple[str, ...] = ()
+    looked: tuple[Name, ...] = ()
     """Names at which it looked, whether something was there or not."""
 
-    listed: tuple[str, ...] = ()
+    listed: tuple[Name, ...] = ()
     """Folders whose names it read."""
 
-    owned: tuple[str, ...] = ()
+    owned: tuple[Name, ...] = ()
     """Folders that it hadn't made, and to which it gave a mode."""
 
-    dropped: tuple[str, ...] = ()
+    dropped: tuple[Name, ...] = ()
     """Folders that it removed and hadn't made."""
 
-    locked: frozenset[str] = frozenset()
+    locked: frozenset[Name] = frozenset()
     """Files and folders that it locked."""
 
-    caches: frozenset[str] = frozenset()
+    caches: frozenset[Name] = frozenset()
     """Files that it read and that decide nothing."""
 
 
@@ -68,57 +69,57 @@ class Trial:
     """A recipe as it was recorded, with all that its replay needs."""
 
     recipe: Recipe
-    before: Mapping[str, Version]
+    before: Mapping[Name, Version]
     """The files of the project that it read, as they were when it began."""
 
-    after: Mapping[str, Version | None]
+    after: Mapping[Name, Version | None]
     """The files that it read or wrote, as they were when it ended; None where nothing was there."""
 
-    writes: tuple[str, ...]
-    links: Mapping[str, str]
+    writes: tuple[Name, ...]
+    links: Mapping[Name, str]
     """The links that it followed and that no recipe made, each with its text."""
 
-    made: tuple[str, ...]
+    made: tuple[Name, ...]
     """The folders that it made."""
 
-    known: frozenset[str]
+    known: frozenset[Name]
     """All folders that were there when it began, and those that it made."""
 
     begun: float
     """The time of the clock when it began."""
 
     ended: float
-    looks: Mapping[str, Version | None] = field(default_factory=dict)
+    looks: Mapping[Name, Version | None] = field(default_factory=dict)
     """For an update: what stood at each name that it used or looked at, before it began."""
 
-    lists: Mapping[str, str] = field(default_factory=dict)
+    lists: Mapping[Name, str] = field(default_factory=dict)
     """For an update: of each folder whose names it read a digest of these names."""
 
-    modes: Mapping[str, int] = field(default_factory=dict)
+    modes: Mapping[Name, int] = field(default_factory=dict)
     """The modes of all folders when it began."""
 
-    given: Mapping[str, int] = field(default_factory=dict)
+    given: Mapping[Name, int] = field(default_factory=dict)
     """The modes that it gave to folders that it hadn't made."""
 
     number: int = 0
     """Its place in the serial order."""
 
-    looked: tuple[str, ...] = ()
+    looked: tuple[Name, ...] = ()
     """The names of the project at which it looked."""
 
-    listed: tuple[str, ...] = ()
+    listed: tuple[Name, ...] = ()
     """The folders of the project whose names it read."""
 
-    locked: frozenset[str] = frozenset()
+    locked: frozenset[Name] = frozenset()
     """The files and folders that it locked."""
 
-    caches: frozenset[str] = frozenset()
+    caches: frozenset[Name] = frozenset()
     """The files of the project that are laid for it, and that it may change or not."""
 
     effects: Effects | None = None
     """What it did."""
 
-    def with_reads(self, reads: Mapping[str, Version]) -> Trial:
+    def with_reads(self, reads: Mapping[Name, Version]) -> Trial:
         """The same recipe, recorded to read these too."""
         return replace(self, before={**self.before, **reads}, after={**self.after, **reads})
 
@@ -132,72 +133,72 @@ class Trial:
 class World:
     """What stands in the project's folder now, kept up to date after each recipe."""
 
-    folder: str
+    folder: RealPath
     """The project's folder."""
 
-    place: str
+    place: RealPath
     """Where the recipes run: a copy of the folder, or the folder itself."""
 
     store: Store
     begun: float
     """The time of the clock when the copy was made."""
 
-    given_folders: frozenset[str] = frozenset()
+    given_folders: frozenset[Name] = frozenset()
     """The folders that were there before any recipe."""
 
-    given_files: frozenset[str] = frozenset()
+    given_files: frozenset[Name] = frozenset()
     """The files that were there before any recipe."""
 
-    given_links: dict[str, str] = field(default_factory=dict)
+    given_links: dict[Name, str] = field(default_factory=dict)
     """The links that were there before any recipe, each with its text."""
 
-    inside: dict[str, set[str]] = field(default_factory=dict)
+    inside: dict[Name, set[str]] = field(default_factory=dict)
     """The names that are in each folder now."""
 
-    current: dict[str, Version | None] = field(default_factory=dict)
+    current: dict[Name, Version | None] = field(default_factory=dict)
     """What stands now at each name that a recipe wrote or removed."""
 
-    history: dict[str, list[tuple[int, Version | None]]] = field(default_factory=dict)
+    history: dict[Name, list[tuple[int, Version | None]]] = field(default_factory=dict)
     """For each such name what recipes left there, each with its place in the serial order."""
 
     count: int = 0
     """How many recipes have ended."""
 
-    makers: dict[str, list[str]] = field(default_factory=dict)
+    makers: dict[Name, list[str]] = field(default_factory=dict)
     """The folders that recipes made, each with the targets of these recipes."""
 
-    dropped: set[str] = field(default_factory=set)
+    dropped: set[Name] = field(default_factory=set)
     """The folders that recipes removed and that aren't there now."""
 
-    droppers: dict[str, set[str]] = field(default_factory=dict)
+    droppers: dict[Name, set[str]] = field(default_factory=dict)
     """The folders that recipes removed and hadn't made, each with the targets of these recipes."""
 
-    modes: Mapping[str, int] = field(default_factory=dict)
+    modes: Mapping[Name, int] = field(default_factory=dict)
     """The modes of folders. Trials share this mapping, so a change replaces it."""
 
     trials: list[Trial] = field(default_factory=list)
     watching: bool = False
     """Whether what recipes look at is noted, for an update."""
 
-    seen: dict[str, Version | None] = field(default_factory=dict)
+    seen: dict[Name, Version | None] = field(default_factory=dict)
     """What stands at files that no recipe has changed, each looked at once."""
 
-    compared: dict[tuple[str, Version | None], bool] = field(default_factory=dict)
+    compared: dict[tuple[Name, Version | None], bool] = field(default_factory=dict)
     """The answers of `is_as_before` for such files."""
 
     @classmethod
-    def of(cls, folder: str, place: str, store: Store) -> World:
+    def of(cls, folder: RealPath, place: RealPath, store: Store) -> World:
         """The world before the first recipe."""
         os.makedirs(store.folder, exist_ok=True)
         world = cls(folder, place, store, time.time())
-        folders: dict[str, int] = {}
-        files: set[str] = set()
+        folders: dict[Name, int] = {}
+        files: set[Name] = set()
         for name, entry in entries(place):
-            world.inside.setdefault(os.path.dirname(name), set()).add(entry.name)
+            world.inside.setdefault(above(name), set()).add(entry.name)
             if entry.is_symlink():
                 world.given_links[name] = os.readlink(entry.path)
             elif entry.is_dir(follow_symlinks=False):
-                folders[name] = mode_of(entry.path)
+                folders[name] = mode_of(RealPath(entry.path))
             elif entry.is_file(follow_symlinks=False):
                 files.add(name)
         world.given_folders, world.modes = frozenset(folders), folders
@@ -211,20 +212,20 @@ class World:
         }
         caches = effects.caches & self.given_files
         before |= dict.fromkeys(caches, GIVEN)
-        after: dict[str, Version | None] = {}
+        after: dict[Name, Version | None] = {}
         for name in [*effects.writes, *effects.others]:
-            after[name] = self.store.keep(os.path.join(self.place, name))
+            after[name] = self.store.keep(real_in(self.place, name))
         after.update(dict.fromkeys(effects.gone))
         links = {name: self.given_links[name] for name in effects.links if name in self.given_links}
         links = {name: goal for name, goal in links.items() if name not in self.current}
         made = tuple(
-            name for name in effects.made if name and os.path.isdir(os.path.join(self.place, name))
+            name for name in effects.made if name and os.path.isdir(real_in(self.place, name))
         )
         looks, lists = self.looks(effects, after) if self.watching else ({}, {})
         modes = self.modes
         owned = (name for name in effects.owned if name in modes)
-        given = {name: mode_of(os.path.join(self.place, name)) for name in owned}
-        new = {name: mode_of(os.path.join(self.place, name)) for name in made}
+        given = {name: mode_of(real_in(self.place, name)) for name in owned}
+        new = {name: mode_of(real_in(self.place, name)) for name in made}
         if given or new:
             self.modes = {**modes, **given, **new}
         number = self.count
@@ -258,8 +259,8 @@ class World:
         return trial
 
     def looks(
-        self, effects: Effects, after: Mapping[str, Version | None]
-    ) -> tuple[dict[str, Version | None], dict[str, str]]:
+        self, effects: Effects, after: Mapping[Name, Version | None]
+    ) -> tuple[dict[Name, Version | None], dict[Name, str]]:
         """What stood at the names that a recipe used or looked at, before it began."""
         used = [
             *effects.reads,
@@ -271,24 +272,26 @@ class World:
         versions = {name: self.version(name, after) for name in dict.fromkeys(used) if name}
         for name in effects.looked:
             if name not in versions:
-                there = os.path.lexists(os.path.join(self.folder, name))
+                there = os.path.lexists(real_in(self.folder, name))
                 versions[name] = Version(THERE, 0, "") if there else None
         return versions, {name: self.names_in(name) for name in effects.listed}
 
-    def is_as_before(self, name: str, version: Version | None) -> bool:
+    def is_as_before(self, name: Name, version: Version | None) -> bool:
         """Whether what stands at a name now is what stood there."""
         if is_own(name):
             return self.version(name) == version
         known = self.compared.get((name, version))
         if known is None:
             if version is not None and version.kind == THERE:
-                known = os.path.lexists(os.path.join(self.folder, name))
+                known = os.path.lexists(real_in(self.folder, name))
             else:
                 known = self.version(name) == version
             self.compared[name, version] = known
         return known
 
-    def change(self, target: str, after: Mapping[str, Version | None], made: Iterable[str]) -> None:
+    def change(
+        self, target: str, after: Mapping[Name, Version | None], made: Iterable[Name]
+    ) -> None:
         """A recipe leaves these versions and makes these folders."""
         self.current.update(after)
         for name, version in after.items():
@@ -302,28 +305,28 @@ class World:
             if version is not None:
                 self.appear(name)
             else:
-                self.inside.get(os.path.dirname(name), set()).discard(os.path.basename(name))
+                self.inside.get(above(name), set()).discard(os.path.basename(name))
 
-    def clear_unknown(self) -> list[str]:
+    def clear_unknown(self) -> list[Name]:
         """Takes away the files that a recipe left which isn't recorded; returns their names."""
         found = [
             name
             for name, entry in entries(self.place)
-            if os.path.basename(name) not in self.inside.get(os.path.dirname(name), ())
+            if os.path.basename(name) not in self.inside.get(above(name), ())
             and (entry.is_symlink() or not entry.is_dir(follow_symlinks=False))
         ]
         for name in found:
             with contextlib.suppress(OSError):
-                os.unlink(os.path.join(self.place, name))
+                os.unlink(real_in(self.place, name))
         return found
 
-    def drop(self, folder: str) -> None:
+    def drop(self, folder: Name) -> None:
         """A folder isn't there any more, until a recipe makes it again."""
         self.dropped.add(folder)
         self.inside.pop(folder, None)
-        self.inside.get(os.path.dirname(folder), set()).discard(os.path.basename(folder))
+        self.inside.get(above(folder), set()).discard(os.path.basename(folder))
 
-    def noticed(self, trial: Trial, listed: bool) -> dict[str, Version]:
+    def noticed(self, trial: Trial, listed: bool) -> dict[Name, Version]:
         """Files that recipes before had made and at which a recipe looked, or, if `listed`, that
         lay in a folder that it listed.
         """
@@ -338,7 +341,7 @@ class World:
             if version is not None and version.kind in (FILE, LINK) and name not in trial.after
         }
 
-    def glanced(self, trial: Trial) -> tuple[dict[str, Version], dict[str, Version]]:
+    def glanced(self, trial: Trial) -> tuple[dict[Name, Version], dict[Name, Version]]:
         """The files at which a recipe looked and that it didn't read: those that recipes before had
         made, and those that were there before any.
         """
@@ -355,7 +358,7 @@ class World:
                 del given[name]
         return made, given
 
-    def given_in_listed(self, trial: Trial) -> dict[str, Version]:
+    def given_in_listed(self, trial: Trial) -> dict[Name, Version]:
         """The sources that lie in a folder whose names a recipe read."""
         folders = {"" if folder == "." else folder for folder in trial.listed}
         kept = self.current if self.place == self.folder else {}
@@ -368,30 +371,30 @@ class World:
             and not (name in self.history and self.made_before(name, trial.number) is not None)
         }
 
-    def was_there(self, name: str, trial: Trial) -> bool:
+    def was_there(self, name: Name, trial: Trial) -> bool:
         """Whether something stood at a name when a recipe began."""
         if name in self.history and any(count < trial.number for count, _ in self.history[name]):
             return self.made_before(name, trial.number) is not None
         return name in self.given_files or name in self.given_links or name in trial.known
 
-    def made_before(self, name: str, number: int) -> Version | None:
+    def made_before(self, name: Name, number: int) -> Version | None:
         """What recipes before this one left at a name."""
         left = [version for count, version in self.history[name] if count < number]
         return left[-1] if left else None
 
-    def first_made(self, name: str) -> Version | None:
+    def first_made(self, name: Name) -> Version | None:
         """What stood at a name when a recipe first made it."""
         left = (version for _, version in self.history.get(name, ()))
         return next((version for version in left if version is not None), None)
 
-    def appear(self, name: str) -> None:
+    def appear(self, name: Name) -> None:
         """A name is there now, and with it the folders above it."""
         while os.path.basename(name):
-            folder, base = os.path.split(name)
-            self.inside.setdefault(folder, set()).add(base)
+            folder = above(name)
+            self.inside.setdefault(folder, set()).add(os.path.basename(name))
             name = folder
 
-    def names_in(self, folder: str) -> str:
+    def names_in(self, folder: Name) -> str:
         """A digest of the names in a folder, `.` for the project's; empty if it isn't one."""
         if not is_own(folder):
             try:
@@ -401,16 +404,16 @@ class World:
         elif folder != "." and not self.is_folder(folder):
             return ""
         else:
-            names = sorted(self.inside.get("" if folder == "." else folder, ()))
+            names = sorted(self.inside.get(Name("") if folder == "." else folder, ()))
         return hashlib.sha256("\0".join(names).encode("utf-8", "surrogateescape")).hexdigest()
 
-    def is_folder(self, name: str) -> bool:
+    def is_folder(self, name: Name) -> bool:
         """Whether a name is that of a folder now."""
         known = name in self.makers or name in self.given_folders
         return name in self.inside or (known and name not in self.dropped)
 
     def version(
-        self, name: str, changed: Mapping[str, Version | None] | None = None
+        self, name: Name, changed: Mapping[Name, Version | None] | None = None
     ) -> Version | None:
         """What stands at a name now, of the project or elsewhere; None where nothing does.
 
@@ -418,26 +421,25 @@ class World:
         before it began is asked.
         """
         if not is_own(name):
-            return self.given(name, os.path.join(self.folder, name))
+            return self.given(name, real_in(self.folder, name))
         if self.is_folder(name):
             return FOLDERS
         if name in self.current:
             return self.current[name]
-        folder, base = os.path.split(name)
-        if base not in self.inside.get(folder, ()):
+        if os.path.basename(name) not in self.inside.get(above(name), ()):
             return None
         if changed is None or name not in changed:
-            return self.given(name, os.path.join(self.place, name))
+            return self.given(name, real_in(self.place, name))
         return replace(self.material(name, GIVEN, True)[1], stamp=0)
 
-    def given(self, name: str, path: str) -> Version | None:
+    def given(self, name: Name, path: RealPath) -> Version | None:
         """What stands at a path, of a file that no recipe has changed; each is looked at once."""
         if name not in self.seen:
             version = version_of(path)
             self.seen[name] = FOLDERS if version is not None and version.kind == FOLDER else version
         return self.seen[name]
 
-    def size(self, name: str, version: Version) -> int:
+    def size(self, name: Name, version: Version) -> int:
         """How many bytes a version holds, as far as that is known."""
         path = self.store.path(version) if version.kind == FILE else ""
         if version == GIVEN:
@@ -447,12 +449,14 @@ class World:
         except OSError:
             return 0
 
-    def stamp(self, name: str) -> int:
+    def stamp(self, name: Name) -> int:
         """The stamp of a file that was there before any recipe."""
         folder = self.folder if name in self.current else self.place
         return os.lstat(os.path.join(folder, name)).st_mtime_ns
 
-    def material(self, name: str, version: Version, changed: bool = False) -> tuple[str, Version]:
+    def material(
+        self, name: Name, version: Version, changed: bool = False
+    ) -> tuple[RealPath, Version]:
         """Where the bytes of a version lie, and the version in full.
 
         `changed` tells that the recipe that has just ended changed the file.
@@ -460,14 +464,14 @@ class World:
         if version != GIVEN:
             return self.store.path(version), version
         if name not in self.current and not changed:
-            path = os.path.join(self.place, name)
+            path = real_in(self.place, name)
         elif self.place == self.folder:
             raise Fault(
                 f"{name} was there before a recipe wrote it, so what it held is lost: leave out"
                 " --in-place"
             )
         else:
-            path = os.path.join(self.folder, name)
+            path = real_in(self.folder, name)
             if os.path.lexists(path) and os.lstat(path).st_ctime >= self.begun:
                 raise Fault(
                     f"{name} was changed in the project's folder while recipes ran: record again"
@@ -480,7 +484,12 @@ class World:
         return path, found
 
 
-def mode_of(path: str) -> int:
+def above(name: Name) -> Name:
+    """The name of the folder in which a file lies; nothing for the project's own."""
+    return Name(os.path.dirname(name))
+
+
+def mode_of(path: RealPath) -> int:
     """The bits of the mode of a folder; those of one that is gone are of no use."""
     try:
         return stat.S_IMODE(os.lstat(path).st_mode)
@@ -488,20 +497,20 @@ def mode_of(path: str) -> int:
         return 0o777
 
 
-def entries(place: str, front: str = "") -> Iterator[tuple[str, os.DirEntry[str]]]:
+def entries(place: RealPath, front: str = "") -> Iterator[tuple[Name, os.DirEntry[str]]]:
     """All that is in a folder, by name, folders first. An unreadable folder seems empty."""
     try:
         inside = sorted(os.scandir(os.path.join(place, front)), key=lambda entry: entry.name)
     except OSError:
         return
     for entry in inside:
-        name = os.path.join(front, entry.name)
+        name = Name(os.path.join(front, entry.name))
         yield name, entry
         if entry.is_dir(follow_symlinks=False):
             yield from entries(place, name)
 
 
-def stamp_of(path: str) -> tuple[int, ...]:
+def stamp_of(path: RealPath) -> tuple[int, ...]:
     """What changes when a file is written, replaced, or gets another mode or stamp."""
     try:
         status = os.lstat(path)
@@ -510,6 +519,6 @@ def stamp_of(path: str) -> tuple[int, ...]:
     return (status.st_ino, status.st_mode, status.st_size, status.st_mtime_ns)
 
 
-def stamps_of(trial: Trial, folder: str) -> dict[str, tuple[int, ...]]:
+def stamps_of(trial: Trial, folder: RealPath) -> dict[Name, tuple[int, ...]]:
     """That of all files that the recipe reads, before it runs."""
-    return {name: stamp_of(os.path.join(folder, name)) for name in trial.before}
+    return {name: stamp_of(real_in(folder, name)) for name in trial.before}

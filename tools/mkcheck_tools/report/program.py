@@ -18,6 +18,7 @@ from mkcheck_tools.report.page import page
 from mkcheck_tools.report.pictures import whole
 from mkcheck_tools.report.sarif import sarif
 from mkcheck_tools.run.ending import ended, write_text
+from mkcheck_tools.run.paths import RealPath
 from mkcheck_tools.run.places import Place
 
 ABOUT = "Has mkcheck judge a build, and shows the answer: a page, SARIF, or the graph for Graphviz."
@@ -56,8 +57,8 @@ def checker_of(asked: argparse.Namespace) -> Checker:
             raise Fault(f"{name} is no file that can be read several times; give a file")
     options = (*(["-f", asked.f] if asked.f is not None else []), *(["-r"] if asked.r else []))
     program = find_checker(Path(sys.argv[0]).resolve().parent)
-    folder = os.getcwd()
-    return Checker(program, Place(folder, folder), options, tuple(asked.words), asked.b)
+    place = Place.of(RealPath(os.getcwd()))
+    return Checker(program, place, options, tuple(asked.words), asked.b)
 
 
 def report(asked: argparse.Namespace) -> int:

@@ -16,6 +16,7 @@ from dataclasses import dataclass, field
 
 from mkcheck_tools.faults import Fault
 from mkcheck_tools.run import stopping
+from mkcheck_tools.run.paths import Name, RealPath, SeenPath, resolved, seen_in
 
 # Where programs and libraries of the system lie.
 SYSTEM = ("/usr/", "/lib/", "/lib64/", "/bin/", "/etc/", "/opt/")
@@ -51,24 +52,28 @@ PIECE = 1 << 20
 class Naming:
     """How files are named: relative to the folder, or as they lie under a fixed prefix."""
 
-    root: str
+    root: SeenPath
     fixed: tuple[str, ...]
     files: tuple[str, ...] = ()
     """Single files that never change, as they were given."""
 
-    def name(self, path: str) -> str | None:
-        """The name of the file at a real path, where it has one."""
+    def name(self, path: SeenPath) -> Name | None:
+        """The name of the file at a path without links, where it has one."""
         if path.startswith(self.root + "/"):
-            return path[len(self.root) + 1 :]
+            return Name(path[len(self.root) + 1 :])
         if path in self.steady:
             return self.steady[path]
         for prefix in self.fixed:
             if path.startswith(prefix):
-                return path
+                return Name(path)
         for prefix, real in self.real_prefixes:
             if path.startswith(real):
-                return prefix + path[len(real) :]
+                return Name(prefix + path[len(real) :])
         return None
+
+    def name_or_path(self, path: SeenPath) -> Name:
+        """The name of the file at a path without links; the path, where it has none."""
+        return self.name(path) or Name(path)
 
     @functools.cached_property
     def real_prefixes(self) -> list[tuple[str, str]]:
@@ -77,31 +82,34 @@ class Naming:
         return [(prefix, os.path.realpath(path) + "/") for prefix, path in found]
 
     @functools.cached_property
-    def steady(self) -> dict[str, str]:
+    def steady(self) -> dict[SeenPath, Name]:
         """The real paths of single files that never change, and of the configuration that
         well-known programs have in the user's home folder, each with its name."""
         home = os.path.expanduser("~")
         known = (os.path.join(home, name) for name in CONFIGURATION) if home.startswith("/") else ()
-        found = {os.path.realpath(path): path for path in known}
+        found = {SeenPath(os.path.realpath(path)): Name(path) for path in known}
         found = {real: path for real, path in found.items() if not self.has(real)}
+        given = [seen_in(self.root, name) for name in self.files]
         return found | {
-            os.path.realpath(path): os.path.relpath(path, self.root) if self.has(path) else path
-            for path in (os.path.join(self.root, name) for name in self.files)
+            SeenPath(os.path.realpath(path)): Name(
+                os.path.relpath(path, self.root) if self.has(path) else path
+            )
+            for path in given
         }
 
-    def has(self, path: str) -> bool:
+    def has(self, path: SeenPath) -> bool:
         """Whether a path lies in the folder."""
         return path.startswith(self.root + "/")
 
-    def is_configuration(self, path: str) -> bool:
+    def is_configuration(self, path: SeenPath) -> bool:
         """Whether a file is a well-known program's configuration in the home folder, and wasn't
         given as one that never changes."""
-        return self.steady.get(path, "").startswith(os.path.expanduser("~/")) and not any(
+        return self.steady.get(path, Name("")).startswith(os.path.expanduser("~/")) and not any(
             os.path.realpath(os.path.join(self.root, name)) == path for name in self.files
         )
 
-    def is_steady(self, path: str) -> bool:
-        """Whether the file at a real path is one of these single files."""
+    def is_steady(self, path: SeenPath) -> bool:
+        """Whether the file at a path without links is one of these single files."""
         return path in self.steady
 
     def is_fixed(self, name: str) -> bool:
@@ -202,7 +210,7 @@ def behind(link: str, goal: str, found: dict[str, list[str]]) -> Iterator[str]:
             yield from (os.path.join(link, name[len(start) :]) for name in names)
 
 
-def sources_in(root: str, naming: Naming) -> list[str]:
+def sources_in(root: RealPath, naming: Naming) -> list[str]:
     """The files of a folder that may be sources: what has no plain name is none."""
     return [
         name
@@ -318,7 +326,7 @@ def remove(folder: str) -> None:
 
 
 @contextlib.contextmanager
-def scratch_folder(project: str) -> Iterator[str]:
+def scratch_folder(project: RealPath) -> Iterator[RealPath]:
     """A folder for a recording, that is gone at the end.
 
     It lies outside the project, which is mounted over.
@@ -333,7 +341,7 @@ def scratch_folder(project: str) -> Iterator[str]:
             "there is no folder for temporary files outside the project's: set TMPDIR to one"
         )
     with temporary_folder(above) as scratch:
-        yield os.path.realpath(scratch)
+        yield resolved(scratch)
 
 
 @contextlib.contextmanager

@@ -16,6 +16,7 @@ from collections.abc import Iterator
 from dataclasses import dataclass, field
 
 from mkcheck_tools.run import stopping
+from mkcheck_tools.run.paths import RealPath, SeenPath, real_in
 from mkcheck_tools.run.places import Namespace, Place, mounter, namespace
 
 # How much it holds at most: a part of what is free, and no more than this.
@@ -35,16 +36,16 @@ LACKS = ("No space left on device", "Operation not supported", "Cannot allocate 
 class Memory:
     """Such a file system, at `folder` in its namespace."""
 
-    folder: str
+    folder: SeenPath
     size: int
     holder: subprocess.Popen[bytes]
     taken: int = 0
     lock: threading.Lock = field(default_factory=threading.Lock)
 
     @property
-    def path(self) -> str:
+    def path(self) -> RealPath:
         """Where this program finds the folder."""
-        return f"/proc/{self.holder.pid}/root{self.folder}"
+        return RealPath(f"/proc/{self.holder.pid}/root{self.folder}")
 
     @property
     def way(self) -> Namespace:
@@ -57,10 +58,10 @@ class Memory:
         words = (enter, "--wd=.", "--target", str(self.holder.pid), "--mount", *user, "--")
         return Namespace((*words, own.enter[0], "--mount", "--ipc", "--"), own.user)
 
-    def place(self, name: str, seen: str) -> Place:
+    def place(self, name: str, seen: SeenPath) -> Place:
         """A place in it that is shut."""
         inner = os.path.join(self.folder, name)
-        return Place(os.path.join(self.path, name), seen, True, self.way, inner)
+        return Place(real_in(self.path, name), seen, True, self.way, inner)
 
     @contextlib.contextmanager
     def room(self, size: int) -> Iterator[bool]:
@@ -87,7 +88,7 @@ def free_memory() -> int:
 
 
 @contextlib.contextmanager
-def memory(folder: str) -> Iterator[Memory | None]:
+def memory(folder: SeenPath) -> Iterator[Memory | None]:
     """A file system in memory at this folder, which is there; None where the system allows none, or
     has little memory."""
     own, size = namespace(), min(free_memory() // PART, MOST)
@@ -128,7 +129,7 @@ def works(found: Memory) -> bool:
         done = subprocess.run(
             place.words(["./file"]),
             cwd=found.folder,
-            env={**os.environ, "PWD": found.folder},
+            env={**os.environ, "PWD": str(found.folder)},
             stdin=subprocess.DEVNULL,
             capture_output=True,
             check=False,

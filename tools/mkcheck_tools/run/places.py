@@ -25,6 +25,7 @@ from pathlib import Path
 from mkcheck_tools.faults import Fault
 from mkcheck_tools.run import stopping
 from mkcheck_tools.run.folders import temporary_folder
+from mkcheck_tools.run.paths import RealPath, SeenPath, unbound
 from mkcheck_tools.run.terminals import Terminal
 from mkcheck_tools.trace.calls import unescaped
 
@@ -204,8 +205,8 @@ class Place:
     folder lies in another mount namespace, `way` leads there, and `inner` is its path there.
     """
 
-    folder: str
-    seen: str
+    folder: RealPath
+    seen: SeenPath
     shut: bool = False
     way: Namespace | None = None
     inner: str = ""
@@ -213,7 +214,7 @@ class Place:
     @property
     def is_bound(self) -> bool:
         """Whether commands see the folder at another path than the one where it lies."""
-        return self.folder != self.seen
+        return unbound(self.folder) != self.seen
 
     def words(self, command: Sequence[str]) -> list[str]:
         """The words that run a command here. They are to be started in the folder `seen`."""
@@ -228,11 +229,16 @@ class Place:
         front = shut() if self.shut else None
         return way.words(self.inner or self.folder, self.seen, command, front or "")
 
-    def real(self, path: str) -> str:
+    @classmethod
+    def of(cls, folder: RealPath) -> Place:
+        """A folder that commands see where it lies."""
+        return cls(folder, unbound(folder))
+
+    def real(self, path: SeenPath) -> RealPath:
         """Where this program finds what commands see at a path."""
         if self.is_bound and (path == self.seen or path.startswith(self.seen + "/")):
-            return self.folder + path[len(self.seen) :]
-        return path
+            return RealPath(self.folder + path[len(self.seen) :])
+        return RealPath(path)
 
 
 @dataclass(frozen=True)

@@ -7,6 +7,7 @@ import re
 from collections.abc import Iterable
 from dataclasses import dataclass, field
 
+from mkcheck_tools.run.paths import SeenPath, seen_in
 from mkcheck_tools.trace.calls import (
     CONNECTIONS,
     FORKS,
@@ -24,7 +25,7 @@ from mkcheck_tools.trace.calls import (
 )
 from mkcheck_tools.trace.makes import is_make, is_part, is_system
 from mkcheck_tools.trace.programs import interpreters_of
-from mkcheck_tools.trace.trees import Owner, Tree
+from mkcheck_tools.trace.trees import ROOT, Owner, Tree, moved_to
 
 INTERPRETERS_AT_MOST = 4
 EXCHANGE = "RENAME_EXCHANGE"
@@ -49,16 +50,16 @@ PRIVATE = ("IPC_PRIVATE", "0", "0x0")
 class Standing:
     """The folder in which a process stands. Threads of one process share theirs."""
 
-    path: str
+    path: SeenPath
 
 
 @dataclass(frozen=True)
 class Alias:
     """A name that leads over symbolic links, these, and the real path."""
 
-    name: str
-    links: tuple[str, ...]
-    real: str
+    name: SeenPath
+    links: tuple[SeenPath, ...]
+    real: SeenPath
 
 
 @dataclass
@@ -66,50 +67,50 @@ class Accesses:
     """What one recipe does to files, by their real paths, in the order of their first use."""
 
     tree: Tree
-    reads: dict[str, None] = field(default_factory=dict)
-    writes: dict[str, None] = field(default_factory=dict)
+    reads: dict[SeenPath, None] = field(default_factory=dict)
+    writes: dict[SeenPath, None] = field(default_factory=dict)
     """Files that it wrote, and didn't remove or rename later."""
 
-    touched: dict[str, None] = field(default_factory=dict)
+    touched: dict[SeenPath, None] = field(default_factory=dict)
     """Files that it wrote or removed at any time."""
 
-    made: dict[str, None] = field(default_factory=dict)
+    made: dict[SeenPath, None] = field(default_factory=dict)
     """Files that it wrote and that weren't there before."""
 
-    lost: dict[str, None] = field(default_factory=dict)
+    lost: dict[SeenPath, None] = field(default_factory=dict)
     """Files that it removed and hadn't made."""
 
-    missed: dict[str, None] = field(default_factory=dict)
+    missed: dict[SeenPath, None] = field(default_factory=dict)
     """Paths that it failed to remove: nothing was there, or a folder that isn't empty."""
 
-    sought: dict[str, None] = field(default_factory=dict)
+    sought: dict[SeenPath, None] = field(default_factory=dict)
     """Paths at which it looked when nothing was there."""
 
-    folders: dict[str, None] = field(default_factory=dict)
+    folders: dict[SeenPath, None] = field(default_factory=dict)
     """Folders that it made."""
 
-    dropped: dict[str, None] = field(default_factory=dict)
+    dropped: dict[SeenPath, None] = field(default_factory=dict)
     """Folders that it removed or renamed and hadn't made."""
 
-    owned: dict[str, None] = field(default_factory=dict)
+    owned: dict[SeenPath, None] = field(default_factory=dict)
     """Folders that it hadn't made, and whose mode, owner or attributes it changed."""
 
-    stamped: dict[str, None] = field(default_factory=dict)
+    stamped: dict[SeenPath, None] = field(default_factory=dict)
     """Files to which it gave a stamp other than the present time."""
 
-    moved: dict[str, None] = field(default_factory=dict)
+    moved: dict[SeenPath, None] = field(default_factory=dict)
     """New names of files and folders that it renamed."""
 
-    aliases: dict[str, Alias] = field(default_factory=dict)
+    aliases: dict[SeenPath, Alias] = field(default_factory=dict)
     """Names by which it reached a file over a symbolic link."""
 
-    over: dict[str, None] = field(default_factory=dict)
+    over: dict[SeenPath, None] = field(default_factory=dict)
     """Links that it followed and that no recipe made."""
 
-    makes: dict[tuple[str, str], None] = field(default_factory=dict)
+    makes: dict[tuple[str, SeenPath], None] = field(default_factory=dict)
     """Makes that it started, each with the folder in which that make worked."""
 
-    forbidden: dict[str, None] = field(default_factory=dict)
+    forbidden: dict[SeenPath, None] = field(default_factory=dict)
     """Files outside of the project that it would have written, were they not read-only for it."""
 
     strange: dict[str, None] = field(default_factory=dict)
@@ -127,30 +128,30 @@ class Accesses:
     channels: dict[str, None] = field(default_factory=dict)
     """What it used to hand something on to others, or to get it from them, that is no file."""
 
-    looked: dict[str, None] = field(default_factory=dict)
+    looked: dict[SeenPath, None] = field(default_factory=dict)
     """Paths at which it looked, where such calls are traced."""
 
-    listed: dict[str, None] = field(default_factory=dict)
+    listed: dict[SeenPath, None] = field(default_factory=dict)
     """Folders whose names it read."""
 
-    locked: dict[str, None] = field(default_factory=dict)
+    locked: dict[SeenPath, None] = field(default_factory=dict)
     """Files and folders that it locked, by flock."""
 
-    tried: dict[str, None] = field(default_factory=dict)
+    tried: dict[SeenPath, None] = field(default_factory=dict)
     """Those of them for whose lock it wouldn't have waited, or only for a while."""
 
-    def wrote(self, path: str) -> bool:
+    def wrote(self, path: SeenPath) -> bool:
         """Whether the recipe wrote this file before, or moved a folder there that holds it."""
         if path in self.writes or not self.moved:
             return path in self.writes
         while path not in self.moved:
-            shorter = os.path.dirname(path)
+            shorter = SeenPath(os.path.dirname(path))
             if shorter == path:
                 return False
             path = shorter
         return True
 
-    def is_new(self, path: str, flags: str) -> bool:
+    def is_new(self, path: SeenPath, flags: str) -> bool:
         """Whether an open with these flags makes the file.
 
         Which files are there is known of the project alone, so elsewhere only O_EXCL tells.
@@ -160,12 +161,12 @@ class Accesses:
         unknown = not self.tree.has(path) and path not in self.touched
         return "O_EXCL" in flags or (not unknown and path not in self.tree.there)
 
-    def read(self, path: str) -> None:
+    def read(self, path: SeenPath) -> None:
         """A read, unless of a file that the recipe wrote itself."""
         if not self.wrote(path):
             self.reads.setdefault(path)
 
-    def write(self, path: str) -> None:
+    def write(self, path: SeenPath) -> None:
         """A writing. Footprints name no folders."""
         if path in self.tree.folders:
             return
@@ -175,35 +176,35 @@ class Accesses:
             self.made.setdefault(path)
             self.tree.there.add(path)
 
-    def stamp(self, path: str, times: str) -> None:
+    def stamp(self, path: SeenPath, times: str) -> None:
         """A file gets a stamp: the present time, or one that the recipe chose."""
         if times != "NULL" and not times.endswith("UTIME_NOW]"):
             self.stamped.setdefault(path)
         self.change(path)
 
-    def change(self, path: str) -> None:
+    def change(self, path: SeenPath) -> None:
         """The recipe changes a stamp, a mode or a part of a file, and keeps the rest."""
         self.read(path)
         self.write(path)
 
-    def own(self, path: str) -> None:
+    def own(self, path: SeenPath) -> None:
         """A file or a folder gets a mode, an owner or an attribute."""
         self.change(path)
         if path not in self.folders and os.path.isdir(self.tree.place.real(path)):
             self.owned.setdefault(path)
 
-    def remove(self, path: str) -> None:
+    def remove(self, path: SeenPath) -> None:
         """A file is taken away."""
         self.lose(path)
         self.tree.remove(path)
 
-    def remove_folder(self, path: str) -> None:
+    def remove_folder(self, path: SeenPath) -> None:
         """An empty folder is removed."""
         if path in self.tree.folders and path not in self.folders:
             self.dropped.setdefault(path)
         self.tree.folders.discard(path)
 
-    def rename(self, old: str, new: str) -> None:
+    def rename(self, old: SeenPath, new: SeenPath) -> None:
         """A file is renamed, or a folder with all files that are known in it."""
         inside = (path for path in self.writes if path.startswith(old + "/"))
         files = dict.fromkeys([*self.tree.inside(old), *inside])
@@ -218,7 +219,7 @@ class Accesses:
             self.lose(path)
         self.tree.move(old, new)
         for path in files:
-            goal = new + path[len(old) :]
+            goal = moved_to(path, old, new)
             self.tree.there.add(goal)
             for kept in (self.writes, self.touched, self.made):
                 kept.setdefault(goal)
@@ -228,7 +229,7 @@ class Accesses:
             self.folders.setdefault(new)
         self.moved.setdefault(new)
 
-    def lose(self, path: str) -> None:
+    def lose(self, path: SeenPath) -> None:
         """A file leaves its path: it is removed, renamed or replaced."""
         self.writes.pop(path, None)
         self.moved.pop(path, None)
@@ -236,7 +237,7 @@ class Accesses:
         if path in self.tree.there and path not in self.made:
             self.lost.setdefault(path)
 
-    def pass_over(self, links: Iterable[str]) -> None:
+    def pass_over(self, links: Iterable[SeenPath]) -> None:
         """The recipe follows symbolic links; one that a recipe made is a file that it reads."""
         for link in links:
             if link in self.tree.made:
@@ -244,13 +245,13 @@ class Accesses:
             elif self.tree.has(link):
                 self.over.setdefault(link)
 
-    def look(self, name: str) -> None:
+    def look(self, name: SeenPath) -> None:
         """The recipe looks at a name: at the file behind it, and at each link on the way."""
         real, links = self.tree.follow(name)
         for path in (real, *links, self.tree.own(name)[0]):
             self.looked.setdefault(path)
 
-    def seek(self, name: str) -> None:
+    def seek(self, name: SeenPath) -> None:
         """The recipe looks for a file that isn't there, unless it removed the file itself.
 
         If the file is there after all, a folder on the way, as in `absent/../file`, wasn't.
@@ -260,17 +261,17 @@ class Accesses:
         if not known and path not in self.touched and path not in self.folders:
             self.sought.setdefault(path)
 
-    def reach(self, name: str) -> str:
+    def reach(self, name: SeenPath) -> SeenPath:
         """The real path of a file that is reached by a name, over links."""
         real, links = self.tree.follow(name)
         if links:
             self.pass_over(links)
-            plain = os.path.normpath(name)
+            plain = SeenPath(os.path.normpath(name))
             if plain != real:
                 self.aliases.setdefault(plain, Alias(plain, links, real))
         return real
 
-    def reach_itself(self, name: str) -> str:
+    def reach_itself(self, name: SeenPath) -> SeenPath:
         """The real path of a name itself, which may be a link."""
         real, links = self.tree.own(name)
         self.pass_over(links)
@@ -282,10 +283,10 @@ class Follower:
     """Follows the calls of one command. All of its processes begin in one folder."""
 
     accesses: Accesses
-    start: str
+    start: SeenPath
     standings: dict[int, Standing] = field(default_factory=dict)
-    makers: dict[int, tuple[str, str]] = field(default_factory=dict)
-    makefiles: dict[int, list[str]] = field(default_factory=dict)
+    makers: dict[int, tuple[str, SeenPath]] = field(default_factory=dict)
+    makefiles: dict[int, list[SeenPath]] = field(default_factory=dict)
     """What each of these makes read since it was started."""
 
     starters: set[int] = field(default_factory=set)
@@ -361,10 +362,11 @@ class Follower:
                 path = self.accesses.tree.follow(path)[0]
         if path is None or self.accesses.tree.has(path):
             return
-        there = os.path.lexists(path)
+        real = self.accesses.tree.place.real(path)
+        there = os.path.lexists(real)
         if not there and call.name in ("unlink", "unlinkat", "rmdir"):
             return
-        changed = path if there and call.name not in REMOVALS else os.path.dirname(path)
+        changed = real if there and call.name not in REMOVALS else os.path.dirname(real)
         if os.access(changed, os.W_OK):
             self.accesses.forbidden.setdefault(path)
 
@@ -383,7 +385,7 @@ class Follower:
             if any(space in argument for argument in call.arguments):
                 self.accesses.strange.setdefault(f"{call.name} with {space}")
 
-    def path(self, call: Call, at: int, folder: int | None = None) -> str:
+    def path(self, call: Call, at: int, folder: int | None = None) -> SeenPath:
         """The path that an argument names, from a folder's descriptor or the process's folder."""
         name = text_of(call.arguments[at]) or ""
         standing = self.standing(call)
@@ -392,35 +394,35 @@ class Follower:
             base = self.descriptor(call.arguments[folder]) or base
             if call.arguments[folder].startswith("AT_FDCWD"):
                 standing.path = base
-        return self.plainly(call, os.path.join(base, name) if name else base)
+        return self.plainly(call, seen_in(base, name) if name else base)
 
-    def plainly(self, call: Call, path: str) -> str:
+    def plainly(self, call: Call, path: SeenPath) -> SeenPath:
         """A path without `/proc/self/cwd` or `/proc/self/root` at its front."""
         found = OF_PROCESS.match(path)
         if found is None:
             return path
         process, kind = found.groups()
         if kind == "root":
-            return path[found.end() :] or "/"
+            return SeenPath(path[found.end() :]) or ROOT
         number = int(process) if process.isdigit() else call.process
         standing = self.standings.get(number)
-        return path if standing is None else standing.path + path[found.end() :]
+        return path if standing is None else SeenPath(standing.path + path[found.end() :])
 
-    def descriptor(self, argument: str) -> str | None:
+    def descriptor(self, argument: str) -> SeenPath | None:
         """The path behind a descriptor.
 
         Older versions of strace may write ` (deleted)` as a part of it.
         """
         path = path_of(argument)
         if path is not None and path.endswith(DELETED) and self.accesses.tree.status(path) is None:
-            return path[: -len(DELETED)]
+            return SeenPath(path[: -len(DELETED)])
         return path
 
-    def itself(self, call: Call, at: int, folder: int | None = None) -> str:
+    def itself(self, call: Call, at: int, folder: int | None = None) -> SeenPath:
         """The real path of what an argument names, which may be a link."""
         return self.accesses.reach_itself(self.path(call, at, folder))
 
-    def behind(self, call: Call, at: int, folder: int | None = None) -> str:
+    def behind(self, call: Call, at: int, folder: int | None = None) -> SeenPath:
         """The real path of what an argument names, links followed if the call does so."""
         if any("SYMLINK_NOFOLLOW" in argument for argument in call.arguments):
             return self.itself(call, at, folder)
@@ -446,9 +448,9 @@ class Follower:
         self.opened(call, self.path(call, 0), "O_WRONLY|O_CREAT|O_TRUNC")
 
     def on_open_by_handle_at(self, call: Call) -> None:
-        self.opened(call, path_of(call.result) or "/", call.arguments[2])
+        self.opened(call, path_of(call.result) or ROOT, call.arguments[2])
 
-    def opened(self, call: Call, name: str, flags: str) -> None:
+    def opened(self, call: Call, name: SeenPath, flags: str) -> None:
         """A file that is opened. Old contents are read where they are kept."""
         real = path_of(call.result)
         if real is None:
@@ -485,7 +487,7 @@ class Follower:
     def on_readlinkat(self, call: Call) -> None:
         self.looked_into(self.itself(call, 1, 0))
 
-    def looked_into(self, link: str) -> None:
+    def looked_into(self, link: SeenPath) -> None:
         """The text of a link is read.
 
         A link of the project that leads to a folder is no file that make could name.
@@ -504,7 +506,7 @@ class Follower:
     def on_execveat(self, call: Call) -> None:
         self.started(call, self.path(call, 1, 0))
 
-    def started(self, call: Call, name: str) -> None:
+    def started(self, call: Call, name: SeenPath) -> None:
         """A program is read, and the interpreters and loaders that programs name."""
         real = self.accesses.reach(name)
         if is_make(name) or is_make(real):
@@ -518,7 +520,7 @@ class Follower:
             real = waiting.pop()
             self.accesses.read(real)
             for other in interpreters_of(self.accesses.tree.place.real(real)):
-                waiting.append(self.accesses.reach(os.path.join(self.standing(call).path, other)))
+                waiting.append(self.accesses.reach(seen_in(self.standing(call).path, other)))
 
     def on_rename(self, call: Call) -> None:
         self.renamed(self.itself(call, 0), self.itself(call, 1), "")
@@ -527,20 +529,21 @@ class Follower:
         flags = call.arguments[4] if len(call.arguments) > 4 else ""
         self.renamed(self.itself(call, 1, 0), self.itself(call, 3, 2), flags)
 
-    def renamed(self, old: str, new: str, flags: str) -> None:
+    def renamed(self, old: SeenPath, new: SeenPath, flags: str) -> None:
         """A file gets another name. Two that are exchanged are read and written both."""
         if EXCHANGE not in flags:
             self.accesses.rename(old, new)
             for standing in self.standings.values():
                 if f"{standing.path}/".startswith(f"{old}/"):
-                    standing.path = new + standing.path[len(old) :]
+                    standing.path = moved_to(standing.path, old, new)
             return
         tree = self.accesses.tree
         for path in [*tree.inside(old), *tree.inside(new), old, new]:
             self.accesses.change(path)
-        tree.move(old, old + "\0")
+        between = SeenPath(old + "\0")
+        tree.move(old, between)
         tree.move(new, old)
-        tree.move(old + "\0", new)
+        tree.move(between, new)
 
     def on_link(self, call: Call) -> None:
         self.linked(self.itself(call, 0), self.itself(call, 1))
@@ -550,7 +553,7 @@ class Follower:
         old = self.accesses.reach(self.path(call, 1, 0)) if follows else self.itself(call, 1, 0)
         self.linked(old, self.itself(call, 3, 2))
 
-    def linked(self, old: str, new: str) -> None:
+    def linked(self, old: SeenPath, new: SeenPath) -> None:
         """A file gets a second name."""
         self.accesses.read(old)
         self.accesses.write(new)
@@ -564,7 +567,7 @@ class Follower:
     def on_symlinkat(self, call: Call) -> None:
         self.made_link(text_of(call.arguments[0]) or "", self.itself(call, 2, 1))
 
-    def made_link(self, text: str, path: str) -> None:
+    def made_link(self, text: str, path: SeenPath) -> None:
         """A symbolic link is made."""
         self.accesses.write(path)
         self.accesses.tree.link(path, text)
@@ -592,7 +595,7 @@ class Follower:
     def on_mkdirat(self, call: Call) -> None:
         self.made_folder(self.itself(call, 1, 0))
 
-    def made_folder(self, path: str) -> None:
+    def made_folder(self, path: SeenPath) -> None:
         """A folder is made."""
         self.accesses.folders.setdefault(path)
         self.accesses.tree.folders.add(path)
@@ -644,7 +647,7 @@ class Follower:
         self.owned(self.behind(call, 1, 0), user=call.arguments[2], group=call.arguments[3])
 
     def owned(
-        self, path: str | None, mode: str = "-1", user: str = "-1", group: str = "-1"
+        self, path: SeenPath | None, mode: str = "-1", user: str = "-1", group: str = "-1"
     ) -> None:
         """A file or a folder gets permissions, a user or a group. Those that it had already change
         nothing.

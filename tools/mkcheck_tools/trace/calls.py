@@ -8,6 +8,7 @@ from collections.abc import Iterable
 from dataclasses import dataclass, field
 
 from mkcheck_tools.faults import Fault
+from mkcheck_tools.run.paths import SeenPath
 
 # What is traced: whatever opens, lists, starts, links, renames, removes, stamps or changes a file,
 # and what is needed to follow relative paths. strace passes over those that a machine doesn't have.
@@ -391,12 +392,12 @@ def texts_of(argument: str) -> list[str] | None:
     return [text_of(text) or "" for text in texts] if is_whole else None
 
 
-def path_of(argument: str) -> str | None:
+def path_of(argument: str) -> SeenPath | None:
     """The path that stands behind a descriptor, where it is that of a file."""
     found = DESCRIPTOR.match(argument)
     if found is None or not found.group(1).startswith("/"):
         return None
-    return unescaped(found.group(1))
+    return SeenPath(unescaped(found.group(1)))
 
 
 def unescaped(text: str) -> str:

@@ -18,6 +18,7 @@ from pathlib import Path
 
 from mkcheck_tools.faults import Fault
 from mkcheck_tools.run import places
+from mkcheck_tools.run.paths import SeenPath
 from mkcheck_tools.run.places import Place
 from mkcheck_tools.trace.calls import (
     DUPLICATIONS,
@@ -103,7 +104,7 @@ def strace(links: bool = True, looking: bool = False, texts: bool = False) -> tu
 
 
 @functools.cache
-def failing(path: str) -> tuple[str, ...]:
+def failing(path: SeenPath) -> tuple[str, ...]:
     """The words by which a command is started whose writes to a file fail, as on a full disk."""
     program, *words = strace()[: strace().index("-f") + 1]
     quick = [word for word in strace() if word == "--seccomp-bpf"]

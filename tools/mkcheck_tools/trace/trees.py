@@ -12,9 +12,11 @@ import stat
 from dataclasses import dataclass, field
 
 from mkcheck_tools.run.folders import entries_of
+from mkcheck_tools.run.paths import RealPath, SeenPath, seen_in
 from mkcheck_tools.run.places import Place
 
 LINKS_AT_MOST = 40
+ROOT = SeenPath("/")
 
 
 @dataclass(frozen=True)
@@ -36,27 +38,27 @@ class Tree:
     """The project's folder at one call. All paths are real ones, as commands see them."""
 
     place: Place
-    there: set[str] = field(default_factory=set)
+    there: set[SeenPath] = field(default_factory=set)
     """Its files of each kind, and its links."""
 
-    folders: set[str] = field(default_factory=set)
-    links: dict[str, str] = field(default_factory=dict)
+    folders: set[SeenPath] = field(default_factory=set)
+    links: dict[SeenPath, str] = field(default_factory=dict)
     """The texts of its symbolic links, and of those that recipes made elsewhere."""
 
-    made: set[str] = field(default_factory=set)
+    made: set[SeenPath] = field(default_factory=set)
     """The links that recipes made."""
 
-    owners: dict[str, Owner] = field(default_factory=dict)
+    owners: dict[SeenPath, Owner] = field(default_factory=dict)
     """The permissions of files and folders."""
 
-    users: dict[tuple[int, int], dict[str, str]] = field(default_factory=dict)
+    users: dict[tuple[int, int], dict[SeenPath, str]] = field(default_factory=dict)
     """For each file of several names the names that recipes used, each with the target of the first
     recipe that did."""
 
-    elsewhere: dict[str, str | None] = field(default_factory=dict)
+    elsewhere: dict[SeenPath, str | None] = field(default_factory=dict)
     """The texts of other links elsewhere, each read once; None where a path is no link."""
 
-    followed: dict[str, tuple[str, tuple[str, ...]]] = field(default_factory=dict)
+    followed: dict[SeenPath, tuple[SeenPath, tuple[SeenPath, ...]]] = field(default_factory=dict)
     """What `follow` gave for a path."""
 
     @classmethod
@@ -70,20 +72,20 @@ class Tree:
             if status is not None:
                 tree.owners[seen] = Owner.of(status)
             for entry in entries_of(folder):
-                path = os.path.join(seen, entry.name)
+                path = seen_in(seen, entry.name)
                 if entry.is_dir(follow_symlinks=False):
                     tree.folders.add(path)
-                    waiting.append((entry.path, path))
+                    waiting.append((RealPath(entry.path), path))
                 else:
                     tree.note(path)
         return tree
 
     @property
-    def root(self) -> str:
+    def root(self) -> SeenPath:
         """The folder's own path."""
         return self.place.seen
 
-    def has(self, path: str) -> bool:
+    def has(self, path: SeenPath) -> bool:
         """Whether a path lies in the folder."""
         return path.startswith(self.root + "/")
 
@@ -92,14 +94,14 @@ class Tree:
         """Whether there is a symbolic link in the folder."""
         return any(map(self.has, self.links))
 
-    def status(self, path: str) -> os.stat_result | None:
+    def status(self, path: SeenPath) -> os.stat_result | None:
         """The status of what stands at a path itself now, if anything does."""
         try:
             return os.lstat(self.place.real(path))
         except OSError:
             return None
 
-    def note(self, path: str) -> None:
+    def note(self, path: SeenPath) -> None:
         """Notes the file that stands at a path now, with its permissions, or the link's text."""
         status = self.status(path)
         if status is None or stat.S_ISDIR(status.st_mode):
@@ -110,7 +112,7 @@ class Tree:
         else:
             self.owners[path] = Owner.of(status)
 
-    def refresh(self, path: str) -> None:
+    def refresh(self, path: SeenPath) -> None:
         """Notes what stands at a path now in place of what the calls told of it."""
         status = self.status(path)
         if status is None or stat.S_ISDIR(status.st_mode):
@@ -126,14 +128,14 @@ class Tree:
                 self.followed.clear()
         self.note(path)
 
-    def link(self, path: str, text: str) -> None:
+    def link(self, path: SeenPath, text: str) -> None:
         """There is a link now."""
         self.there.add(path)
         if self.links.get(path) != text:
             self.links[path] = text
             self.followed.clear()
 
-    def remove(self, path: str) -> None:
+    def remove(self, path: SeenPath) -> None:
         """A file or a link is taken away."""
         self.there.discard(path)
         self.made.discard(path)
@@ -144,12 +146,12 @@ class Tree:
             self.elsewhere[path] = None
             self.followed.clear()
 
-    def move(self, old: str, new: str) -> list[tuple[str, str]]:
+    def move(self, old: SeenPath, new: SeenPath) -> list[tuple[SeenPath, SeenPath]]:
         """A file or a folder gets another name.
 
         Returns the old and the new names of all files that go with it.
         """
-        moved = [(path, new + path[len(old) :]) for path in self.inside(old)]
+        moved = [(path, moved_to(path, old, new)) for path in self.inside(old)]
         for path in self.inside(new):
             self.remove(path)
         kept = [
@@ -169,18 +171,18 @@ class Tree:
         if old in self.folders:
             inner = [path for path in self.folders if f"{path}/".startswith(f"{old}/")]
             self.folders.difference_update(inner)
-            self.folders.update(new + path[len(old) :] for path in inner)
+            self.folders.update(moved_to(path, old, new) for path in inner)
             for path in inner:
                 self.owners.pop(path, None)
         return moved
 
-    def inside(self, path: str) -> list[str]:
+    def inside(self, path: SeenPath) -> list[SeenPath]:
         """The file at a path, or all files in the folder that stands there."""
         if path in self.there and path not in self.folders:
             return [path]
         return sorted(other for other in self.there if other.startswith(path + "/"))
 
-    def link_at(self, path: str) -> str | None:
+    def link_at(self, path: SeenPath) -> str | None:
         """The text of a symbolic link: in the folder as calls left it, elsewhere as it is now."""
         text = self.links.get(path)
         # Links below /proc lead elsewhere for each process, so they aren't followed.
@@ -188,43 +190,48 @@ class Tree:
             return text
         if path not in self.elsewhere:
             try:
-                self.elsewhere[path] = os.readlink(path)
+                self.elsewhere[path] = os.readlink(self.place.real(path))
             except OSError:
                 self.elsewhere[path] = None
         return self.elsewhere[path]
 
-    def follow(self, path: str) -> tuple[str, tuple[str, ...]]:
+    def follow(self, path: SeenPath) -> tuple[SeenPath, tuple[SeenPath, ...]]:
         """The real path that an absolute path leads to, and the real paths of links on the way."""
         known = self.followed.get(path)
         if known is not None:
             return known
-        links: list[str] = []
-        done, rest = "/", path.split("/")
+        links: list[SeenPath] = []
+        done, rest = ROOT, path.split("/")
         rest.reverse()
         while rest:
             part = rest.pop()
             if part in ("", "."):
                 continue
             if part == "..":
-                done = os.path.dirname(done)
+                done = SeenPath(os.path.dirname(done))
                 continue
-            here = done + "/" + part if done != "/" else "/" + part
+            here = SeenPath(done + "/" + part if done != ROOT else "/" + part)
             text = self.link_at(here) if len(links) < LINKS_AT_MOST else None
             if text is None:
                 done = here
                 continue
             links.append(here)
             if text.startswith("/"):
-                done = "/"
+                done = ROOT
             rest.extend(reversed(text.split("/")))
         self.followed[path] = (done, tuple(links))
         return self.followed[path]
 
-    def own(self, path: str) -> tuple[str, tuple[str, ...]]:
+    def own(self, path: SeenPath) -> tuple[SeenPath, tuple[SeenPath, ...]]:
         """The real path of a name itself, be it a link, and the links on the way to its folder."""
         front = path.rstrip("/")
         folder, base = os.path.split(front)
         if base in ("", ".", ".."):
             return self.follow(path)
-        real, links = self.follow(folder)
-        return (real + "/" + base if real != "/" else "/" + base), links
+        real, links = self.follow(SeenPath(folder))
+        return seen_in(real, base), links
+
+
+def moved_to(path: SeenPath, old: SeenPath, new: SeenPath) -> SeenPath:
+    """Where a path leads when `old`, which is it or a folder above it, is called `new`."""
+    return SeenPath(new + path[len(old) :])
