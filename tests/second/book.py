@@ -1,42 +1,73 @@
 """JSON as `serde_json` reads it, files of footprints of both formats, and certificates."""
 
+from __future__ import annotations
+
 import json
 import math
+from collections.abc import Callable, Container, Iterable
+from typing import Any, NoReturn, NotRequired, TypedDict, TypeGuard, cast
 
 from lines import Refused, is_plain_path
 
 DEPTH_LIMIT = 127
+JsonObject = dict[str, Any]
+
+
+class RecordValue(TypedDict):
+    """A record as JSON; that of format 2 names shared lists too."""
+
+    target: str
+    commands: list[str]
+    reads: list[str]
+    writes: list[str]
+    shared: NotRequired[list[str]]
+
+
+class GroupValue(TypedDict):
+    """The records of some goals, as JSON."""
+
+    goals: list[str]
+    records: list[RecordValue]
+
+
+class BookValue(TypedDict):
+    """What a file of footprints has as JSON, but for its records."""
+
+    format: int
+    fixed: list[str]
+    sources: list[str]
+    lists: NotRequired[dict[str, list[str]]]
 
 
 class NoJson(Exception):
     pass
 
 
-def whole(text):
+def whole(text: str) -> float:
     """A number without point and exponent: whole where 64 bits hold it, else a float."""
     if text == "-0" or len(text) > 25 or not -(2**63) <= int(text) < 2**64:
         return floating(text)
     return int(text)
 
 
-def floating(text):
+def floating(text: str) -> float:
     number = float(text)
     if math.isinf(number):
         raise NoJson
     return number
 
 
-def refuse(_text):
+def refuse(_text: str) -> NoReturn:
     raise NoJson
 
 
-def members(pairs):
+def members(pairs: list[tuple[str, object]]) -> dict[str, object]:
     """The last value of each key; half of a pair of surrogates is no text."""
     json.dumps(pairs, ensure_ascii=False).encode("utf-8")
     return dict(pairs)
 
 
-def too_deep(text):
+def too_deep(text: str) -> bool:
     """Whether brackets outside of texts stand deeper than the limit."""
     depth = 0
     at = 0
@@ -56,11 +87,11 @@ def too_deep(text):
     return False
 
 
-def value_of(data):
+def value_of(data: bytes) -> object:
     """The JSON value of bytes; NoJson where there is none."""
     try:
         text = data.decode("utf-8")
-        value = json.loads(
+        value: object = json.loads(
             text,
             parse_int=whole,
             parse_float=floating,
@@ -75,54 +106,54 @@ def value_of(data):
     return value
 
 
-def is_texts(value):
+def is_texts(value: object) -> TypeGuard[list[str]]:
     return isinstance(value, list) and all(isinstance(text, str) for text in value)
 
 
-def is_path(text):
+def is_path(text: str) -> bool:
     return is_plain_path(text.encode("utf-8"))
 
 
-def is_front(text):
+def is_front(text: str) -> bool:
     return text == "/" or text.endswith("/") and is_path(text[:-1])
 
 
-def shape(key):
+def shape(key: str) -> Refused:
     return Refused(52, key.encode())
 
 
-def has_key(value, key, test):
+def has_key(value: JsonObject, key: str, test: Callable[[object], bool]) -> None:
     if key not in value or not test(value[key]):
         raise shape(key)
 
 
-def only(value, keys):
+def only(value: JsonObject, keys: Container[str]) -> None:
     if any(key not in keys for key in value):
         raise shape("unknown")
 
 
-def is_object(value):
+def is_object(value: object) -> TypeGuard[JsonObject]:
     return isinstance(value, dict)
 
 
-def is_list(value):
+def is_list(value: object) -> TypeGuard[list[object]]:
     return isinstance(value, list)
 
 
-def is_text(value):
+def is_text(value: object) -> TypeGuard[str]:
     return isinstance(value, str)
 
 
-def is_lists(value):
+def is_lists(value: object) -> TypeGuard[dict[str, list[str]]]:
     return is_object(value) and all(is_texts(names) for names in value.values())
 
 
-def is_whole(value):
+def is_whole(value: object) -> TypeGuard[int]:
     return isinstance(value, int) and not isinstance(value, bool)
 
 
 class Record:
-    def __init__(self, commands, reads, writes):
+    def __init__(self, commands: list[bytes], reads: list[bytes], writes: list[bytes]) -> None:
         self.commands = commands
         self.reads = reads
         self.writes = writes
@@ -131,18 +162,20 @@ class Record:
 class Book:
     """What a file of footprints says for some goals."""
 
-    def __init__(self, fixed, sources, records):
+    def __init__(
+        self, fixed: list[bytes], sources: list[bytes], records: dict[bytes, Record]
+    ) -> None:
         self.fixed = fixed
         self.sources = sources
         self.records = records
 
 
-def once(texts):
+def once(texts: Iterable[str]) -> list[bytes]:
     return [text.encode("utf-8") for text in dict.fromkeys(texts)]
 
 
-def test_records(records, keys):
-    tests = {
+def test_records(records: Iterable[object], keys: list[str]) -> None:
+    tests: dict[str, Callable[[object], bool]] = {
         "target": is_text,
         "commands": is_texts,
         "reads": is_texts,
@@ -157,7 +190,7 @@ def test_records(records, keys):
         only(record, keys)
 
 
-def test_shapes(value):
+def test_shapes(value: object) -> list[GroupValue]:
     """52 and 53, in their order. It answers the groups, each with goals and records."""
     if not is_object(value):
         raise shape("top")
@@ -182,13 +215,14 @@ def test_shapes(value):
         has_key(group, "records", is_list)
         only(group, ["goals", "records"])
         test_records(group["records"], keys + ["shared"])
-    return value["groups"]
+    groups: list[GroupValue] = value["groups"]
+    return groups
 
 
-def test_names(value, groups):
+def test_names(value: BookValue, groups: list[GroupValue]) -> None:
     """55: the first key under which a name is none."""
 
-    def tested(texts, key, test=is_path):
+    def tested(texts: list[str], key: str, test: Callable[[str], bool] = is_path) -> None:
         if not all(test(text) for text in texts):
             raise Refused(55, key.encode())
 
@@ -205,16 +239,17 @@ def test_names(value, groups):
             tested(record["writes"], "writes")
 
 
-def read_book(data, goals):
+def read_book(data: bytes, goals: list[bytes]) -> Book:
     """The book of a file of footprints, or 51 to 58."""
     try:
-        value = value_of(data)
+        told = value_of(data)
     except NoJson:
         raise Refused(51)
-    groups = test_shapes(value)
+    groups = test_shapes(told)
+    value = cast(BookValue, told)
     test_names(value, groups)
     for group in groups:
-        targets = set()
+        targets: set[str] = set()
         for record in group["records"]:
             if record["target"] in targets:
                 raise Refused(54, record["target"].encode("utf-8"))
@@ -236,7 +271,7 @@ def read_book(data, goals):
     raise Refused(57)
 
 
-def records_of(records, lists):
+def records_of(records: list[RecordValue], lists: dict[str, list[str]]) -> dict[bytes, Record]:
     made = {}
     for record in records:
         reads = record["reads"] + [
@@ -252,14 +287,18 @@ def records_of(records, lists):
 class Way:
     """An entry of a certificate."""
 
-    def __init__(self, recipe, file, path, end):
+    def __init__(self, recipe: bytes, file: bytes, path: list[bytes], end: bytes) -> None:
         self.recipe = recipe
         self.file = file
         self.path = path
         self.end = end
 
 
-def read_certificate(data):
+# The goals of a certificate, and its ways.
+Certificate = tuple[list[bytes], list[Way]]
+
+
+def read_certificate(data: bytes) -> Certificate:
     """The goals and the ways of a certificate, or 71 or 72."""
     try:
         value = value_of(data)
@@ -271,15 +310,15 @@ def read_certificate(data):
         raise Refused(72, *fault.words)
 
 
-def is_names(value):
+def is_names(value: object) -> TypeGuard[list[str]]:
     return is_texts(value) and all(is_path(text) for text in value)
 
 
-def is_name(value):
+def is_name(value: object) -> TypeGuard[str]:
     return is_text(value) and is_path(value)
 
 
-def certificate_of(value):
+def certificate_of(value: object) -> Certificate:
     if not is_object(value):
         raise shape("top")
     has_key(value, "format", lambda number: is_whole(number) and number == 1)
@@ -307,7 +346,7 @@ def certificate_of(value):
     return [goal.encode("utf-8") for goal in value["goals"]], ways
 
 
-def certificate_text(goals, ways):
+def certificate_text(goals: list[bytes], ways: list[Way]) -> bytes:
     """The compact text of a certificate."""
     value = {
         "format": 1,

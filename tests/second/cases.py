@@ -1,9 +1,13 @@
 """One random case of a command: the files of a folder, and the words."""
 
+from __future__ import annotations
+
 import json
 import os
+from collections.abc import Callable, Mapping
+from random import Random
 
-from book import read_book
+from book import Book, read_book
 from certificates import certificate_of
 from footprints import Model, book_of, format_one
 from graph import Graph, There
@@ -11,12 +15,11 @@ from judge import Subject
 from lacking import book_of as true_book
 from lacking import lacking
 from lines import Refused
-from makefiles import mutated, structural
+from makefiles import FOLDER, Contents, Project, WithoutFolders, mutated, structural
 from plans import WRONG, plan_of
 from request import Request, Usage
 from shapes import inferences, jungle, orders
 
-FOLDER = object()
 OPERANDS = [
     b"X=x.o",
     b"A=$(B)",
@@ -106,7 +109,7 @@ USAGE = [
 ]
 
 
-def project_of(rng, command, valid):
+def project_of(rng: Random, command: str, valid: bool) -> Project:
     """A makefile with its included files; where `valid`, seldom at fault."""
     draw = rng.random()
     if draw < (0.1 if command == "graph" else 0.25):
@@ -120,7 +123,7 @@ def project_of(rng, command, valid):
     return mutated(rng, project) if rng.random() < (0.02 if valid else 0.2) else project
 
 
-def words_of(rng, command, valid):
+def words_of(rng: Random, command: str, valid: bool) -> list[str]:
     """Options and other words, without those that name footprints, certificate and plan."""
     words = [command]
     if rng.random() < 0.12:
@@ -154,7 +157,7 @@ def words_of(rng, command, valid):
     return words
 
 
-def other_words(rng, project, valid):
+def other_words(rng: Random, project: Project, valid: bool) -> list[str]:
     """Operands and goals, in the order in which they are given."""
     out = []
     for _ in range(rng.choice([1, 1, 2, 3]) if rng.random() < 0.2 else 0):
@@ -174,7 +177,7 @@ def other_words(rng, project, valid):
     return [os.fsdecode(word) for word in out]
 
 
-def mixed(rng, options, others):
+def mixed(rng: Random, options: list[str], others: list[str]) -> list[str]:
     """The words in the order in which they are given: others may come before options."""
     if others[:1] == ["--"] or rng.random() < 0.85:
         return options + others
@@ -182,12 +185,18 @@ def mixed(rng, options, others):
 
 
 class Case:
-    def __init__(self, files, words):
+    def __init__(self, files: Mapping[bytes, Contents], words: list[str]) -> None:
         self.files = files
         self.words = words
 
 
-def named(rng, command, project):
+# A case, and the command that it is counted for.
+Asked = tuple[str, Case]
+# What makes a certificate or a plan, from a graph, its book and the names that were passed over.
+Maker = Callable[[Random, Graph, Book, set[bytes]], bytes]
+
+
+def named(rng: Random, command: str, project: Project) -> None:
     """The makefile stands sometimes under the other usual name, or is missing."""
     draw = rng.random()
     if draw < 0.04:
@@ -200,11 +209,7 @@ def named(rng, command, project):
         project.files[b"folder"] = FOLDER
 
 
-def readable(files):
-    return {name: "failed" if data is FOLDER else data for name, data in files.items()}
-
-
-def model_of(rng, project, words):
+def model_of(rng: Random, project: Project, words: list[str]) -> Model | None:
     """What the second program makes of the makefile, or None where it refuses it."""
     try:
         return Model(rng, WithoutFolders(project), Request(list(words)))
@@ -212,17 +217,7 @@ def model_of(rng, project, words):
         return None
 
 
-class WithoutFolders:
-    """A project as the reading sees it."""
-
-    def __init__(self, project):
-        self.files = readable(project.files)
-        self.names = project.names
-        self.crossing = project.crossing
-        self.inferring = project.inferring
-
-
-def book_for(model, names, valid):
+def book_for(model: Model | None, names: list[bytes], valid: bool) -> bytes:
     if model is None:
         sources = [name.decode("utf-8") for name in names]
         return json.dumps({"format": 1, "fixed": [], "sources": sources, "records": []}).encode()
@@ -232,7 +227,7 @@ def book_for(model, names, valid):
         return json.dumps(format_one(model, [])).encode("utf-8")
 
 
-def case_of(rng, command):
+def case_of(rng: Random, command: str) -> Case:
     """A case of a command."""
     if command == "words":
         return case_in_words(rng)
@@ -253,20 +248,21 @@ def case_of(rng, command):
     needed = {"verify": ["-k", "K"], "simulate": ["-p", "P"]}.get(command, [])
     model = model_of(rng, project, words + ["-b", "B"] + needed + others)
     files = project.files
-    files[b"B"] = book_for(model, project.names, valid and rng.random() < 0.8)
+    book = book_for(model, project.names, valid and rng.random() < 0.8)
+    files[b"B"] = book
     words += ["-b", "B"]
     if command == "verify":
         words += ["-k", "K"]
-        files[b"K"] = judged(rng, model, files[b"B"], certificate_for)
+        files[b"K"] = judged(rng, model, book, certificate_for)
     if command == "simulate":
         words += ["-p", "P"]
-        files[b"P"] = judged(rng, model, files[b"B"], plan_for)
+        files[b"P"] = judged(rng, model, book, plan_for)
     if rng.random() < 0.01:
         broken_word(rng, files, words)
     return Case(files, mixed(rng, words, others))
 
 
-def lacking_case(rng, wrong=0.2):
+def lacking_case(rng: Random, wrong: float = 0.2) -> Case:
     """A case of `repair`, over a build whose makefile says too little of it."""
     truth, project = lacking(rng, wrong)
     named(rng, "repair", project)
@@ -279,7 +275,7 @@ def lacking_case(rng, wrong=0.2):
     return Case(project.files, mixed(rng, words, others))
 
 
-def case_in_words(rng):
+def case_in_words(rng: Random) -> Case:
     """A case of `check -w`, over a build for `check` or one for `repair`, of which half have more
     that no line mends."""
     kind = rng.choice(["check", "repair", "repair wrong"])
@@ -293,7 +289,7 @@ def case_in_words(rng):
     return case
 
 
-def broken_word(rng, files, words):
+def broken_word(rng: Random, files: dict[bytes, Contents], words: list[str]) -> None:
     """An option less, or a file missing, a folder in its place, or not to be read."""
     name = rng.choice(["B", "K", "P"])
     if name not in words:
@@ -310,15 +306,15 @@ def broken_word(rng, files, words):
         del words[at - 1 : at + 1]
 
 
-def certificate_for(rng, graph, book, passed_over):
+def certificate_for(rng: Random, graph: Graph, book: Book, passed_over: set[bytes]) -> bytes:
     return certificate_of(rng, Subject(graph, book, passed_over))
 
 
-def plan_for(rng, graph, book, _passed_over):
+def plan_for(rng: Random, graph: Graph, book: Book, _passed_over: set[bytes]) -> bytes:
     return plan_of(rng, graph, book)
 
 
-def judged(rng, model, data, make):
+def judged(rng: Random, model: Model | None, data: bytes, make: Maker) -> bytes:
     """What `make` gives for the graph under the footprints; something else where there is none."""
     try:
         if model is None:

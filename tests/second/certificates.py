@@ -1,22 +1,37 @@
 """Certificates that may be given to `verify`: those that are right, and altered ones."""
 
+from __future__ import annotations
+
 import json
+from random import Random
+from typing import TypedDict
 
-from book import certificate_text
+from book import JsonObject, Way, certificate_text
 from footprints import altered, odd_value, spelled
+from judge import Subject
 
 
-def ways_of(subject):
+class WayValue(TypedDict):
+    """An entry of a certificate, as JSON."""
+
+    end: str
+    file: str
+    path: list[str]
+    recipe: str
+
+
+def ways_of(subject: Subject) -> list[Way]:
     """A way for each read that needs one and has one."""
     return [way for way in (subject.way(*pair) for pair in subject.pairs()) if way]
 
 
-def value_of(subject):
+def value_of(subject: Subject) -> JsonObject:
     text = certificate_text(subject.graph.goals, ways_of(subject))
-    return json.loads(text.decode("utf-8"))
+    value: JsonObject = json.loads(text.decode("utf-8"))
+    return value
 
 
-def longer_path(rng, subject, way):
+def longer_path(rng: Random, subject: Subject, way: WayValue) -> None:
     """Another path that begins as this one does, a step further or with another end."""
     path = [name.encode() for name in way["path"]]
     if path and path[-1] in subject.recipes:
@@ -30,7 +45,7 @@ def longer_path(rng, subject, way):
             way["end"] = rng.choice(ends).decode()
 
 
-def alter_entry(rng, subject, ways):
+def alter_entry(rng: Random, subject: Subject, ways: list[WayValue]) -> None:
     """One entry changed, left out, doubled or put in."""
     names = [node.name.decode() for node in subject.graph.serial]
     if not ways or rng.random() < 0.1:
@@ -51,7 +66,7 @@ def alter_entry(rng, subject, ways):
     if kind == 0:
         del ways[place]
     elif kind == 1:
-        ways.insert(rng.randint(0, len(ways)), dict(way))
+        ways.insert(rng.randint(0, len(ways)), way.copy())
     elif kind == 2:
         way["path"] = way["path"][:-1]
     elif kind == 3:
@@ -70,7 +85,7 @@ def alter_entry(rng, subject, ways):
         longer_path(rng, subject, way)
 
 
-def certificate_of(rng, subject):
+def certificate_of(rng: Random, subject: Subject) -> bytes:
     """The bytes of a certificate."""
     value = value_of(subject)
     draw = rng.random()

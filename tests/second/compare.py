@@ -7,6 +7,8 @@ It prints the seed, which is a new one each time where none is given, for each c
 cases were tried, and each case that differs, whose files it keeps.
 """
 
+from __future__ import annotations
+
 import argparse
 import collections
 import multiprocessing
@@ -19,11 +21,15 @@ import subprocess
 import sys
 import tempfile
 import time
+from collections.abc import Mapping
+from types import FrameType
+from typing import NoReturn
 
-from cases import FOLDER, Case, case_of
+from cases import Case, case_of
 from evidence import shows
 from limits import limits
-from request import Disk, Request
+from makefiles import FOLDER, Contents
+from request import Answer, Disk, Request
 from second import answered
 from sentences import THEN
 
@@ -42,14 +48,16 @@ FAULT = re.compile(rb"(?:\S+:\d+: )?([\w:]+ \(\d+\)): ")
 GATE_SEED = 20261124
 KEPT = 20
 SECONDS = 300
+# The arguments, the commands, and the number of a job.
+Job = tuple[argparse.Namespace, list[str], int]
 
 
-def memory_folder():
+def memory_folder() -> str | None:
     """Where files are made soonest."""
     return "/dev/shm" if os.access("/dev/shm", os.W_OK) else None
 
 
-def emptied(folder):
+def emptied(folder: str) -> None:
     for entry in os.scandir(folder):
         if entry.is_dir(follow_symlinks=False):
             shutil.rmtree(entry.path)
@@ -57,7 +65,7 @@ def emptied(folder):
             os.unlink(entry.path)
 
 
-def written(folder, files):
+def written(folder: str, files: Mapping[bytes, Contents]) -> None:
     """The files of a case, in a folder that is emptied first."""
     emptied(folder)
     for name, data in files.items():
@@ -75,11 +83,11 @@ class Silent(Exception):
     """The program gives no answer."""
 
 
-def given_up(_signal, _frame):
+def given_up(_signal: int, _frame: FrameType | None) -> NoReturn:
     raise Silent
 
 
-def asked(program, words, folder):
+def asked(program: str, words: list[str], folder: str) -> Answer:
     """Standard output and status of the program; no status where it gives no answer.
 
     An alarm takes less time than a timeout of `run`, and most of a case is the start of the
@@ -103,13 +111,13 @@ def asked(program, words, folder):
     return done.stdout, done.returncode
 
 
-def kind_of(line):
+def kind_of(line: bytes) -> str:
     """What a line of a no tells of."""
     words = line.split()
     return (words[1] if words[0] == b"no" else words[0]).decode()
 
 
-def sort_of(told):
+def sort_of(told: Answer) -> str:
     """A short name for what was told, to be counted."""
     text, status = told
     if status == 1 and IN_WORDS.search(text):
@@ -118,11 +126,12 @@ def sort_of(told):
             for part in text.split(THEN)
         ]
         return "no " + b"; then ".join(b", ".join(kinds) for kinds in found).decode()
-    if status == 2 and FAULT.match(text):
-        return "refused " + FAULT.match(text)[1].decode()
+    fault = FAULT.match(text)
+    if status == 2 and fault:
+        return "refused " + fault[1].decode()
     words = text.split(None, 2)[:2]
     if not words:
-        return "usage" if status == 2 else "status %d" % status
+        return "usage" if status == 2 else f"status {status}"
     if text == b"no plan\n":
         return "no plan"
     if text.startswith(b"\n"):
@@ -139,14 +148,15 @@ def sort_of(told):
 
 
 class Comparer:
-    def __init__(self, program, folder):
+    def __init__(self, program: str, folder: str) -> None:
         self.program = os.path.abspath(program)
         self.folder = folder
-        self.tried = collections.Counter()
+        self.tried: collections.Counter[str] = collections.Counter()
+        self.sorts: collections.defaultdict[str, collections.Counter[str]]
         self.sorts = collections.defaultdict(collections.Counter)
         self.differing = 0
 
-    def compare(self, command, label, case):
+    def compare(self, command: str, label: str, case: Case) -> None:
         """Asks both about the case. A plan that shows a race need not be the same one."""
         written(self.folder, case.files)
         disk = Disk(self.folder)
@@ -169,7 +179,7 @@ class Comparer:
         self.differing += 1
         self.report(label, case, first, second)
 
-    def compare_amended(self, label, case, lines):
+    def compare_amended(self, label: str, case: Case, lines: bytes) -> None:
         """Appends the lines to the makefile that was read, and asks both whether that is right."""
         name = Request(list(case.words)).values.get("f", b"makefile")
         path = os.path.join(self.folder, os.fsdecode(name))
@@ -184,7 +194,7 @@ class Comparer:
             self.differing += 1
             self.report(f"{label}, amended,", Case(case.files, words), first, second)
 
-    def report(self, label, case, first, second):
+    def report(self, label: str, case: Case, first: Answer, second: Answer) -> None:
         print(f"fuzz: {label} differs: mkcheck {' '.join(map(repr, case.words))}")
         print(f"  mkcheck {first[1]}: {first[0][:300]!r}")
         print(f"  second  {second[1]}: {second[0][:300]!r}")
@@ -200,12 +210,12 @@ class Comparer:
                 file.write("\n".join(case.words) + "\n")
             print(f"  kept in {os.path.dirname(kept)}", flush=True)
 
-    def random_case(self, command, seed, number):
+    def random_case(self, command: str, seed: object, number: int) -> None:
         rng = random.Random(f"{seed} {command} {number}")
         case = case_of(rng, "check" if command == "evidence" else command)
         self.compare(command, f"{command} {number} of seed {seed}", case)
 
-    def random_cases(self, commands, given, until):
+    def random_cases(self, commands: list[str], given: argparse.Namespace, until: float) -> None:
         """The random cases of one job of some, of the commands in turn, as time allows."""
         cases = GATE_CASES if given.gate else dict.fromkeys(COMMANDS, given.cases)
         for number in range(given.job, max(cases[command] for command in commands), given.jobs):
@@ -213,7 +223,7 @@ class Comparer:
                 if number < cases[command] and time.monotonic() < until:
                     self.random_case(command, given.seed, number)
 
-    def all_cases(self, commands, given):
+    def all_cases(self, commands: list[str], given: argparse.Namespace) -> None:
         """The random cases, and those that are always the same."""
         until = time.monotonic() + given.seconds
         self.random_cases(commands, given, until)
@@ -222,14 +232,14 @@ class Comparer:
             if mine and time.monotonic() < until:
                 self.compare(command, label, case)
 
-    def added(self, other):
+    def added(self, other: Comparer) -> None:
         """What another job has tried."""
         self.tried += other.tried
         self.differing += other.differing
         for command, sorts in other.sorts.items():
             self.sorts[command] += sorts
 
-    def told(self, counts):
+    def told(self, counts: bool) -> bool:
         """What was tried, and whether nothing differs."""
         for command, tried in self.tried.items():
             print(f"{command}: {tried} cases")
@@ -243,7 +253,7 @@ class Comparer:
         return not self.differing
 
 
-def compared(job):
+def compared(job: Job) -> Comparer:
     """What one job of some tries, in a folder of its own."""
     given, commands, number = job
     given.job = number
@@ -253,7 +263,7 @@ def compared(job):
     return comparer
 
 
-def all_compared(given, commands):
+def all_compared(given: argparse.Namespace, commands: list[str]) -> Comparer:
     """What all jobs tried."""
     jobs = [(given, commands, number) for number in range(given.jobs)]
     if given.jobs == 1:
@@ -265,12 +275,12 @@ def all_compared(given, commands):
     return first
 
 
-def new_seed():
+def new_seed() -> int:
     """A seed that another run hardly has."""
     return random.SystemRandom().randrange(10**9)
 
 
-def arguments():
+def arguments() -> argparse.Namespace:
     parser = argparse.ArgumentParser(description=__doc__.split("\n", maxsplit=1)[0])
     parser.add_argument("program")
     parser.add_argument("--seed")
@@ -287,7 +297,7 @@ def arguments():
     return given
 
 
-def main():
+def main() -> int:
     given = arguments()
     commands = [given.command] if given.command else list(COMMANDS)
     print(f"fuzz: seed {given.seed}", flush=True)

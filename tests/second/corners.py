@@ -1,8 +1,11 @@
 """Small cases, each for one sentence of the rules that random ones seldom meet."""
 
-import json
+from __future__ import annotations
 
-from cases import Case
+import json
+from collections.abc import Iterator
+
+from cases import Asked, Case
 from footprints import Memory
 from graph import Graph, Rules, There, goal_names
 from reading import read_makefile
@@ -108,7 +111,8 @@ GRAPHS = [
     b".SUFFIXES: .c .c .d\n.d.c:;x\na.c:\na.d:",
 ]
 # A makefile, sources, fixed prefixes, and of each target what it reads and what it writes.
-BUILDS = [
+Build = tuple[bytes, str, str, dict[str, tuple[str, str]]]
+BUILDS: list[Build] = [
     (b"-include a.d\na.o: a.c\n\tc\n", "a.c", "", {"a.o": ("a.c", "a.o a.d")}),
     (b"a.o: a.c\n\tc\n", "a.c", "", {"a.o": ("a.c", "a.o makefile")}),
     (b"all: u/a.o\nu/a.c:\n", "", "u/", {}),
@@ -270,7 +274,7 @@ WORDS = [["check", "-b", "N", "-e", number] for number in NUMBERS] + [
 ]
 
 
-def built(build):
+def built(build: Build) -> dict[bytes, bytes]:
     """The makefile with the records, whose commands are those that the second program gives."""
     text, sources, fixed, records = build
     makefile = read_makefile(Memory({b"makefile": text}), None, True, [])
@@ -281,7 +285,7 @@ def built(build):
     for node in graph.serial:
         if node.name.decode() in records:
             reads, writes = records[node.name.decode()]
-            lines = [line.decode() for line in rules.expanded(node, there)[0]]
+            lines = [line.decode() for line in rules.expanded(node, there).texts]
             listed.append(
                 {
                     "target": node.name.decode(),
@@ -294,7 +298,7 @@ def built(build):
     return {b"makefile": text, b"B": json.dumps(book).encode()}
 
 
-def corners():
+def corners() -> Iterator[Asked]:
     """Each with its command."""
     for text in GRAPHS:
         files = {b"makefile": text, b"inc0.mk": b"e: f\n"}

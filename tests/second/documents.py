@@ -1,6 +1,10 @@
 """Small footprints, certificates and plans, each for one sentence of the rules."""
 
-from cases import Case
+from __future__ import annotations
+
+from collections.abc import Iterator, Sequence
+
+from cases import Asked, Case
 
 MAKEFILE = b"p: a.o\n\tl\na.o: a.c\n\tc\n.PHONY: q\nr: q\n\tr\nq: a.c\n\tq\nt: a.o b.o\n\tt\nb.o: a.c\n\tb\n"
 RECORD = (
@@ -125,7 +129,7 @@ BOOKS = [
     BOOK.replace(b'"format"', b'"deep":' + b"[" * 126 + b"]" * 126 + b',"format"'),
     BOOK.replace(b'"format"', b'"deep":' + b"[" * 127 + b"]" * 127 + b',"format"'),
 ]
-CERTIFICATES = [
+CERTIFICATES: list[list[int | bytes]] = [
     [0, 1, 2],
     [2, 1, 0],
     [0, 1],
@@ -153,6 +157,7 @@ CERTIFICATES = [
     [0, b'{"end":"source","file":"a","path":["a"],"z":1}'],
     [0, 1, b'{"end":"no","end":"source","file":"a.c","path":["p","a.o"],"recipe":"p"}'],
 ]
+GOALS: list[list[str]] = [["p", "b.o"], ["b.o", "p"], ["p", "p"], ["b.o"], []]
 PLANS = [
     b"make 1\npass r",
     b"make 1 r\nrun q\nrun r\nend\nmake 1 r\npass q",
@@ -227,25 +232,25 @@ PLANS = [
 ]
 
 
-def certificate(ways):
+def certificate(ways: Sequence[int | bytes]) -> bytes:
     texts = [WAYS[way] if isinstance(way, int) else way for way in ways]
     return b'{"format":1,"goals":["p"],"ways":[' + b",".join(texts) + b"]}"
 
 
-def verified(data):
+def verified(data: bytes) -> Asked:
     return "verify", Case(
         {b"makefile": MAKEFILE, b"B": BOOK, b"K": data}, ["verify", "-b", "B", "-k", "K"]
     )
 
 
-def documents():
+def documents() -> Iterator[Asked]:
     """Each with its command."""
     books = BOOKS + [BOOK.replace(b'"format":1', b'"format":' + number) for number in NUMBERS]
     for book in books:
         yield "graph", Case({b"makefile": MAKEFILE, b"B": book}, ["graph", "-b", "B"])
     for book in BOOKS:
         yield "check", Case({b"makefile": MAKEFILE, b"B": book}, ["check", "-b", "B", "-c"])
-    for goals in (["p", "b.o"], ["b.o", "p"], ["p", "p"], ["b.o"], []):
+    for goals in GOALS:
         files = {b"makefile": MAKEFILE, b"B": ORDERED}
         yield "check", Case(files, ["check", "-b", "B", *goals])
     for ways in CERTIFICATES:

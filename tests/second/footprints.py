@@ -1,13 +1,20 @@
 """Random footprints for a makefile, true as far as they go or with faults, of both formats."""
 
+from __future__ import annotations
+
 import copy
 import json
+from collections.abc import Iterable, Mapping
+from random import Random
+from typing import Literal, Protocol
 
-from book import Book, Record
+from book import Book, JsonObject, Record, RecordValue
 from graph import Graph, Rules, There, goal_names
-from judge import Subject
+from judge import Finding, Subject
 from lines import Refused
-from reading import read_makefile
+from makefiles import WithoutFolders
+from reading import Found, read_makefile
+from request import Request
 
 FIXED = ["/usr/", "/etc/", "sys/", "/", "../inc/", "usr/", "/usr/lib/"]
 ODD_FILES = [
@@ -31,17 +38,26 @@ ODD_FILES = [
 class Memory:
     """Files in memory, read as those of a folder are."""
 
-    def __init__(self, files):
+    def __init__(self, files: Mapping[bytes, bytes | Literal["failed"]]) -> None:
         self.files = files
 
-    def read(self, name):
+    def read(self, name: bytes) -> Found:
         return self.files.get(name)
+
+
+class Recorded(Protocol):
+    """What a file of footprints has besides its records."""
+
+    rng: Random
+    fixed: list[str]
+    sources: list[str]
+    goals: list[bytes]
 
 
 class Model:
     """A makefile as it is read with some words, and sources that it can do with."""
 
-    def __init__(self, rng, project, request):
+    def __init__(self, rng: Random, project: WithoutFolders, request: Request) -> None:
         self.rng = rng
         self.project = project
         makefile = read_makefile(
@@ -66,17 +82,17 @@ class Model:
         self.sources = [name for name in self.sources if not self.under(name)]
         self.graph = self.graph_with_sources()
 
-    def under(self, name):
+    def under(self, name: str) -> bool:
         return any(name.startswith(front) for front in self.fixed)
 
-    def there(self):
+    def there(self) -> There:
         return There(
             [name.encode() for name in self.sources],
             [front.encode() for front in self.fixed],
             self.rules.makefile.texts,
         )
 
-    def graph_with_sources(self):
+    def graph_with_sources(self) -> Graph:
         """The graph, with each name added to the sources that nothing makes."""
         while True:
             try:
@@ -86,7 +102,7 @@ class Model:
                     raise
                 self.sources.append(fault.words[0].decode("utf-8"))
 
-    def subject(self, records):
+    def subject(self, records: dict[str, RecordValue]) -> Subject:
         made = {
             target.encode(): Record(
                 [text.encode() for text in record["commands"]],
@@ -99,15 +115,15 @@ class Model:
         return Subject(self.graph, Book([], sources, made), self.passed_over)
 
 
-def records_of(model, mend):
+def records_of(model: Model, mend: str) -> dict[str, RecordValue]:
     """A record for each recipe of the graph; what a finding tells of is taken out of them: of
     each finding, of those but races and stale reads, or of none."""
     rng = model.rng
-    records = {}
+    records: dict[str, RecordValue] = {}
     nodes = [node.name.decode() for node in model.graph.serial]
     for node in model.graph.recipes():
         name = node.name.decode()
-        texts = model.rules.expanded(node, model.graph.there)[0]
+        texts = model.rules.expanded(node, model.graph.there).texts
         reads = [
             one.decode()
             for one in node.prerequisites
@@ -168,9 +184,9 @@ def records_of(model, mend):
     return records
 
 
-def made_from(model, names):
+def made_from(model: Model, names: list[str]) -> str:
     """A file, not there yet, of which an inference rule might make one of the names."""
-    fitting = []
+    fitting: list[bytes] = []
     for name in names:
         rest, ending = model.rules.cut(name.encode())
         fitting += [
@@ -186,7 +202,7 @@ def made_from(model, names):
     return model.rng.choice(fitting or [b"made.c"]).decode()
 
 
-def mended(records, words):
+def mended(records: dict[str, RecordValue], words: Finding) -> bool:
     """Takes out of the records what a finding tells of; whether that can be done."""
     kind, names = words[0], [word.decode() for word in words[1:]]
     if kind in (b"given", b"writers", b"loose"):
@@ -205,13 +221,13 @@ def mended(records, words):
     return False
 
 
-def drop(texts, text):
+def drop(texts: list[str], text: str) -> bool:
     if text in texts:
         texts.remove(text)
     return True
 
 
-def spoiled(model, records):
+def spoiled(model: Model, records: dict[str, RecordValue]) -> None:
     """Records with one thing more or less."""
     rng = model.rng
     if not records:
@@ -239,17 +255,17 @@ def spoiled(model, records):
         record["writes"].append(rng.choice(sorted(model.graph.nodes)).decode())
 
 
-def format_one(model, records):
+def format_one(model: Recorded, records: list[RecordValue]) -> JsonObject:
     return {"format": 1, "fixed": model.fixed, "sources": model.sources, "records": records}
 
 
-def format_two(model, records):
+def format_two(model: Recorded, records: list[RecordValue]) -> JsonObject:
     """The same in groups and with shared lists; the group of the goals isn't the only one."""
     rng = model.rng
-    lists = {}
-    made = []
-    for record in records:
-        record = dict(record, shared=[])
+    lists: dict[str, list[str]] = {}
+    made: list[JsonObject] = []
+    for told in records:
+        record: JsonObject = dict(told, shared=[])
         cut = rng.randint(0, len(record["reads"]))
         if rng.random() < 0.6:
             tail = record["reads"][cut:]
@@ -278,16 +294,16 @@ def format_two(model, records):
     }
 
 
-def objects_in(value):
+def objects_in(value: object) -> list[JsonObject]:
     """All objects of a value, the value too."""
     found = [value] if isinstance(value, dict) else []
-    inner = value.values() if isinstance(value, dict) else value
-    for one in inner if isinstance(value, (dict, list)) else []:
+    inner: Iterable[object] = value if isinstance(value, list) else []
+    for one in value.values() if isinstance(value, dict) else inner:
         found.extend(objects_in(one))
     return found
 
 
-ODD_VALUES = [
+ODD_VALUES: list[object] = [
     None,
     True,
     0,
@@ -322,11 +338,11 @@ ODD_VALUES = [
 ]
 
 
-def odd_value(rng):
+def odd_value(rng: Random) -> object:
     return copy.deepcopy(rng.choice(ODD_VALUES))
 
 
-def altered(rng, value):
+def altered(rng: Random, value: JsonObject) -> JsonObject:
     """A value with one of its members changed, missing, or one more; two may be changed."""
     value = json.loads(json.dumps(value))
     for _ in range(rng.choice([1, 1, 2])):
@@ -357,7 +373,7 @@ def altered(rng, value):
     return value
 
 
-def spelled(rng, value):
+def spelled(rng: Random, value: JsonObject) -> bytes:
     """The text of a value in one of its spellings; a few are no JSON, or say a key twice."""
     text = json.dumps(
         value,
@@ -448,7 +464,7 @@ TOKENS = [
 ]
 
 
-def soup(rng):
+def soup(rng: Random) -> bytes:
     """A member that may be JSON, put together of tokens."""
     if rng.random() < 0.3:
         return (
@@ -461,7 +477,7 @@ def soup(rng):
     return b"".join(rng.choices(TOKENS, k=rng.randint(1, 4)))
 
 
-def broken(rng, text):
+def broken(rng: Random, text: str) -> bytes:
     """A text that may be no JSON."""
     data = text.encode("utf-8")
     kind = rng.randrange(9)
@@ -535,7 +551,7 @@ def broken(rng, text):
     )
 
 
-def book_of(model, valid):
+def book_of(model: Model, valid: bool) -> bytes:
     """The bytes of a file of footprints, and the records that they hold."""
     rng = model.rng
     often = ["all", "static", "none"] if model.project.inferring else ["all", "all", "static"]

@@ -1,8 +1,13 @@
 """Inference rules, goals, the graph of what they reach, and the commands of its nodes."""
 
+from __future__ import annotations
+
+from collections.abc import Container, Iterable, Iterator
+from typing import NamedTuple
+
 from lines import Refused, Unplaced, place, tested_name
 from macros import Locals
-from reading import SPECIAL
+from reading import SPECIAL, Command, Makefile, Rule
 
 NODE_LIMIT = 4096
 
@@ -10,7 +15,7 @@ NODE_LIMIT = 4096
 class Node:
     """A name that the goals reach."""
 
-    def __init__(self, name, groups, recipe, phony):
+    def __init__(self, name: bytes, groups: list[list[bytes]], recipe: bool, phony: bool) -> None:
         self.name = name
         self.groups = groups
         self.recipe = recipe
@@ -21,37 +26,57 @@ class Node:
 class There:
     """What counts as there, and as given, besides the targets of the makefile."""
 
-    def __init__(self, sources=(), fixed=(), texts=(), any_leaf=False):
+    def __init__(
+        self,
+        sources: Iterable[bytes] = (),
+        fixed: Iterable[bytes] = (),
+        texts: Iterable[bytes] = (),
+        any_leaf: bool = False,
+    ) -> None:
         self.sources = set(sources)
         self.fixed = list(fixed)
         self.texts = set(texts)
         self.any_leaf = any_leaf
 
-    def is_fixed(self, name):
+    def is_fixed(self, name: bytes) -> bool:
         return any(name.startswith(front) for front in self.fixed)
 
-    def is_given(self, name):
+    def is_given(self, name: bytes) -> bool:
         return name in self.sources or name in self.texts or self.is_fixed(name)
 
-    def is_editable(self, name):
+    def is_editable(self, name: bytes) -> bool:
         return name in self.sources and name not in self.texts
+
+
+class Choice(NamedTuple):
+    """An inference rule, by the suffixes of its target, and the prerequisite that it takes."""
+
+    suffixes: bytes
+    made_from: bytes
+
+
+class Expanded(NamedTuple):
+    """The commands of a node, and whether they vary from make to make."""
+
+    texts: list[bytes]
+    varies: bool
 
 
 class Rules:
     """What the rule lines say of names, once all is read."""
 
-    def __init__(self, makefile):
+    def __init__(self, makefile: Makefile) -> None:
         self.makefile = makefile
         self.suffixes = makefile.suffixes
         self.phony = set(makefile.phony)
         self.known = set(makefile.suffixes)
-        self.targets = set()
-        self.words = {}
-        self.commands = {}
+        self.targets: set[bytes] = set()
+        self.words: dict[bytes, list[bytes]] = {}
+        self.commands: dict[bytes, list[Command]] = {}
         for rule in makefile.rules:
             self.take(rule)
 
-    def take(self, rule):
+    def take(self, rule: Rule) -> None:
         for target in dict.fromkeys(rule.targets):
             inference = self.is_inference(target)
             if rule.default and not inference:
@@ -62,7 +87,7 @@ class Rules:
             if rule.commands is not None:
                 self.commands[target] = rule.commands
 
-    def is_inference(self, name):
+    def is_inference(self, name: bytes) -> bool:
         """Whether a name is a known suffix, or two in a row; a special target is none."""
         if SPECIAL.match(name):
             return False
@@ -70,18 +95,18 @@ class Rules:
             name.endswith(suffix) and name[: -len(suffix)] in self.known for suffix in self.known
         )
 
-    def own_commands(self, name):
+    def own_commands(self, name: bytes) -> list[Command] | None:
         """The commands of a target by its rule lines, or None without any."""
         return self.commands.get(name) if name in self.targets else None
 
-    def cut(self, name):
+    def cut(self, name: bytes) -> tuple[bytes, bytes]:
         """The name without its known suffix, and this suffix; the name and nothing without one."""
         for suffix in self.known:
             if name.endswith(suffix) and len(name) > len(suffix):
                 return name[: -len(suffix)], suffix
         return name, b""
 
-    def choice(self, name, there, more=()):
+    def choice(self, name: bytes, there: There, more: Container[bytes] = ()) -> Choice | None:
         """The suffix whose inference rule makes the name, and the prerequisite; or None."""
         if self.own_commands(name) is not None or name in self.phony or there.is_fixed(name):
             return None
@@ -95,12 +120,12 @@ class Rules:
                 or made_from in more
             )
             if suffix + ending in self.commands and is_there:
-                return suffix + ending, made_from
+                return Choice(suffix + ending, made_from)
         return None
 
-    def groups(self, name, chosen):
+    def groups(self, name: bytes, chosen: Choice | None) -> list[list[bytes]]:
         """The groups of prerequisites, the inferred one first."""
-        groups = [[]]
+        groups: list[list[bytes]] = [[]]
         for word in self.words.get(name, []):
             if word == b".WAIT":
                 groups.append([])
@@ -112,18 +137,18 @@ class Rules:
         if chosen is None:
             return groups
         if not groups or self.makefile.not_parallel:
-            return [[chosen[1]]] + groups
-        return [[chosen[1]] + groups[0]] + groups[1:]
+            return [[chosen.made_from]] + groups
+        return [[chosen.made_from] + groups[0]] + groups[1:]
 
-    def node(self, name, there):
+    def node(self, name: bytes, there: There) -> Node:
         chosen = self.choice(name, there)
-        lines = self.commands[chosen[0]] if chosen else self.own_commands(name)
+        lines = self.commands[chosen.suffixes] if chosen else self.own_commands(name)
         return Node(name, self.groups(name, chosen), bool(lines), name in self.phony)
 
-    def expanded(self, node, there):
+    def expanded(self, node: Node, there: There) -> Expanded:
         """The commands of a node, and whether they vary from make to make."""
         chosen = self.choice(node.name, there)
-        lines = self.commands[chosen[0]] if chosen else self.own_commands(node.name)
+        lines = self.commands[chosen.suffixes] if chosen else self.own_commands(node.name)
         local = Locals(node.name, self.cut(node.name)[0], node.prerequisites)
         texts = []
         varies = False
@@ -134,10 +159,10 @@ class Rules:
                 raise fault.at(where)
             texts.append(expanded)
             varies = varies or varying
-        return texts, varies
+        return Expanded(texts, varies)
 
 
-def goal_names(rules, given):
+def goal_names(rules: Rules, given: list[bytes]) -> list[bytes]:
     """45, then the goals: those given, each once, or the first target that may be one."""
     for rule in rules.makefile.rules:
         inference = any(rules.is_inference(target) for target in rule.targets)
@@ -160,15 +185,15 @@ def goal_names(rules, given):
 class Graph:
     """The nodes that the goals reach, by name, in the order in which a walk meets them."""
 
-    def __init__(self, rules, goals, there):
+    def __init__(self, rules: Rules, goals: list[bytes], there: There) -> None:
         self.rules = rules
         self.goals = goals
         self.there = there
-        self.nodes = {}
+        self.nodes: dict[bytes, Node] = {}
         self.meet_all()
         self.serial = self.serial_order()
 
-    def meet_all(self):
+    def meet_all(self) -> None:
         waiting = list(reversed(self.goals))
         while waiting:
             name = waiting.pop()
@@ -187,13 +212,13 @@ class Graph:
             self.nodes[name] = node
             waiting.extend(reversed(node.prerequisites))
 
-    def serial_order(self):
+    def serial_order(self) -> list[Node]:
         """Depth first, left to right, each node after its prerequisites; or 42."""
-        done = {}
-        path = []
-        on_path = set()
+        done: dict[bytes, bool] = {}
+        path: list[bytes] = []
+        on_path: set[bytes] = set()
         for goal in self.goals:
-            stack = [(goal, None)]
+            stack: list[tuple[bytes, Iterator[bytes] | None]] = [(goal, None)]
             while stack:
                 name, rest = stack.pop()
                 if rest is None:
@@ -213,16 +238,16 @@ class Graph:
                     stack.append((following, None))
         return [self.nodes[name] for name in done]
 
-    def recipes(self):
+    def recipes(self) -> list[Node]:
         return [node for node in self.serial if node.recipe]
 
-    def text(self, commands):
+    def text(self, commands: bool) -> bytes:
         """What `graph` prints."""
         lines = [b" ".join([b"goals"] + self.goals)]
         for node in self.serial:
             head = node.name + b" recipe" * node.recipe + b" phony" * node.phony + b":"
             listed = b" .WAIT ".join(b" ".join(group) for group in node.groups)
             lines.append(head + (b" " + listed if listed else b""))
-            for text in self.rules.expanded(node, self.there)[0] if commands else []:
+            for text in self.rules.expanded(node, self.there).texts if commands else []:
                 lines.append(b"\t" + text)
         return b"".join(line + b"\n" for line in lines)

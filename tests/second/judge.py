@@ -1,13 +1,21 @@
 """What stands against a build, the ways of a yes, and the check of a certificate."""
 
-from book import Way, certificate_text, read_certificate
+from __future__ import annotations
+
+from collections.abc import Container
+
+from book import Book, Way, certificate_text, read_certificate
+from graph import Graph, Node
 from lines import Refused
+
+# A finding in its printed words, without the first one, `no`.
+Finding = list[bytes]
 
 
 class Subject:
     """A graph with what was recorded of its recipes, and their commands."""
 
-    def __init__(self, graph, book, passed_over):
+    def __init__(self, graph: Graph, book: Book, passed_over: Container[bytes]) -> None:
         self.graph = graph
         self.rules = graph.rules
         self.there = graph.there
@@ -17,21 +25,21 @@ class Subject:
             node.name: graph.rules.expanded(node, graph.there) for node in graph.serial
         }
         self.recipes = [node.name for node in graph.recipes()]
-        self.writers = {}
+        self.writers: dict[bytes, list[bytes]] = {}
         for recipe in self.recipes:
             for file in self.writes(recipe):
                 self.writers.setdefault(file, []).append(recipe)
 
-    def reads(self, recipe):
+    def reads(self, recipe: bytes) -> list[bytes]:
         return self.records[recipe].reads if recipe in self.records else []
 
-    def writes(self, recipe):
+    def writes(self, recipe: bytes) -> list[bytes]:
         return self.records[recipe].writes if recipe in self.records else []
 
-    def node(self, name):
+    def node(self, name: bytes) -> Node:
         return self.graph.nodes[name]
 
-    def counts(self):
+    def counts(self) -> bytes:
         return b"yes %d recipes %d reads" % (
             len(self.recipes),
             sum(len(self.reads(recipe)) for recipe in self.recipes),
@@ -39,8 +47,8 @@ class Subject:
 
     # Findings, each as its printed words, in the order in which they are told.
 
-    def static_findings(self):
-        found = []
+    def static_findings(self) -> list[Finding]:
+        found: list[Finding] = []
         for told in (
             self.no_record,
             self.other_commands,
@@ -56,22 +64,22 @@ class Subject:
             found.extend(told())
         return found
 
-    def no_record(self):
+    def no_record(self) -> list[Finding]:
         return [[b"record", recipe] for recipe in self.recipes if recipe not in self.records]
 
-    def other_commands(self):
+    def other_commands(self) -> list[Finding]:
         return [
             [b"commands", recipe]
             for recipe in self.recipes
             if recipe in self.records
-            and not self.commands[recipe][1]
-            and self.records[recipe].commands != self.commands[recipe][0]
+            and not self.commands[recipe].varies
+            and self.records[recipe].commands != self.commands[recipe].texts
         ]
 
-    def varying(self):
-        return [[b"varying", recipe] for recipe in self.recipes if self.commands[recipe][1]]
+    def varying(self) -> list[Finding]:
+        return [[b"varying", recipe] for recipe in self.recipes if self.commands[recipe].varies]
 
-    def no_target(self):
+    def no_target(self) -> list[Finding]:
         return [
             [b"target", recipe]
             for recipe in self.recipes
@@ -80,7 +88,7 @@ class Subject:
             and recipe not in self.writes(recipe)
         ]
 
-    def two_writers(self):
+    def two_writers(self) -> list[Finding]:
         return [
             [b"writers", first, second, file]
             for place, first in enumerate(self.recipes)
@@ -89,7 +97,7 @@ class Subject:
             if file in self.writes(second)
         ]
 
-    def given(self):
+    def given(self) -> list[Finding]:
         return [
             [b"given", recipe, file]
             for recipe in self.recipes
@@ -97,7 +105,7 @@ class Subject:
             if self.there.is_given(file) or file in self.rules.phony or file in self.passed_over
         ]
 
-    def own(self):
+    def own(self) -> list[Finding]:
         return [
             [b"own", recipe, file]
             for recipe in self.recipes
@@ -105,7 +113,7 @@ class Subject:
             if file in self.writes(recipe)
         ]
 
-    def unknown(self):
+    def unknown(self) -> list[Finding]:
         return [
             [b"unknown", recipe, file]
             for recipe in self.recipes
@@ -113,7 +121,7 @@ class Subject:
             if not self.there.is_given(file) and file not in self.writers
         ]
 
-    def loose(self):
+    def loose(self) -> list[Finding]:
         return [
             [b"loose", node.name, recipe]
             for node in self.graph.serial
@@ -122,16 +130,17 @@ class Subject:
             if recipe not in node.prerequisites
         ]
 
-    def selection(self):
+    def selection(self) -> list[Finding]:
         found = []
         for node in self.graph.serial:
             now = self.rules.choice(node.name, self.there)
             then = self.rules.choice(node.name, self.there, self.writers)
             if now != then:
-                found.append([b"selection", node.name, then[1]])
+                assert then is not None
+                found.append([b"selection", node.name, then.made_from])
         return found
 
-    def races(self):
+    def races(self) -> list[Finding]:
         return [
             [b"race", recipe, writer, file]
             for recipe in self.recipes
@@ -140,18 +149,18 @@ class Subject:
             if writer != recipe and not is_before(self.graph, writer, recipe)
         ]
 
-    def stale(self):
+    def stale(self) -> list[Finding]:
         return [
             [b"stale", recipe, file]
             for recipe, file in self.pairs()
             if self.way(recipe, file) is None
         ]
 
-    def findings(self):
+    def findings(self) -> list[Finding]:
         found = self.static_findings()
         return found if found else self.races() + self.stale()
 
-    def hidden(self, found, phony):
+    def hidden(self, found: list[Finding], phony: list[bytes]) -> list[Finding]:
         """The races, and the stale reads of files that the recipe doesn't write, that can be seen
         beside these other findings, but for those that mending these may settle. The lines that
         mend these make some targets phony."""
@@ -170,10 +179,10 @@ class Subject:
 
     # Ways.
 
-    def needs_way(self, file):
+    def needs_way(self, file: bytes) -> bool:
         return self.there.is_editable(file) or not self.there.is_given(file)
 
-    def pairs(self):
+    def pairs(self) -> list[tuple[bytes, bytes]]:
         """Each read of a file that can change."""
         return [
             (recipe, file)
@@ -182,7 +191,7 @@ class Subject:
             if self.needs_way(file)
         ]
 
-    def carried(self, recipe):
+    def carried(self, recipe: bytes) -> list[bytes]:
         """The recipes that write a direct prerequisite of a recipe."""
         return list(
             dict.fromkeys(
@@ -192,7 +201,7 @@ class Subject:
             )
         )
 
-    def ends(self, path, file):
+    def ends(self, path: list[bytes], file: bytes) -> list[bytes]:
         """What the last recipe of a path has to do with the file."""
         last = self.node(path[-1])
         told = []
@@ -204,12 +213,12 @@ class Subject:
             told.append(b"always")
         return told
 
-    def way(self, recipe, file):
+    def way(self, recipe: bytes, file: bytes) -> Way | None:
         """The shortest way, the first of these by the order of direct prerequisites, or None."""
         paths = [[recipe]]
         seen = {recipe}
         while paths:
-            longer = []
+            longer: list[list[bytes]] = []
             for path in paths:
                 ends = self.ends(path, file)
                 if ends:
@@ -221,15 +230,21 @@ class Subject:
             paths = longer
         return None
 
-    def ways(self):
-        return [self.way(recipe, file) for recipe, file in self.pairs()]
+    def ways(self) -> list[Way]:
+        """The way of each pair, which has one where there is no stale read."""
+        found = []
+        for recipe, file in self.pairs():
+            way = self.way(recipe, file)
+            assert way is not None
+            found.append(way)
+        return found
 
-    def certificate(self):
+    def certificate(self) -> bytes:
         return certificate_text(self.graph.goals, self.ways())
 
     # A certificate, entry by entry.
 
-    def is_way(self, way):
+    def is_way(self, way: Way) -> bool:
         path = way.path
         if not path or path[0] != way.recipe:
             return False
@@ -240,7 +255,7 @@ class Subject:
                 return False
         return way.end in self.ends(path, way.file)
 
-    def verify(self, data):
+    def verify(self, data: bytes) -> None:
         goals, ways = read_certificate(data)
         if goals != self.graph.goals:
             raise Refused(73)
@@ -259,10 +274,10 @@ class Subject:
                 raise Refused(74, *pair)
 
 
-def wanted(graph, goals, done):
+def wanted(graph: Graph, goals: list[bytes], done: set[bytes]) -> set[bytes]:
     """The names to which a path leads from a goal, at each step into a group whose
     earlier groups are all done."""
-    met = set()
+    met: set[bytes] = set()
     waiting = list(goals)
     while waiting:
         name = waiting.pop()
@@ -276,7 +291,7 @@ def wanted(graph, goals, done):
     return met
 
 
-def turns(graph, goals, done):
+def turns(graph: Graph, goals: list[bytes], done: set[bytes]) -> list[bytes]:
     """The names, not done, whose turn may come once these are done, in serial order."""
     met = wanted(graph, goals, done)
     return [
@@ -288,10 +303,10 @@ def turns(graph, goals, done):
     ]
 
 
-def is_before(graph, first, second):
+def is_before(graph: Graph, first: bytes, second: bytes) -> bool:
     """Whether the first is done in every make whenever the turn of the second may come:
     make all that can be made without the first, and see whether the second is among it."""
-    done = set()
+    done: set[bytes] = set()
     while True:
         coming = [name for name in turns(graph, graph.goals, done) if name != first]
         if not coming:

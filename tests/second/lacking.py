@@ -1,11 +1,15 @@
 """Random builds for `repair`: a build as it truly is, and a makefile that says too little of it."""
 
-import json
+from __future__ import annotations
 
+import json
+from random import Random
+
+from book import RecordValue
 from footprints import Memory, format_one, format_two
 from graph import Rules, There, goal_names
 from lines import Refused
-from makefiles import Project, included, shuffled_blocks, written
+from makefiles import Project, WithoutFolders, included, shuffled_blocks, written
 from reading import read_makefile
 from request import Request, Usage
 
@@ -28,7 +32,7 @@ ENDS = [b"", b"", b"# end", b"# end \\", b"V = x \\", b"V = x \\\n", b"\\", b"\t
 class Recipe:
     """A recipe as it truly is: what it reads and writes, and what its rule names."""
 
-    def __init__(self, target, reads, writes):
+    def __init__(self, target: str, reads: list[str], writes: list[str]) -> None:
         self.target = target
         self.reads = reads
         self.writes = writes
@@ -42,41 +46,41 @@ class Truth:
     `wrong` is how often it has one thing more that no line mends.
     """
 
-    def __init__(self, rng, wrong):
+    def __init__(self, rng: Random, wrong: float) -> None:
         self.rng = rng
         self.wrong = wrong
-        self.sources = []
-        self.recipes = []
-        self.loose = []
+        self.sources: list[str] = []
+        self.recipes: list[Recipe] = []
+        self.loose: list[tuple[str, list[str]]] = []
         self.fixed = ["/usr/"] if rng.random() < 0.2 else []
-        self.goals = []
+        self.goals: list[bytes] = []
         self.share = rng.choice([0.0, 0.0, 0.1, 0.4])
 
-    def chance(self, share):
+    def chance(self, share: float) -> bool:
         return self.rng.random() < share
 
-    def some(self, names, most):
+    def some(self, names: list[str], most: int) -> list[str]:
         return self.rng.sample(names, min(len(names), self.rng.randint(0, most)))
 
-    def source(self, name):
+    def source(self, name: str) -> str:
         if name not in self.sources:
             self.sources.append(name)
         return name
 
-    def made(self):
+    def made(self) -> list[str]:
         """The files that recipes write."""
         return [file for recipe in self.recipes for file in recipe.writes]
 
-    def writer(self, file):
+    def writer(self, file: str) -> str | None:
         return next((one.target for one in self.recipes if file in one.writes), None)
 
-    def add(self, target, reads, writes):
+    def add(self, target: str, reads: list[str], writes: list[str]) -> Recipe:
         recipe = Recipe(target, list(dict.fromkeys(reads)), writes)
         self.recipes.append(recipe)
         return recipe
 
 
-def headers(truth):
+def headers(truth: Truth) -> list[str]:
     """The names of sources that many recipes read."""
     count = truth.rng.randint(1, 4)
     names = ["h%d.h" % number for number in range(count)]
@@ -87,7 +91,7 @@ def headers(truth):
     return [truth.source(name) for name in names]
 
 
-def generators(truth):
+def generators(truth: Truth) -> None:
     """Recipes that write headers, some of them beside their targets."""
     for number in range(truth.rng.choice([0, 1, 1, 2])):
         target = "g%d.h" % number
@@ -98,7 +102,7 @@ def generators(truth):
         truth.add(target, reads + truth.some(truth.made(), 1), writes)
 
 
-def compilations(truth, shared):
+def compilations(truth: Truth, shared: list[str]) -> None:
     for number in range(truth.rng.randint(1, 5)):
         source = truth.source("o%d.c" % number)
         reads = [source] + truth.some(shared, 10) + truth.some(truth.made(), 2)
@@ -108,21 +112,21 @@ def compilations(truth, shared):
         recipe.inferred = truth.chance(0.15)
 
 
-def programs(truth):
+def programs(truth: Truth) -> None:
     for number in range(truth.rng.choice([0, 1, 1, 2])):
         target = "p%d" % number
         writes = [target] + (["p%d.map" % number] if truth.chance(0.2) else [])
         truth.add(target, truth.some(truth.made(), 5), writes)
 
 
-def trials(truth):
+def trials(truth: Truth) -> None:
     """Recipes that write no file of their name."""
     for number in range(truth.rng.choice([0, 0, 1, 1, 2])):
         writes = ["log%d" % number] if truth.chance(0.2) else []
         truth.add("try%d" % number, truth.some(truth.made() + truth.sources, 4), writes)
 
 
-def uncovered(truth):
+def uncovered(truth: Truth) -> None:
     """A chain of sources whose rules lead to recipes that nothing else needs: each round of a
     repair finds the next one."""
     before = truth.rng.choice(truth.recipes)
@@ -133,7 +137,7 @@ def uncovered(truth):
         before = truth.add(target, [], truth.rng.choice([[target], [target], [], [target, source]]))
 
 
-def wronged(truth):
+def wronged(truth: Truth) -> None:
     """One thing that nothing mends, or that needs more than the name of a file."""
     rng = truth.rng
     one, other = rng.choice(truth.recipes), rng.choice(truth.recipes)
@@ -165,16 +169,16 @@ def wronged(truth):
         other.reads += one.writes[:1]
 
 
-def name_of(truth, file):
+def name_of(truth: Truth, file: str) -> str:
     """What a rule names so that the file is made: the file, or the target of its recipe."""
     writer = truth.writer(file)
-    if writer in (None, file) or truth.chance(0.5):
+    if writer is None or writer == file or truth.chance(0.5):
         return writer or file
     truth.loose.append((file, [writer] if truth.chance(0.4) else []))
     return file
 
 
-def named(truth):
+def named(truth: Truth) -> None:
     """What the rules name: less than is read."""
     share = truth.rng.choice([0.0, 0.5, 0.7, 0.8, 0.9])
     for recipe in truth.recipes:
@@ -193,14 +197,14 @@ def named(truth):
 COMMANDS = ["do $@", "do $(@F) $*", "cc -c $<", "ld -o $@ $^", "ld $+", "x $(X)"]
 
 
-def command(truth):
+def command(truth: Truth) -> str:
     """A command; one that has `$^` is another one where a prerequisite is added."""
     if truth.chance(truth.wrong / 20):
         return "ar r $@ $?"
     return truth.rng.choice(COMMANDS) if truth.chance(truth.share) else "do"
 
 
-def gathering(truth, names):
+def gathering(truth: Truth, names: list[str]) -> list[str]:
     """The words of a target that gathers others, some of them behind `.WAIT`."""
     out = []
     share = truth.rng.choice([0.0, 0.0, 0.3, 1.0])
@@ -211,7 +215,7 @@ def gathering(truth, names):
     return out
 
 
-def text_of(truth, project):
+def text_of(truth: Truth, project: Project) -> None:
     """The rules of the makefile."""
     rng = truth.rng
     targets = [recipe.target for recipe in truth.recipes]
@@ -223,6 +227,7 @@ def text_of(truth, project):
     if truth.chance(0.2):
         heads.append(("sub", gathering(truth, truth.some(targets, 3))))
         heads[0][1].insert(rng.randint(0, len(heads[0][1])), "sub")
+    rules: list[tuple[str, list[str], str | None]]
     rules = [(name, words, None) for name, words in heads]
     for recipe in truth.recipes:
         words = gathering(truth, recipe.named) if truth.chance(0.2) else recipe.named
@@ -230,11 +235,11 @@ def text_of(truth, project):
     rules += [(name, words, None) for name, words in truth.loose]
     if truth.chance(0.5):
         rng.shuffle(rules)
-    for name, words, recipe in rules:
+    for name, words, text in rules:
         line = "%s: %s" % (name, " ".join(words))
         project.add(line.rstrip(" ").encode())
-        if recipe is not None:
-            project.add(b"\t" + recipe.encode())
+        if text is not None:
+            project.add(b"\t" + text.encode())
     if truth.chance(0.1):
         project.lines.insert(0, b".NOTPARALLEL:")
     tried = [name for name in targets if name.startswith("try") and truth.chance(0.4)]
@@ -251,7 +256,7 @@ def text_of(truth, project):
     project.targets = [b"all"] * 20 + [name.encode() for name in targets]
 
 
-def ended(truth, project):
+def ended(truth: Truth, project: Project) -> Project:
     """The text of the makefile, with one of the ends that makefiles have."""
     blocks = shuffled_blocks(project)
     if truth.chance(0.3):
@@ -264,7 +269,7 @@ def ended(truth, project):
     return project
 
 
-def truth_of(rng, wrong):
+def truth_of(rng: Random, wrong: float) -> Truth:
     truth = Truth(rng, wrong)
     shared = headers(truth)
     for makes in (generators, lambda one: compilations(one, shared), programs, trials):
@@ -280,7 +285,7 @@ def truth_of(rng, wrong):
     return truth
 
 
-def commands_of(project, words, truth):
+def commands_of(project: WithoutFolders, words: list[str], truth: Truth) -> dict[str, list[bytes]]:
     """The commands that the makefile gives each target, as the second program reads it; and the
     goals."""
     request = Request(list(words))
@@ -300,17 +305,17 @@ def commands_of(project, words, truth):
     told = {}
     for recipe in truth.recipes:
         node = rules.node(recipe.target.encode(), there)
-        told[recipe.target] = rules.expanded(node, there)[0]
+        told[recipe.target] = rules.expanded(node, there).texts
     return told
 
 
-def book_of(truth, project, words):
+def book_of(truth: Truth, project: WithoutFolders, words: list[str]) -> bytes:
     """The bytes of the footprints."""
     try:
         commands = commands_of(project, words, truth)
     except (Refused, Usage):
         commands = {}
-    records = [
+    records: list[RecordValue] = [
         {
             "target": recipe.target,
             "commands": [
@@ -328,7 +333,7 @@ def book_of(truth, project, words):
     return json.dumps(make(truth, records), ensure_ascii=False).encode("utf-8")
 
 
-def lacking(rng, wrong=0.2):
+def lacking(rng: Random, wrong: float = 0.2) -> tuple[Truth, Project]:
     """A build, and its makefile as a project."""
     truth = truth_of(rng, wrong)
     project = Project(rng)

@@ -1,8 +1,13 @@
 """Cases at the limits, which are too large for random ones, and each near miss once."""
 
-from cases import FOLDER, Case
+from __future__ import annotations
+
+from collections.abc import Iterator, Mapping, Sequence
+
+from cases import Asked, Case
 from corners import corners
 from documents import documents
+from makefiles import FOLDER, Contents
 from mendings import mendings
 from texts import MISSES
 
@@ -12,17 +17,19 @@ BOOK = b'{"format":1,"fixed":[],"sources":["b"],"records":[%s]}' % (
 )
 
 
-def graph(text, files=None, words=()):
+def graph(
+    text: bytes, files: Mapping[bytes, Contents] | None = None, words: Sequence[str] = ()
+) -> Asked:
     return "graph", Case({b"makefile": text, **(files or {})}, ["graph", "-c", *words])
 
 
-def simulated(plan):
+def simulated(plan: bytes) -> Asked:
     return "simulate", Case(
         {b"makefile": RULE, b"B": BOOK, b"P": plan}, ["simulate", "-b", "B", "-p", "P"]
     )
 
 
-def lines_at_limit():
+def lines_at_limit() -> Iterator[Asked]:
     for size in (65536, 65537):
         yield graph(b"a:;" + b"x" * (size - 3) + b"\n")
         yield graph(b"a:\n\t" + b"x" * size + b"\n")
@@ -33,7 +40,7 @@ def lines_at_limit():
     yield graph(b"x\n" * 65536 + b"x\0")
 
 
-def many_lines():
+def many_lines() -> Iterator[Asked]:
     for size in (65536, 65537):
         yield graph(b"a:\n" + b"#\n\n" * (size - 1))
         yield graph(b"a:\n" + b"\tx\n" * (size - 2) + b"\n \n\t\n# end")
@@ -41,7 +48,7 @@ def many_lines():
     yield "words", Case(files, ["check", "-w", "-b", "B"])
 
 
-def values_at_limit():
+def values_at_limit() -> Iterator[Asked]:
     long = b"V = " + b"x" * 65532 + b"\n"
     sums = b"W ::= " + b"$(V)" * 15 + b"\n"
     for rest in (65596, 65597):
@@ -63,14 +70,14 @@ def values_at_limit():
     )
 
 
-def many_references():
+def many_references() -> Iterator[Asked]:
     pairs = b"A0 =\n" + b"".join(b"A%d = $(A%d)$(A%d)\n" % (i, i - 1, i - 1) for i in range(1, 16))
     yield graph(pairs + b"all: $(A15)$(A0)\n")
     yield graph(pairs + b"all: $(A15)$(A0)$(A0)\n")
     yield graph(pairs + b"all:\n\t$(A15)$(A0)\n\tx$(A15)$(A0)$(A0)\n")
 
 
-def references_at_limit():
+def references_at_limit() -> Iterator[Asked]:
     for depth in (255, 256):
         chain = b"".join(b"B%d = $(B%d)\n" % (i, i + 1) for i in range(depth))
         yield graph(chain + b"B%d = x\na: $(B0)\n" % depth)
@@ -81,7 +88,7 @@ def references_at_limit():
     yield graph(b"a: " + b"$(" * 256 + b"$(" + b")" * 256 + b"\n")
 
 
-def texts_at_limit():
+def texts_at_limit() -> Iterator[Asked]:
     chain = {b"f%d" % i: b"include f%d\n" % (i + 1) for i in range(1, 16)}
     yield graph(b"include f1\n", {**chain, b"f16": b"a:;x\n"})
     yield graph(b"include f1\n", {**chain, b"f16": b"a:;x\ninclude $(\n"})
@@ -103,7 +110,7 @@ def texts_at_limit():
         yield graph(text[: size - 1] + b"\n" * (size - len(text[: size - 1])))
 
 
-def names_at_limit():
+def names_at_limit() -> Iterator[Asked]:
     for size in (4096, 4097):
         yield graph(b"a: " + b"n" * size + b"\n\tx\n")
         yield graph(b"a: " + b"\xc3\xa9" * (size // 2) + b"n" * (size % 2) + b"\n")
@@ -124,14 +131,14 @@ def names_at_limit():
         )
 
 
-def deep_names():
+def deep_names() -> Iterator[Asked]:
     deep = b"".join(b"n%d: n%d\n" % (i, i + 1) for i in range(4095))
     yield graph(deep)
     yield graph(deep + b"n4095: n4096\n")
     yield graph(deep + b"n4095: n1\n")
 
 
-def plans_at_limit():
+def plans_at_limit() -> Iterator[Asked]:
     yield simulated(b"\n" * 65535 + b"end\n")
     yield simulated(b"\n" * 65536 + b"end\n")
     yield simulated(b"\n" * 65537)
@@ -147,9 +154,9 @@ def plans_at_limit():
     yield graph(RULE, {b"B": BOOK + b" " * (16777217 - len(BOOK))}, ["-b", "B"])
 
 
-def near_misses():
+def near_misses() -> Iterator[Asked]:
     for miss in MISSES:
-        files = {b"inc0.mk": b"e: f\n", b"folder": FOLDER}
+        files: dict[bytes, Contents] = {b"inc0.mk": b"e: f\n", b"folder": FOLDER}
         yield graph(miss + b"\nz: y\n\tc\n", files)
         yield graph(b"z: y\n" + miss, files)
 
@@ -167,8 +174,9 @@ LIMITS = (
 REFUSING = (corners, *LIMITS)
 
 
-def in_words():
+def in_words() -> Iterator[Asked]:
     """The builds for other commands, and what is refused, with findings and faults in words."""
+    files: dict[bytes, Contents]
     for makes in (corners, documents, mendings):
         for command, case in makes():
             if command in ("check", "evidence", "repair"):
@@ -190,7 +198,7 @@ def in_words():
 QUICK = (corners, documents, mendings, in_words, *LIMITS, plans_at_limit)
 
 
-def limits(quick):
+def limits(quick: bool) -> Iterator[tuple[str, str, Case]]:
     """Each with a label and its command; the quick ones alone, or all."""
     for makes in QUICK if quick else QUICK + (many_lines, many_references, deep_names):
         for number, (command, case) in enumerate(makes()):

@@ -1,6 +1,10 @@
 """Macros: the table, and what a text expands to."""
 
+from __future__ import annotations
+
 import re
+from collections.abc import Sequence
+from typing import NamedTuple
 
 from lines import BLANKS, Unplaced, first_outside, reference_end, words
 
@@ -12,10 +16,20 @@ INTERNAL = re.compile(rb"[@*<^+?%][DF]?\Z")
 ONE_BYTE = re.compile(rb"[A-Za-z0-9._@*<^+?%-]\Z")
 
 
+class Macro(NamedTuple):
+    """What a name stands for; the text of a delayed one is expanded where it is used."""
+
+    delayed: bool
+    text: bytes
+
+
 class Locals:
     """What the internal macros of a command stand for; outside commands they are empty."""
 
-    def __init__(self, target=None, stem=None, prerequisites=()):
+    def __init__(
+        self, target: bytes | None = None, stem: bytes = b"", prerequisites: Sequence[bytes] = ()
+    ) -> None:
+        self.lists: dict[bytes, list[bytes]]
         self.lists = {b"@": [], b"*": [], b"<": [], b"^": [], b"+": [], b"?": []}
         if target is not None:
             self.lists[b"@"] = [target]
@@ -24,7 +38,7 @@ class Locals:
             self.lists[b"^"] = list(dict.fromkeys(prerequisites))
             self.lists[b"+"] = list(prerequisites)
 
-    def value(self, name):
+    def value(self, name: bytes) -> bytes:
         names = self.lists[name[:1]]
         if name[1:] == b"D":
             names = [folder_of(one) for one in names]
@@ -33,19 +47,19 @@ class Locals:
         return b" ".join(names)
 
 
-def folder_of(name):
+def folder_of(name: bytes) -> bytes:
     if b"/" not in name:
         return b"."
     return name.rsplit(b"/", 1)[0] or b"/"
 
 
-def measured(text):
+def measured(text: bytes) -> bytes:
     if len(text) > VALUE_LIMIT:
         raise Unplaced(15)
     return text
 
 
-def replaced(word, old, new):
+def replaced(word: bytes, old: bytes, new: bytes) -> bytes:
     """A word in which `old` at its end, or around its stem, became `new`."""
     if b"%" not in old:
         return word[: len(word) - len(old)] + new if word.endswith(old) else word
@@ -60,13 +74,13 @@ def replaced(word, old, new):
 class Expander:
     """One expansion: it counts references, and notes whether `$?` was met."""
 
-    def __init__(self, table, local):
+    def __init__(self, table: MacroTable, local: Locals) -> None:
         self.table = table
         self.local = local
         self.count = 0
         self.varying = False
 
-    def expand(self, text, level, progress):
+    def expand(self, text: bytes, level: int, progress: frozenset[bytes]) -> bytes:
         out = []
         length = 0
         at = 0
@@ -86,7 +100,9 @@ class Expander:
                 raise Unplaced(15)
         return b"".join(out)
 
-    def form(self, text, at, level, progress):
+    def form(
+        self, text: bytes, at: int, level: int, progress: frozenset[bytes]
+    ) -> tuple[bytes, int]:
         """The value of the form at this `$`, and the place behind it."""
         following = text[at + 1 : at + 2]
         if following in (b"(", b"{"):
@@ -110,7 +126,7 @@ class Expander:
         return b" ".join(replaced(word, parts[1], parts[2]) for word in words(value)), after
 
     @staticmethod
-    def parts(body):
+    def parts(body: bytes) -> list[bytes]:
         """The name alone, or name, s1 and s2."""
         colon = first_outside(body, (b":",))
         if colon is None:
@@ -120,7 +136,7 @@ class Expander:
             raise Unplaced(11)
         return [body[:colon], body[colon + 1 : equals], body[equals + 1 :]]
 
-    def value(self, name, level, progress):
+    def value(self, name: bytes, level: int, progress: frozenset[bytes]) -> bytes:
         if not NAME.match(name) and not INTERNAL.match(name):
             raise Unplaced(11)
         if name in (b"%", b"%D", b"%F"):
@@ -144,23 +160,23 @@ class Expander:
 class MacroTable:
     """Each name with whether it is delayed, and its text."""
 
-    def __init__(self):
-        self.macros = {}
-        self.fixed = set()
+    def __init__(self) -> None:
+        self.macros: dict[bytes, Macro] = {}
+        self.fixed: set[bytes] = set()
 
-    def expand(self, text, local=None):
+    def expand(self, text: bytes, local: Locals | None = None) -> tuple[bytes, bool]:
         """What a text expands to, and whether it varies from make to make."""
         expander = Expander(self, local or Locals())
         return expander.expand(text, 0, frozenset()), expander.varying
 
-    def define(self, name, operator, text):
+    def define(self, name: bytes, operator: bytes, text: bytes) -> None:
         """What an assignment of a makefile does; the name was expanded."""
         if not NAME.match(name):
             raise Unplaced(11)
         if name not in self.fixed:
             self.store(name, operator, text)
 
-    def fix(self, operand):
+    def fix(self, operand: bytes) -> None:
         """What a macro operand does: no later assignment changes its name."""
         before, text = operand.split(b"=", 1)
         operator = b"="
@@ -175,17 +191,17 @@ class MacroTable:
         self.store(name, operator, text.lstrip(BLANKS))
         self.fixed.add(name)
 
-    def store(self, name, operator, text):
+    def store(self, name: bytes, operator: bytes, text: bytes) -> None:
         defined = name in self.macros
         if operator == b"?=" and defined:
             return
         if operator == b"+=" and defined:
             delayed, old = self.macros[name]
             new = text if delayed else self.expand(text)[0]
-            self.macros[name] = (delayed, measured(old + b" " + new))
+            self.macros[name] = Macro(delayed, measured(old + b" " + new))
         elif operator == b"::=":
-            self.macros[name] = (False, measured(self.expand(text)[0]))
+            self.macros[name] = Macro(False, measured(self.expand(text)[0]))
         elif operator == b":::=":
-            self.macros[name] = (True, measured(self.expand(text)[0].replace(b"$", b"$$")))
+            self.macros[name] = Macro(True, measured(self.expand(text)[0].replace(b"$", b"$$")))
         else:
-            self.macros[name] = (True, measured(text))
+            self.macros[name] = Macro(True, measured(text))

@@ -1,5 +1,11 @@
 """Random makefiles: rules with what stands around them, and near misses."""
 
+from __future__ import annotations
+
+import enum
+from random import Random
+from typing import Literal
+
 from texts import expression, macro_line, near_miss, torn
 
 PLAIN = [b"a", b"b", b"c", b"d", b"e", b"f", b"g", b"h"]
@@ -48,28 +54,55 @@ COMMANDS = [
 ]
 
 
+class Folder(enum.Enum):
+    """What stands for a folder, where files have bytes."""
+
+    FOLDER = "folder"
+
+
+FOLDER = Folder.FOLDER
+Contents = bytes | Folder
+# A line, with the command lines, comments and empty lines behind it.
+Block = list[bytes]
+
+
 class Project:
     """A makefile in pieces, and the files that it includes."""
 
-    def __init__(self, rng):
+    def __init__(self, rng: Random) -> None:
         self.rng = rng
-        self.lines = []
-        self.files = {}
-        self.targets = []
-        self.names = []
+        self.lines: list[bytes] = []
+        self.files: dict[bytes, Contents] = {}
+        self.targets: list[bytes] = []
+        self.names: list[bytes] = []
         self.macros = 0
-        self.made = set()
+        self.made: set[bytes] = set()
         self.crossing = False
         self.inferring = False
 
-    def chance(self, share):
+    def chance(self, share: float) -> bool:
         return self.rng.random() < share
 
-    def add(self, line):
+    def add(self, line: bytes) -> None:
         self.lines.append(line)
 
 
-def spread(project, names, macros=True):
+def readable(files: dict[bytes, Contents]) -> dict[bytes, bytes | Literal["failed"]]:
+    """The files, of which folders can't be read."""
+    return {name: "failed" if data is FOLDER else data for name, data in files.items()}
+
+
+class WithoutFolders:
+    """A project as the reading sees it."""
+
+    def __init__(self, project: Project) -> None:
+        self.files = readable(project.files)
+        self.names = project.names
+        self.crossing = project.crossing
+        self.inferring = project.inferring
+
+
+def spread(project: Project, names: list[bytes], macros: bool = True) -> bytes:
     """A text that expands to these words, by a macro that is defined before, or as it stands."""
     rng = project.rng
     text = b" ".join(names)
@@ -92,7 +125,7 @@ def spread(project, names, macros=True):
     return b"$(" + name + b")"
 
 
-def prerequisites(project, later):
+def prerequisites(project: Project, later: list[bytes]) -> list[bytes]:
     """Some words for a rule line."""
     rng = project.rng
     chosen = [rng.choice(later) for _ in range(rng.choice([0, 1, 1, 2, 2, 3, 4]))] if later else []
@@ -106,7 +139,7 @@ def prerequisites(project, later):
     return out
 
 
-def commands(project, line, targets, share=0.8):
+def commands(project: Project, line: bytes, targets: list[bytes], share: float = 0.8) -> None:
     """A rule line with its commands behind it."""
     rng = project.rng
     again = any(target in project.made for target in targets)
@@ -129,7 +162,7 @@ def commands(project, line, targets, share=0.8):
         project.add(b"\t" + command)
 
 
-def rules(project):
+def rules(project: Project) -> None:
     """Rule lines over an ordered list of names, so that most have no cycle."""
     rng = project.rng
     pool = list(rng.choice([PLAIN, OBJECTS, MIXED, OBJECTS + LEAVES[:4], PLAIN + OBJECTS[:3]]))
@@ -147,7 +180,7 @@ def rules(project):
         rule_of(project, target, later)
 
 
-def rule_of(project, target, later):
+def rule_of(project: Project, target: bytes, later: list[bytes]) -> None:
     rng = project.rng
     project.targets.append(target)
     targets = [target]
@@ -166,7 +199,7 @@ def rule_of(project, target, later):
         project.add(target + b": " + more)
 
 
-def special_lines(project):
+def special_lines(project: Project) -> None:
     rng = project.rng
     names = project.names or PLAIN
     if project.chance(0.35):
@@ -195,7 +228,7 @@ def special_lines(project):
         project.add(b".SUFFIXES: " + spread(project, chosen))
 
 
-def inference_rules(project):
+def inference_rules(project: Project) -> None:
     rng = project.rng
     for _ in range(rng.choice([0, 0, 0, 1, 1, 2, 3])):
         first, second = rng.choice(SUFFIXES), rng.choice(SUFFIXES + [b"", b""])
@@ -205,16 +238,16 @@ def inference_rules(project):
         project.add(b".SUFFIXES: " + b" ".join(rng.sample(SUFFIXES, rng.randint(1, 3))))
 
 
-def macros(project):
+def macros(project: Project) -> None:
     rng = project.rng
     for name in rng.sample([b"X", b"Y", b"Z", b"OUT", b"CC", b"CFLAGS"], rng.randint(0, 4)):
         text = rng.choice([b"x", b"-O2 -g", b"$(W)", b"a.c b.c", b"$$v", b"$(@F)", b"", b" t "])
         project.add(macro_line(rng, name, None, text))
 
 
-def shuffled_blocks(project):
+def shuffled_blocks(project: Project) -> list[Block]:
     """The lines in another order, each with the command lines behind it."""
-    blocks = []
+    blocks: list[Block] = []
     for line in project.lines:
         if line[:1] in (b"\t", b"#", b"", b" ") and blocks:
             blocks[-1].append(line)
@@ -223,7 +256,7 @@ def shuffled_blocks(project):
     return blocks
 
 
-def included(project, blocks):
+def included(project: Project, blocks: list[Block]) -> None:
     """Some neighbouring blocks move to a file that is included in their place."""
     rng = project.rng
     for number in range(rng.choice([0, 0, 0, 1, 1, 2])):
@@ -253,7 +286,7 @@ def included(project, blocks):
         blocks.insert(rng.randint(0, len(blocks)), missing)
 
 
-def written(project, blocks):
+def written(project: Project, blocks: list[Block]) -> bytes:
     """The text of the blocks, with comments and joined lines."""
     rng = project.rng
     out = []
@@ -274,7 +307,7 @@ def written(project, blocks):
     return text[:-1] if project.chance(0.03) else text
 
 
-def structural(rng, valid):
+def structural(rng: Random, valid: bool) -> Project:
     """A makefile of rules; most are without fault, and all of them where `valid`."""
     project = Project(rng)
     macros(project)
@@ -298,10 +331,12 @@ def structural(rng, valid):
     return project
 
 
-def mutated(rng, project):
+def mutated(rng: Random, project: Project) -> Project:
     """A byte or some of one text changed, left out, doubled or put in."""
     name = rng.choice(sorted(project.files))
-    text = bytearray(project.files[name])
+    data = project.files[name]
+    assert isinstance(data, bytes)
+    text = bytearray(data)
     for _ in range(rng.choice([1, 1, 2, 4])):
         place = rng.randint(0, len(text))
         kind = rng.randrange(4)

@@ -1,8 +1,14 @@
 """Small builds for `repair`, each for one sentence of its rule that random ones seldom meet."""
 
-import json
+from __future__ import annotations
 
-from cases import Case
+import json
+from collections.abc import Iterator, Mapping, Sequence
+
+from cases import Asked, Case
+
+# The target, commands, reads and writes of a record.
+RecordRow = tuple[str, list[str], list[str], list[str]]
 
 LACKING = b"p: a.o\n\tld\na.o: a.c\n\tcc\n"
 LINKED = ("p", ["ld"], ["a.o"], ["p"])
@@ -11,7 +17,14 @@ ENDS = [b"", b"\n", b"#", b"# \\", b"# \\\n", b"\\", b"\\\n", b"\\\\", b"V = \\"
 ENDS += [b"q:", b"q: \\", b"q: ;", b"q:; x \\", b"q:\n\tx \\\n", b"include e \\", b" ", b"\\\n\\"]
 
 
-def mended(text, sources, *records, words=(), files=None, **more):
+def mended(
+    text: bytes,
+    sources: str,
+    *records: RecordRow,
+    words: Sequence[str] = (),
+    files: Mapping[bytes, bytes] | None = None,
+    **more: object,
+) -> Asked:
     """A case, by the makefile, the sources, and the target, commands, reads and writes of each
     record."""
     keys = ("target", "commands", "reads", "writes")
@@ -26,7 +39,7 @@ def mended(text, sources, *records, words=(), files=None, **more):
     return "repair", Case({**given, **(files or {})}, ["repair", "-b", "B", *words])
 
 
-def rounds():
+def rounds() -> Iterator[Asked]:
     """Each round finds one read more, as the source of the round before leads to a recipe."""
     for count in (2, 63, 64):
         numbers = range(1, count + 1)
@@ -37,7 +50,7 @@ def rounds():
         yield mended(b"r0:\n\tdo\n" + text, sources, *records)
 
 
-def sizes():
+def sizes() -> Iterator[Asked]:
     """Targets, prerequisites and phony names of 1,999 to 2,001 bytes together, and longer ones."""
     for lengths in ((1998,), (999, 999), (999, 1000), (999, 1001), (2000, 1), (2001, 1), (1, 2001)):
         names = ["%s%d" % ("n" * (size - 1), place) for place, size in enumerate(lengths)]
@@ -51,13 +64,13 @@ def sizes():
             yield mended("\n".join(lines + [""]).encode(), sources, *records)
 
 
-def ends():
+def ends() -> Iterator[Asked]:
     for end in ENDS:
         for text in (LACKING + end, LACKING + b"V = v" + end):
             yield mended(text, "a.c h.h", LINKED, HEADED)
 
 
-def read_twice():
+def read_twice() -> Iterator[Asked]:
     """A makefile that includes itself once, so that what is appended is read twice."""
     text = (
         b"L ::= $(L)x\nFx = makefile\nFxx = none\n-include $(F$(L))\n"
@@ -69,7 +82,7 @@ def read_twice():
         yield mended(text, "a.c h.h", LINKED, record, files={b"rules.mk": rules})
 
 
-def named():
+def named() -> Iterator[Asked]:
     """Names that no makefile holds, and names that it reads in a way of their own."""
     odd = 'h:h h%h h(h h=h h#h h\\h h"h h;h h*h é.h .WAIT .PHONY .SUFFIXES .c.o .c - .. ../h /h'
     for name in odd.split() + ["h$h", "h'h", "h&h", "~h"]:
@@ -83,7 +96,7 @@ def named():
 
 
 PHONY = b".PHONY: q\n"
-TRIED = ("t", ["try"], [], [])
+TRIED: RecordRow = ("t", ["try"], [], [])
 # A target that isn't made, and what needs it.
 NEEDING = [
     b"t: a.c\n\ttry\n",
@@ -97,9 +110,9 @@ NEEDING = [
 ]
 
 
-def needing():
+def needing() -> Iterator[Asked]:
     for text in NEEDING:
-        records = [(name, ["do"], [], [name]) for name in ("all", "r")]
+        records: list[RecordRow] = [(name, ["do"], [], [name]) for name in ("all", "r")]
         yield mended(text, "a.c", TRIED, ("t.y", ["try"], [], []), ("q", ["do"], [], []), *records)
 
 
@@ -120,10 +133,19 @@ BROUGHT = [
 ]
 
 
-def brought():
+# Records besides those of the program and its object.
+BESIDE: list[list[RecordRow]] = [
+    [],
+    [("g", ["mk"], [], ["g", "side"])],
+    [("g", ["mk"], ["k.h"], [])],
+]
+
+
+def brought() -> Iterator[Asked]:
     for text in BROUGHT:
-        for more in ([], [("g", ["mk"], [], ["g", "side"])], [("g", ["mk"], ["k.h"], [])]):
-            for words in ([], ["a.o"], ["all"] if b"all:" in text else ["a.o", "p"]):
+        goals: list[list[str]] = [[], ["a.o"], ["all"] if b"all:" in text else ["a.o", "p"]]
+        for more in BESIDE:
+            for words in goals:
                 yield mended(LACKING + text, "a.c h.h k.h", LINKED, HEADED, *more, words=words)
 
 
@@ -140,16 +162,17 @@ CYCLES = [
 ]
 
 
-def cycles():
+def cycles() -> Iterator[Asked]:
     for text, reads in CYCLES:
         records = [
             (name, ["x"], read.split(), [name] + (["s"] if name == "a" else []))
             for name, read in reads.items()
         ]
-        for words in ([], ["a"], ["b", "a"], ["c", "all"]):
+        goals: list[list[str]] = [[], ["a"], ["b", "a"], ["c", "all"]]
+        for words in goals:
             yield mended(text.encode(), "", *records, words=words)
 
 
-def mendings():
+def mendings() -> Iterator[Asked]:
     for makes in (rounds, sizes, ends, read_twice, named, needing, brought, cycles):
         yield from makes()

@@ -1,7 +1,13 @@
 """Random plans: walks of the second program's own world, and lines that go wrong."""
 
+from __future__ import annotations
+
+from random import Random
+
+from book import Book
+from graph import Graph
 from lines import Refused
-from world import Fault, World, read_plan, take
+from world import Fault, PlanLine, World, read_plan, take
 
 WRONG = [
     b"make",
@@ -44,7 +50,7 @@ WRONG = [
 ]
 
 
-def copied(world):
+def copied(world: World) -> World:
     """A world that takes steps without the first one's taking them."""
     twin = World.__new__(World)
     twin.__dict__.update(world.__dict__)
@@ -59,53 +65,56 @@ def copied(world):
     return twin
 
 
-def line_of(rng, world):
+def line_of(rng: Random, world: World) -> PlanLine:
     """The words of a line that may be allowed now."""
     if not world.making:
         editable = sorted(name for name in world.names if world.there.is_editable(name))
         if editable and rng.random() < 0.4:
-            line = [b"edit", rng.choice(editable)]
-            return line + ([rng.choice([1, 2, 7, 2**64 - 1])] if rng.random() < 0.3 else [])
+            file = rng.choice(editable)
+            content = rng.choice([1, 2, 7, 2**64 - 1]) if rng.random() < 0.3 else None
+            return PlanLine(b"edit", [file], content)
         goals = list(world.graph.goals)
         chosen = rng.sample(goals, rng.randint(1, len(goals))) if rng.random() < 0.3 else []
-        return [b"make", rng.choice([1, 1, 2, 2, 3, 4096])] + chosen
+        return PlanLine(b"make", chosen, rng.choice([1, 1, 2, 2, 3, 4096]))
     world = copied(world)
     world.pass_without_recipe()
     goals_done = all(goal in world.done for goal in world.goals)
     if not world.running and (goals_done or rng.random() < 0.03):
-        return [b"end"] if goals_done and rng.random() < 0.95 else [b"stop"]
+        ending = goals_done and rng.random() < 0.95
+        return PlanLine(b"end" if ending else b"stop", [])
     ready = [name for name in world.ready() if world.graph.nodes[name].recipe]
     if ready and (not world.running or len(world.running) < world.jobs and rng.random() < 0.5):
         return begin_line(rng, world, rng.choice(ready))
     if not world.running:
-        return [b"end"]
+        return PlanLine(b"end", [])
     return running_line(rng, world, rng.choice(sorted(world.running)))
 
 
-def begin_line(rng, world, name):
+def begin_line(rng: Random, world: World, name: bytes) -> PlanLine:
     if not world.must_run(name) and rng.random() < 0.75:
-        return [b"pass", name]
-    return [rng.choice([b"run", b"run", b"begin"]), name]
+        return PlanLine(b"pass", [name])
+    return PlanLine(rng.choice([b"run", b"run", b"begin"]), [name])
 
 
-def running_line(rng, world, name):
+def running_line(rng: Random, world: World, name: bytes) -> PlanLine:
     run = world.running[name]
     unseen = [file for file in world.reads[name] if file not in run.seen]
     unput = [file for file in world.writes[name] if file not in run.put]
     draw = rng.random()
     if not unseen and not unput and draw < 0.9:
-        return [b"done", name]
+        return PlanLine(b"done", [name])
     if draw < 0.15:
-        return [b"finish", name]
+        return PlanLine(b"finish", [name])
     if unseen and (not unput or draw < 0.6):
-        return [b"look", name, rng.choice(unseen)]
+        return PlanLine(b"look", [name, rng.choice(unseen)])
     if unput:
-        line = [b"put", name, rng.choice(unput)]
-        return line + ([rng.choice([1, 2, 7])] if rng.random() < 0.25 else [])
-    return [b"finish", name]
+        file = rng.choice(unput)
+        content = rng.choice([1, 2, 7]) if rng.random() < 0.25 else None
+        return PlanLine(b"put", [name, file], content)
+    return PlanLine(b"finish", [name])
 
 
-def tempting(rng, world):
+def tempting(rng: Random, world: World) -> bytes:
     """A line that is nearly allowed: a pass of what must run, one job too many, an early end."""
     twin = copied(world)
     twin.pass_without_recipe()
@@ -117,7 +126,7 @@ def tempting(rng, world):
     return rng.choice(lines or [b"end"])
 
 
-def wrong_line(rng, world):
+def wrong_line(rng: Random, world: World) -> bytes:
     """A line that is often refused."""
     if rng.random() < 0.25:
         return rng.choice(WRONG)
@@ -161,18 +170,18 @@ def wrong_line(rng, world):
     return b" ".join(line)
 
 
-def spelled(rng, line):
-    text = b" ".join(b"%d" % word if isinstance(word, int) else word for word in line)
+def spelled(rng: Random, line: PlanLine) -> bytes:
+    text = line.text()
     if rng.random() < 0.03:
         text = text.replace(b" ", rng.choice([b"  ", b"\t", b" \t "]))
     if rng.random() < 0.02:
         text = rng.choice([b" ", b"\t"]) + text + rng.choice([b"", b" "])
-    if rng.random() < 0.02 and line[0] == b"make":
+    if rng.random() < 0.02 and line.word == b"make":
         text = text.replace(b"make ", b"make 00")
     return text
 
 
-def refused(world, text):
+def refused(world: World, text: bytes) -> bool:
     """Whether a line is refused; where it isn't, the world takes its steps."""
     try:
         for _number, line in read_plan(text):
@@ -182,10 +191,10 @@ def refused(world, text):
     return False
 
 
-def plan_of(rng, graph, book):
+def plan_of(rng: Random, graph: Graph, book: Book) -> bytes:
     """The bytes of a plan."""
     world = World(graph, book)
-    out = []
+    out: list[bytes] = []
     wrong = rng.random() < 0.5
     for _ in range(rng.choice([2, 5, 10, 20, 30])):
         if rng.random() < 0.06:
@@ -197,15 +206,11 @@ def plan_of(rng, graph, book):
             continue
         line = line_of(rng, world)
         twin = copied(world)
-        written = list(line)
-        if line[0] in (b"put", b"edit"):
-            most = 3 if line[0] == b"put" else 2
-            line = line + [None] * (most + 1 - len(line))
         try:
             take(twin, line)
         except Fault:
             continue
-        out.append(spelled(rng, written))
+        out.append(spelled(rng, line))
         world = twin
     text = b"\n".join(out)
     return text + rng.choice([b"\n", b"\n", b"\n", b"", b"\n\n"])

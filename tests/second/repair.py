@@ -1,8 +1,14 @@
 """`repair`: the lines that mend a makefile, or its findings and why nothing known mends it."""
 
-from judge import Subject
+from __future__ import annotations
+
+from typing import NamedTuple
+
+from graph import Node
+from judge import Finding, Subject
 from lines import Refused, is_make_name
-from request import FILE_LIMIT, prepared
+from reading import Files, Found
+from request import FILE_LIMIT, Request, prepared
 
 JUDGEMENTS = 64
 SIDE_LIMIT = 2000
@@ -11,37 +17,47 @@ SIDE_LIMIT = 2000
 class Appended:
     """Files, of which one has a text appended."""
 
-    def __init__(self, files, name, text):
+    def __init__(self, files: Files, name: bytes, text: bytes) -> None:
         self.files = files
         self.name = name
         self.text = text
 
-    def read(self, name):
+    def read(self, name: bytes) -> Found:
         found = self.files.read(name)
-        return found + self.text if name == self.name else found
+        if name != self.name:
+            return found
+        assert isinstance(found, bytes)
+        return found + self.text
 
 
-def judged(request, files):
+def judged(request: Request, files: Files) -> tuple[Subject, bytes]:
     """What `check` judges, and the name of its makefile."""
     graph, book, passed_over = prepared(request, files)
     return Subject(graph, book, passed_over), graph.rules.makefile.texts[0]
 
 
-def printed(findings):
+def printed(findings: list[Finding]) -> bytes:
     return b"".join(b" ".join([b"no"] + words) + b"\n" for words in findings)
 
 
-# Words: (target, prerequisite), or (target, None) for a target that is phony.
+# Words.
 
 
-def maker(subject, file):
+class Word(NamedTuple):
+    """A target and a prerequisite that it needs, or None in its place where it is phony."""
+
+    target: bytes
+    prerequisite: bytes | None
+
+
+def maker(subject: Subject, file: bytes) -> bytes:
     """What a recipe needs that reads a file."""
     if file in subject.there.sources or file in subject.graph.nodes:
         return file
     return subject.writers[file][0]
 
 
-def is_needed(subject, target):
+def is_needed(subject: Subject, target: bytes) -> bool:
     """Whether a recipe that isn't phony has the target as a direct prerequisite."""
     return any(
         node.recipe and not node.phony and target in node.prerequisites
@@ -49,40 +65,40 @@ def is_needed(subject, target):
     )
 
 
-def is_inferred(subject, target):
+def is_inferred(subject: Subject, target: bytes) -> bool:
     """Whether the commands of a target are those of an inference rule, which a phony target hasn't."""
     return subject.rules.own_commands(target) is None
 
 
-def word_of(subject, finding):
+def word_of(subject: Subject, finding: Finding) -> Word | None:
     """The word of a finding, or None."""
     kind, first = finding[:2]
+    word = None
     if kind == b"target":
         stays = is_needed(subject, first) or is_inferred(subject, first)
-        word = None if stays else (first, None)
+        word = None if stays else Word(first, None)
     elif kind == b"loose":
-        word = first, finding[2]
+        word = Word(first, finding[2])
     elif kind in (b"race", b"stale"):
-        word = first, maker(subject, finding[-1])
-    else:
-        word = None
+        word = Word(first, maker(subject, finding[-1]))
     if word is None or not all(name is None or is_make_name(name) for name in word):
         return None
     return word
 
 
-def words_of(subject, findings):
+def words_of(subject: Subject, findings: list[Finding]) -> list[Word] | None:
     """The words of all findings, each once, or None where one gives none."""
-    words = [word_of(subject, finding) for finding in findings]
-    return None if None in words else list(dict.fromkeys(words))
+    found = [word_of(subject, finding) for finding in findings]
+    words = [word for word in found if word is not None]
+    return list(dict.fromkeys(words)) if len(words) == len(found) else None
 
 
 # Lines.
 
 
-def cut(names):
+def cut(names: list[bytes]) -> list[list[bytes]]:
     """The names in rows that are short enough, each as long as it may be."""
-    rows = []
+    rows: list[list[bytes]] = []
     for name in names:
         if rows and len(b" ".join(rows[-1] + [name])) <= SIDE_LIMIT:
             rows[-1].append(name)
@@ -91,7 +107,7 @@ def cut(names):
     return rows
 
 
-def lines_between(targets, prerequisites):
+def lines_between(targets: list[bytes], prerequisites: list[bytes]) -> list[bytes]:
     return [
         b" ".join(left) + b": " + b" ".join(right) + b"\n"
         for left in cut(targets)
@@ -99,26 +115,26 @@ def lines_between(targets, prerequisites):
     ]
 
 
-def lines_of(words):
+def lines_of(words: list[Word]) -> list[bytes]:
     """The lines that say the words."""
     phony = [target for target, prerequisite in words if prerequisite is None]
-    lacking = {}
+    lacking: dict[bytes, list[bytes]] = {}
     for target, prerequisite in words:
         if prerequisite is not None:
             lacking.setdefault(target, []).append(prerequisite)
-    alike = {}
+    alike: dict[tuple[bytes, ...], list[bytes]] = {}
     for target, prerequisites in lacking.items():
         alike.setdefault(tuple(prerequisites), []).append(target)
     lines = lines_between([b".PHONY"], phony)
-    for prerequisites, targets in alike.items():
-        lines += lines_between(targets, prerequisites)
+    for needed, targets in alike.items():
+        lines += lines_between(targets, list(needed))
     return lines
 
 
 # What nodes need.
 
 
-def needs(subject, node):
+def needs(subject: Subject, node: Node) -> list[bytes]:
     """What has to be done before a node: its prerequisites, the writers of what its recipe reads,
     and, where it has no recipe, its own writers."""
     needed = list(node.prerequisites)
@@ -129,10 +145,10 @@ def needs(subject, node):
     return needed
 
 
-def first_cycle(subject):
+def first_cycle(subject: Subject) -> list[bytes] | None:
     """The names of the first cycle that a walk from the goals closes, the first one repeated; or
     None."""
-    done = set()
+    done: set[bytes] = set()
     for goal in subject.graph.goals:
         path = [] if goal in done else [goal]
         rest = [iter(needs(subject, subject.node(goal)))] if path else []
@@ -152,7 +168,7 @@ def first_cycle(subject):
 # Rounds.
 
 
-def repaired(request, files):
+def repaired(request: Request, files: Files) -> tuple[bytes, int]:
     """What is printed, and the status."""
     subject, name = judged(request, files)
     findings = subject.findings()
@@ -170,11 +186,16 @@ def repaired(request, files):
     return printed(findings) + b"".join(b"tried " + line for line in lines) + reason, 1
 
 
-def mended(request, files, name, words):
+def mended(
+    request: Request, files: Files, name: bytes, words: list[Word]
+) -> tuple[list[bytes], bytes | None]:
     """The lines that mend the makefile, and None; or those that were tried last, and what `check`
     says with them."""
-    size = len(files.read(name))
-    tried, said = [], b""
+    found = files.read(name)
+    assert isinstance(found, bytes)
+    size = len(found)
+    tried: list[bytes] = []
+    said = b""
     for _ in range(JUDGEMENTS - 1):
         lines = lines_of(words)
         text = b"\n" + b"".join(lines)

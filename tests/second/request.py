@@ -1,25 +1,29 @@
 """The command line, told apart, and what a request prepares: the graph and its footprints."""
 
+from __future__ import annotations
+
 import os
 import re
 
 from book import Book, read_book
 from graph import Graph, Rules, There, goal_names
 from lines import Refused, number_of
-from reading import read_makefile
+from reading import Files, Found, read_makefile
 
 FILE_LIMIT = 16777216
 FINDING_LIMIT = 2**64 - 1
 FINDING = re.compile(rb"\+?[0-9]+\Z")
+# Standard output and status of a program; None where it gave no answer.
+Answer = tuple[bytes, int | None]
 
 
 class Disk:
     """The files of a folder."""
 
-    def __init__(self, folder="."):
+    def __init__(self, folder: str = ".") -> None:
         self.folder = os.fsencode(folder)
 
-    def read(self, name):
+    def read(self, name: bytes) -> Found:
         """The bytes of a file, None where it isn't there, or "failed"."""
         if not name:
             return None
@@ -44,27 +48,26 @@ class Request:
     FLAGS = {"graph": "rc", "check": "rcw", "repair": "r", "verify": "r", "simulate": "r"}
     NEEDED = {"graph": "", "check": "b", "repair": "b", "verify": "bk", "simulate": "bp"}
 
-    def __init__(self, arguments):
+    def __init__(self, arguments: list[str]) -> None:
         if not arguments or arguments[0] not in self.VALUES:
             raise Usage
         self.command = arguments[0]
-        self.values = {}
-        self.flags = set()
-        self.words = []
+        self.values: dict[str, bytes] = {}
+        self.flags: set[str] = set()
+        self.words: list[bytes] = []
         self.tell(arguments[1:])
         if any(letter not in self.values for letter in self.NEEDED[self.command]):
             raise Usage
         number = self.values.get("e", b"1")
-        self.finding = (
-            number_of(number.lstrip(b"+"), FINDING_LIMIT) if FINDING.match(number) else None
-        )
-        if not self.finding:
+        finding = number_of(number.lstrip(b"+"), FINDING_LIMIT) if FINDING.match(number) else None
+        if not finding:
             raise Usage
+        self.finding = finding
         self.in_words = "w" in self.flags and "e" not in self.values
         self.operands = [word for word in self.words if b"=" in word]
         self.goals = [word for word in self.words if b"=" not in word]
 
-    def tell(self, rest):
+    def tell(self, rest: list[str]) -> None:
         while rest:
             word = rest.pop(0)
             if word == "--":
@@ -82,14 +85,14 @@ class Request:
                 self.values[word[1:]] = os.fsencode(rest.pop(0))
             else:
                 raise Usage
-        for word in self.words + list(self.values.values()):
+        for given in self.words + list(self.values.values()):
             try:
-                word.decode("utf-8")
+                given.decode("utf-8")
             except UnicodeDecodeError:
                 raise Usage
 
 
-def file_of(files, name):
+def file_of(files: Files, name: bytes) -> bytes:
     """A file besides makefiles: 38 where it isn't there, 35 where it can't be read."""
     found = files.read(name)
     if found is None:
@@ -99,7 +102,7 @@ def file_of(files, name):
     return found
 
 
-def prepared(request, files):
+def prepared(request: Request, files: Files) -> tuple[Graph, Book, set[bytes]]:
     """The graph, its book, and the names that the reading passed over."""
     makefile = read_makefile(
         files, request.values.get("f"), "r" not in request.flags, request.operands

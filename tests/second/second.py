@@ -1,11 +1,15 @@
 #!/usr/bin/env python3
 """A second reading of mkcheck's rules: it answers what mkcheck answers."""
 
+from __future__ import annotations
+
 import sys
+from collections.abc import Sequence
 
 from evidence import plan_of_finding
 from judge import Subject
 from lines import Refused
+from reading import Files
 from repair import printed, repaired
 from request import Disk, Request, Usage, file_of, prepared
 from sentences import in_sentences, in_words, line_of
@@ -14,7 +18,7 @@ from world import World, read_plan, run_plan
 sys.setrecursionlimit(20000)
 
 
-def answer(request, files):
+def answer(request: Request, files: Files) -> tuple[bytes, int]:
     """What is printed, and the status."""
     if request.command == "repair":
         return repaired(request, files)
@@ -33,7 +37,7 @@ def answer(request, files):
     return verdict(subject, request)
 
 
-def verdict(subject, request):
+def verdict(subject: Subject, request: Request) -> tuple[bytes, int]:
     found = subject.findings()
     if found:
         return in_sentences(subject, found) if request.in_words else printed(found), 1
@@ -45,7 +49,7 @@ def verdict(subject, request):
     return b"".join(line + b"\n" for line in lines), 0
 
 
-def answered(arguments, files):
+def answered(arguments: Sequence[str], files: Files) -> tuple[bytes, int]:
     """Standard output and status; of a fault of the command line nothing and 2."""
     try:
         request = Request(list(arguments))

@@ -1,8 +1,14 @@
 """`check -w`: findings in sentences, group by group, and faults in words."""
 
+from __future__ import annotations
+
 import re
 from pathlib import Path
+from typing import NamedTuple, TypeVar
 
+from judge import Finding, Subject
+from lines import Refused
+from reading import Files, Makefile
 from repair import cut, lines_between, word_of
 
 PAGE = Path(__file__).resolve().parents[2] / "docs" / "REFERENCE.md"
@@ -17,6 +23,18 @@ THEN = b"once these are mended, as far as can be seen now:\n"
 MORE = b"once these are mended, check again: races and stale reads may show\n"
 
 
+# A text, or two that belong together.
+Text = TypeVar("Text", bytes, tuple[bytes, bytes])
+
+
+class Alike(NamedTuple):
+    """What the findings of a group have in common, but for their files."""
+
+    kind: bytes
+    has_lines: bool
+    beside: tuple[bytes, bytes]
+
+
 class Group:
     """Findings of one kind that differ in their names alone, each of which has the same files.
 
@@ -24,18 +42,25 @@ class Group:
     is made and from what, or the recipe that writes the files where that is what the names lack.
     """
 
-    def __init__(self, kind, has_lines, beside, files, names):
+    def __init__(
+        self,
+        kind: bytes,
+        has_lines: bool,
+        beside: tuple[bytes, bytes],
+        files: list[bytes],
+        names: list[bytes],
+    ) -> None:
         self.kind = kind
         self.has_lines = has_lines
         self.first, self.second = beside
         self.files = files
         self.names = names
 
-    def one(self, singular, plural):
+    def one(self, singular: Text, plural: Text) -> Text:
         """The word for one name or for several."""
         return singular if len(self.names) == 1 else plural
 
-    def each(self, singular, plural):
+    def each(self, singular: Text, plural: Text) -> Text:
         """The word for one file or for several."""
         return singular if len(self.files) == 1 else plural
 
@@ -43,55 +68,56 @@ class Group:
 # Findings in groups.
 
 
-def told_of(subject, finding):
+def told_of(subject: Subject, finding: Finding) -> tuple[Alike, bytes, bytes]:
     """What a finding has in common with others, the name that it is about, and the file."""
     kind, name = finding[:2]
     if kind == b"writers":
-        return (kind, False, (name, finding[2])), finding[3], b""
+        return Alike(kind, False, (name, finding[2])), finding[3], b""
     if kind == b"selection":
-        return (kind, False, (name, finding[2])), name, finding[2]
+        return Alike(kind, False, (name, finding[2])), name, finding[2]
     file = finding[-1] if len(finding) > 2 else b""
     word = word_of(subject, finding)
+    needed = None if word is None else word.prerequisite
     writer = b""
-    if kind in (b"race", b"stale") and word is not None and word[1] != file:
-        writer = word[1]
-    return (kind, word is not None, (writer, b"")), name, file
+    if kind in (b"race", b"stale") and needed is not None and needed != file:
+        writer = needed
+    return Alike(kind, word is not None, (writer, b"")), name, file
 
 
-def grouped(subject, findings):
+def grouped(subject: Subject, findings: list[Finding]) -> list[Group]:
     """The groups, in the order of their first findings."""
-    files = {}
+    files: dict[tuple[Alike, bytes], list[bytes]] = {}
     for finding in findings:
         alike, name, file = told_of(subject, finding)
         files.setdefault((alike, name), []).append(file)
-    names = {}
+    names: dict[tuple[Alike, tuple[bytes, ...]], list[bytes]] = {}
     for (alike, name), own in files.items():
         names.setdefault((alike, tuple(own)), []).append(name)
-    return [Group(*alike, list(own), own_names) for (alike, own), own_names in names.items()]
+    return [Group(*alike, list(same), own_names) for (alike, same), own_names in names.items()]
 
 
 # What is printed of a group.
 
 
-def shown(names):
+def shown(names: list[bytes]) -> bytes:
     """One name, two, or two and how many more there are."""
     if len(names) <= 2:
         return b" and ".join(names)
     return b"%s, %s and %d more" % (names[0], names[1], len(names) - 2)
 
 
-def sentence(group):
+def sentence(group: Group) -> bytes:
     """What is wrong, and what follows from it."""
     return SENTENCES[group.kind](group, shown(group.names), shown(group.files))
 
 
-def of_record(group, names, _files):
+def of_record(group: Group, names: bytes, _files: bytes) -> bytes:
     its = group.one(b"its recipe reads and writes", b"their recipes read and write")
     has = group.one(b"has", b"have")
     return b"%s %s no record, so nothing is known of what %s" % (names, has, its)
 
 
-def of_commands(group, names, _files):
+def of_commands(group: Group, names: bytes, _files: bytes) -> bytes:
     has = group.one((b"was", b"it has"), (b"were", b"they have"))
     return (
         b"%s %s recorded with other commands than %s with these goals and macros, which may read "
@@ -99,7 +125,7 @@ def of_commands(group, names, _files):
     )
 
 
-def of_varying(group, names, _files):
+def of_varying(group: Group, names: bytes, _files: bytes) -> bytes:
     holds = group.one(b"it holds", b"they hold")
     return b"the commands of %s use $?, so what %s may depend on what was out of date" % (
         names,
@@ -107,7 +133,7 @@ def of_varying(group, names, _files):
     )
 
 
-def of_target(group, names, _files):
+def of_target(group: Group, names: bytes, _files: bytes) -> bytes:
     if len(group.names) == 1:
         return (
             b"%s isn't phony, but its recipe doesn't write it: as long as there is no such file, "
@@ -119,21 +145,21 @@ def of_target(group, names, _files):
     )
 
 
-def of_writers(group, names, _files):
+def of_writers(group: Group, names: bytes, _files: bytes) -> bytes:
     return (
         b"the recipes of %s and %s both write %s: what is left depends on which of them ran last"
         % (group.first, group.second, names)
     )
 
 
-def recipes(group, names, singular, plural):
+def recipes(group: Group, names: bytes, singular: bytes, plural: bytes) -> bytes:
     """Recipes, and what they do."""
     if len(group.names) == 1:
         return b"the recipe of %s %s" % (names, singular)
     return b"the recipes of %s %s" % (names, plural)
 
 
-def of_given(group, names, files):
+def of_given(group: Group, names: bytes, files: bytes) -> bytes:
     return (
         b"%s %s, which each make takes as given (a source, a makefile, or a name of -include or .PHONY): "
         b"the next make starts from something else"
@@ -141,7 +167,7 @@ def of_given(group, names, files):
     )
 
 
-def of_own(group, names, files):
+def of_own(group: Group, names: bytes, files: bytes) -> bytes:
     return b"%s %s, which %s may depend on what was there before" % (
         recipes(group, names, b"reads", b"read"),
         files,
@@ -149,7 +175,7 @@ def of_own(group, names, files):
     )
 
 
-def of_unknown(group, names, files):
+def of_unknown(group: Group, names: bytes, files: bytes) -> bytes:
     return b"%s %s, which %s" % (
         recipes(group, names, b"reads", b"read"),
         files,
@@ -160,7 +186,7 @@ def of_unknown(group, names, files):
     )
 
 
-def of_loose(group, names, files):
+def of_loose(group: Group, names: bytes, files: bytes) -> bytes:
     return b"%s %s depend on %s, whose %s %s being written" % (
         names,
         group.one(b"has no recipe and doesn't", b"have no recipes and don't"),
@@ -173,7 +199,7 @@ def of_loose(group, names, files):
     )
 
 
-def reading(group, names, files, verb):
+def reading(group: Group, names: bytes, files: bytes, verb: bytes) -> bytes:
     """Who reads what, and what it doesn't do, of the recipe that writes it or of the file."""
     text = b"%s %s %s, " % (names, group.one(b"reads", b"read"), files)
     if group.first:
@@ -182,19 +208,19 @@ def reading(group, names, files, verb):
     return text + b"but %s %s %s: " % (group.one(b"doesn't", b"don't"), verb, lacking)
 
 
-def of_race(group, names, files):
+def of_race(group: Group, names: bytes, files: bytes) -> bytes:
     one = group.each(b"it", b"one")
     text = reading(group, names, files, b"wait for")
     return text + b"with several jobs %s may be missing, old or half-written then" % one
 
 
-def of_stale(group, names, files):
+def of_stale(group: Group, names: bytes, files: bytes) -> bytes:
     changing = b"when %s, " % group.each(b"it changes", b"one changes")
     stays = b"%s stays old" % names if len(group.names) == 1 else b"they stay old"
     return reading(group, names, files, b"depend on") + changing + stays
 
 
-def of_selection(group, _names, _files):
+def of_selection(group: Group, _names: bytes, _files: bytes) -> bytes:
     return (
         b"once recipes have run, an inference rule makes %s from %s, but not before: "
         b"the second make differs from the first" % (group.first, group.second)
@@ -217,7 +243,7 @@ SENTENCES = {
 }
 
 
-def one_recipe(group):
+def one_recipe(group: Group) -> bytes:
     """What to do where the first of two recipes makes all that the second one makes."""
     return (
         b"; if the recipe of %s makes all that the recipe of %s makes, write `%s: %s ;` in "
@@ -226,7 +252,7 @@ def one_recipe(group):
     )
 
 
-def advice(group):
+def advice(group: Group) -> bytes:
     """What to do where no lines mend it."""
     told = {
         b"record": b"record again, with the goals and macros that are checked",
@@ -255,14 +281,14 @@ def advice(group):
     return told.get(group.kind, group.each(RENAME, RENAME_ALL))
 
 
-def lines(group):
+def lines(group: Group) -> list[bytes]:
     """The lines that mend it."""
     if group.kind == b"target":
         return lines_between([b".PHONY"], group.names)
     return lines_between(group.names, [group.first] if group.first else group.files)
 
 
-def place_of(makefile, name):
+def place_of(makefile: Makefile, name: bytes) -> bytes:
     """Where a name is shown: at its first rule line of the makefile that has commands, else at its
     first rule line, else at the makefile without a line."""
     rules = [rule for rule in makefile.rules if not rule.default and name in rule.targets]
@@ -270,7 +296,7 @@ def place_of(makefile, name):
     return rules[0].where if rules else makefile.texts[0]
 
 
-def group_text(makefile, group):
+def group_text(makefile: Makefile, group: Group) -> bytes:
     shown_at = group.first if group.kind == b"writers" else group.names[0]
     text = b"%s: %s [%s]\n" % (place_of(makefile, shown_at), sentence(group), group.kind)
     if group.has_lines:
@@ -285,13 +311,13 @@ def group_text(makefile, group):
     return text + b"  do: %s\n" % advice(group) + left_out
 
 
-def groups_text(subject, findings):
+def groups_text(subject: Subject, findings: list[Finding]) -> bytes:
     """The groups of the findings."""
     groups = grouped(subject, findings)
     return b"".join(group_text(subject.rules.makefile, group) for group in groups)
 
 
-def in_sentences(subject, findings):
+def in_sentences(subject: Subject, findings: list[Finding]) -> bytes:
     """The text of the findings, and behind others than races and stale reads that of these."""
     text = groups_text(subject, findings)
     if all(finding[0] in (b"race", b"stale") for finding in findings):
@@ -308,9 +334,9 @@ def in_sentences(subject, findings):
 # Faults.
 
 
-def faults():
+def faults() -> dict[int, dict[bytes, bytes]]:
     """The names with the sentences of each number, as the page's tables have them."""
-    told = {}
+    told: dict[int, dict[bytes, bytes]] = {}
     for number, name, said in FAULT.findall(PAGE.read_bytes()):
         told.setdefault(int(number), {})[name] = said.replace(rb"\|", b"|")
     return told
@@ -319,25 +345,25 @@ def faults():
 FAULTS = faults()
 
 
-def in_words(fault):
+def in_words(fault: Refused) -> bytes:
     """The text of a fault: its place, its name and number, its other words, its sentence."""
     named = FAULTS[fault.number]
     name = next(iter(named)) if fault.name is None else fault.name.encode()
     head = b"" if fault.where is None else fault.where + b": "
     head += b"%s (%d): " % (name, fault.number)
-    words = fault.words + [fault.about] * (fault.about is not None)
+    words = fault.words + ([] if fault.about is None else [fault.about])
     if words:
         head += b" ".join(words) + b": "
     return head + named[name]
 
 
-def line_of(fault, files):
+def line_of(fault: Refused, files: Files) -> bytes:
     """The line of the file that has the fault, as it is printed; nothing where there is none."""
     if fault.where is None:
         return b""
     name, _, number = fault.where.rpartition(b":")
     found = None if name in PSEUDO else files.read(name)
-    if found in (None, "failed"):
+    if found is None or found == "failed":
         return b""
     lines = found.split(b"\n")
     if int(number) > len(lines):

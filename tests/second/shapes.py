@@ -1,5 +1,9 @@
 """Random makefiles of three narrower shapes: macros, orders by `.WAIT`, and inference."""
 
+from __future__ import annotations
+
+from random import Random
+
 from makefiles import (
     LEAVES,
     SUFFIXES,
@@ -13,7 +17,7 @@ from makefiles import (
 from texts import blanks, expression, macro_line
 
 
-def jungle(rng):
+def jungle(rng: Random) -> Project:
     """Macros that are made of one another, and a rule whose command shows them."""
     project = Project(rng)
     names = [b"A", b"B", b"C", b"AB", b"a.b", b"_", b"x-y"]
@@ -47,14 +51,14 @@ def jungle(rng):
     return project
 
 
-def ended(project):
+def ended(project: Project) -> Project:
     blocks = shuffled_blocks(project)
     included(project, blocks)
     project.files[b"makefile"] = written(project, blocks)
     return project
 
 
-def orders(rng):
+def orders(rng: Random) -> Project:
     """Small recipes, of which much is phony and much is ordered by `.WAIT` alone."""
     project = Project(rng)
     project.crossing = True
@@ -85,7 +89,7 @@ def orders(rng):
     return ended(project)
 
 
-def inferences(rng):
+def inferences(rng: Random) -> Project:
     """Many inference rules, over names of few stems."""
     project = Project(rng)
     project.inferring = True

@@ -1,5 +1,9 @@
 """Pieces of lines for random makefiles: expressions, macro lines, torn lines, near misses."""
 
+from __future__ import annotations
+
+from random import Random
+
 NAMES = [b"A", b"B", b"C", b"AB", b"a.b", b"_", b"x-y", b"CC", b"CFLAGS", b"no", b"N"]
 INTERNAL = [
     b"@",
@@ -99,11 +103,11 @@ FAULTY = [
 ]
 
 
-def blanks(rng):
+def blanks(rng: Random) -> bytes:
     return rng.choice([b"", b" ", b" ", b"  ", b"\t", b" \t "])
 
 
-def reference(rng, depth):
+def reference(rng: Random, depth: int) -> bytes:
     """A reference in one of its spellings."""
     draw = rng.random()
     if draw < 0.12:
@@ -132,7 +136,7 @@ def reference(rng, depth):
     return b"$(" + name + b")" if rng.random() < 0.7 else b"${" + name + b"}"
 
 
-def expression(rng, depth, safe):
+def expression(rng: Random, depth: int, safe: bool) -> bytes:
     """Some text with references."""
     out = []
     for _ in range(rng.choice([0, 1, 1, 2, 2, 3, 4])):
@@ -148,7 +152,7 @@ def expression(rng, depth, safe):
     return b"".join(out)
 
 
-def macro_line(rng, name, operator, text):
+def macro_line(rng: Random, name: bytes, operator: bytes | None, text: bytes) -> bytes:
     """An assignment."""
     if operator is None:
         operator = rng.choice([b"=", b"=", b"=", b"::=", b":::=", b"?=", b"+=", b"+="])
@@ -160,7 +164,7 @@ TEARS = [b"\\\n", b" \\\n  ", b"\\\n\t", b"\\\n\\\n", b"\\\n \t", b"\\\n\t\t", b
 WILD_TEARS = TEARS + [b"\\\\\\\n", b"\\\\\n", b"\\\\ ", b"\\\n\n"]
 
 
-def torn(rng, line):
+def torn(rng: Random, line: bytes) -> bytes:
     """A line with one of its blanks, seldom any place of it, torn by an escaped newline."""
     wild = rng.random() < 0.08
     places = [at for at in range(1, len(line)) if line[at : at + 1] == b" "]
@@ -360,7 +364,7 @@ MISSES = [
 ]
 
 
-def near_miss(rng, names):
+def near_miss(rng: Random, names: list[bytes]) -> bytes:
     """A line, or some, that a makefile may not have, or may just have."""
     line = rng.choice(MISSES)
     if names and rng.random() < 0.3:

@@ -1,7 +1,12 @@
 """Worlds of files in which makes, recipes and edits take steps, and plans of them."""
 
-import re
+from __future__ import annotations
 
+import re
+from typing import NamedTuple
+
+from book import Book
+from graph import Graph
 from judge import turns
 from lines import Refused, number_of, words
 
@@ -15,25 +20,38 @@ class Fault(Exception):
     """A step that isn't allowed, by its number."""
 
 
-def need(holds, number):
+def need(holds: object, number: int) -> None:
     if not holds:
         raise Fault(number)
+
+
+class State(NamedTuple):
+    """What a file holds, as a number, and when it was written."""
+
+    content: int
+    stamp: int
+
+
+# What some files hold, in their order; None for a file that isn't there.
+Held = tuple[int | None, ...]
+# A recipe, and what it saw in the files that it reads.
+Seen = tuple[bytes, Held]
 
 
 class Running:
     """What a running recipe has seen and put in this run."""
 
-    def __init__(self):
-        self.seen = {}
-        self.put = {}
+    def __init__(self) -> None:
+        self.seen: dict[bytes, int | None] = {}
+        self.put: dict[bytes, int | None] = {}
 
 
 class World:
-    def __init__(self, graph, book):
+    def __init__(self, graph: Graph, book: Book) -> None:
         self.graph = graph
         self.there = graph.there
-        self.reads = {}
-        self.writes = {}
+        self.reads: dict[bytes, list[bytes]] = {}
+        self.writes: dict[bytes, list[bytes]] = {}
         names = set(graph.nodes) | set(book.sources)
         for node in graph.recipes():
             record = book.records.get(node.name)
@@ -42,55 +60,55 @@ class World:
             names.update(self.reads[node.name], self.writes[node.name])
         self.names = names
         given = sorted(name for name in names if self.there.is_given(name))
-        self.files = {name: (number, number) for number, name in enumerate(given, 1)}
+        self.files = {name: State(number, number) for number, name in enumerate(given, 1)}
         self.clock = len(given)
-        self.outcomes = {}
+        self.outcomes: dict[Seen, Held] = {}
         self.making = False
         self.jobs = 0
-        self.goals = []
-        self.done = set()
-        self.running = {}
+        self.goals: list[bytes] = []
+        self.done: set[bytes] = set()
+        self.running: dict[bytes, Running] = {}
 
     # What holds.
 
-    def ready(self):
+    def ready(self) -> list[bytes]:
         return [
             name for name in turns(self.graph, self.goals, self.done) if name not in self.running
         ]
 
-    def must_run(self, name):
+    def must_run(self, name: bytes) -> bool:
         node = self.graph.nodes[name]
         if node.phony or name not in self.files:
             return True
-        stamp = self.files[name][1]
+        stamp = self.files[name].stamp
         return any(
-            self.graph.nodes[one].phony or one in self.files and self.files[one][1] > stamp
+            self.graph.nodes[one].phony or one in self.files and self.files[one].stamp > stamp
             for one in node.prerequisites
         )
 
-    def content(self, file):
-        return self.files[file][0] if file in self.files else None
+    def content(self, file: bytes) -> int | None:
+        return self.files[file].content if file in self.files else None
 
-    def seen_of(self, name, seen):
+    def seen_of(self, name: bytes, seen: dict[bytes, int | None]) -> Seen:
         return name, tuple(seen[file] for file in self.reads[name])
 
-    def write(self, file, content):
+    def write(self, file: bytes, content: int | None) -> None:
         need(self.clock < CLOCK_LIMIT, 59)
         self.clock += 1
-        self.files[file] = (self.clock if content is None else content, self.clock)
+        self.files[file] = State(self.clock if content is None else content, self.clock)
 
-    def is_running(self, name):
+    def is_running(self, name: bytes) -> None:
         need(self.making, 61)
         need(name in self.running, 66)
 
     # The steps.
 
-    def edit(self, file, content):
+    def edit(self, file: bytes, content: int | None) -> None:
         need(not self.making, 62)
         need(self.there.is_editable(file), 70)
         self.write(file, content)
 
-    def make(self, jobs, goals):
+    def make(self, jobs: int, goals: list[bytes]) -> None:
         need(not self.making, 62)
         need(jobs >= 1, 64)
         need(goals and all(goal in self.graph.goals for goal in goals), 77)
@@ -100,24 +118,24 @@ class World:
         self.done = set()
         self.running = {}
 
-    def begin(self, name):
+    def begin(self, name: bytes) -> None:
         need(self.making, 61)
         need(name in self.ready() and self.graph.nodes[name].recipe, 63)
         need(len(self.running) < self.jobs, 64)
         self.running[name] = Running()
 
-    def look(self, name, file):
+    def look(self, name: bytes, file: bytes) -> None:
         self.is_running(name)
         need(file in self.reads[name], 67)
         self.running[name].seen[file] = self.content(file)
 
-    def put(self, name, file, content):
+    def put(self, name: bytes, file: bytes, content: int | None) -> None:
         self.is_running(name)
         need(file in self.writes[name], 67)
         self.write(file, content)
         self.running[name].put[file] = self.content(file)
 
-    def end_recipe(self, name):
+    def end_recipe(self, name: bytes) -> None:
         self.is_running(name)
         run = self.running[name]
         need(all(file in run.seen for file in self.reads[name]), 68)
@@ -129,32 +147,32 @@ class World:
         del self.running[name]
         self.done.add(name)
 
-    def pass_by(self, name):
+    def pass_by(self, name: bytes) -> None:
         need(self.making, 61)
         need(name in self.ready(), 63)
         need(not self.graph.nodes[name].recipe or not self.must_run(name), 65)
         self.done.add(name)
 
-    def stop(self):
+    def stop(self) -> None:
         need(self.making, 61)
         need(not self.running, 68)
         self.making = False
 
-    def end_make(self):
+    def end_make(self) -> None:
         need(self.making, 61)
         need(not self.running and all(goal in self.done for goal in self.goals), 68)
         self.making = False
 
     # What a plan's line does by several steps.
 
-    def pass_without_recipe(self):
+    def pass_without_recipe(self) -> None:
         while self.making:
             ready = [name for name in self.ready() if not self.graph.nodes[name].recipe]
             if not ready:
                 return
             self.pass_by(ready[0])
 
-    def finish(self, name):
+    def finish(self, name: bytes) -> None:
         self.is_running(name)
         seen = {file: self.content(file) for file in self.reads[name]}
         known = self.outcomes.get(self.seen_of(name, seen))
@@ -164,11 +182,29 @@ class World:
             self.put(name, file, known[place_of] if known else None)
         self.end_recipe(name)
 
-    def listing(self):
+    def listing(self) -> bytes:
         return b"".join(b"%s %d %d\n" % (name, *self.files[name]) for name in sorted(self.files))
 
 
 # Plans.
+
+
+class PlanLine(NamedTuple):
+    """A line of a plan: its word, its names, and its number of jobs or the content that it puts."""
+
+    word: bytes
+    names: list[bytes]
+    number: int | None = None
+
+    def text(self) -> bytes:
+        """The line as a plan has it."""
+        number = [] if self.number is None else [b"%d" % self.number]
+        told = number + self.names if self.word == b"make" else self.names + number
+        return b" ".join([self.word] + told)
+
+
+# The lines of a plan, each with its number.
+Plan = list[tuple[int, PlanLine]]
 
 SHAPES = {
     b"stop": (0, 0),
@@ -184,36 +220,36 @@ SHAPES = {
 }
 
 
-def told_number(word):
+def told_number(word: bytes) -> int:
     number = number_of(word, CLOCK_LIMIT) if NUMBER.match(word) else None
     if number is None:
         raise ValueError
     return number
 
 
-def plan_line(told):
-    """A line's words, with its numbers as numbers; ValueError where it is malformed."""
+def plan_line(told: list[bytes]) -> PlanLine:
+    """The line of these words; ValueError where it is malformed."""
     for word in told:
         word.decode("utf-8")
     if told[0] == b"make":
         if len(told) < 2 or not 1 <= told_number(told[1]) <= JOB_LIMIT:
             raise ValueError
-        return [told[0], told_number(told[1])] + told[2:]
+        return PlanLine(told[0], told[2:], told_number(told[1]))
     least, most = SHAPES.get(told[0], (1, 0))
     if not least <= len(told) - 1 <= most:
         raise ValueError
     if told[0] in (b"put", b"edit"):
         content = told_number(told[-1]) if len(told) - 1 == most else None
-        return told[:most] + [content]
-    return told
+        return PlanLine(told[0], told[1:most], content)
+    return PlanLine(told[0], told[1:])
 
 
-def read_plan(data):
+def read_plan(data: bytes) -> Plan:
     """The lines of a plan with their numbers, or 69."""
     lines = data.split(b"\n")
     if lines[-1] == b"":
         lines.pop()
-    plan = []
+    plan: Plan = []
     for number, line in enumerate(lines, 1):
         told = words(line)
         try:
@@ -226,45 +262,47 @@ def read_plan(data):
     return plan
 
 
-def known_names(world, line):
+def known_names(world: World, line: PlanLine) -> None:
     """69 where a name of the line is no target, or no file of the build."""
-    nodes, files = [], []
-    if line[0] == b"make":
-        nodes = line[2:]
-    elif line[0] == b"edit":
-        files = line[1:2]
-    else:
-        nodes, files = line[1:2], line[2:3]
+    nodes, files = line.names[:1], line.names[1:]
+    if line.word == b"make":
+        nodes, files = line.names, []
+    elif line.word == b"edit":
+        nodes, files = [], line.names
     need(all(name in world.graph.nodes for name in nodes), 69)
     need(all(name in world.names for name in files), 69)
 
 
-def take(world, line):
+def take(world: World, line: PlanLine) -> None:
     """The steps of one line."""
     known_names(world, line)
-    word, told = line[0], line[1:]
+    word, names, number = line
     if word in (b"begin", b"run", b"pass", b"end"):
         world.pass_without_recipe()
     if word == b"make":
-        world.make(told[0], told[1:] or world.graph.goals)
+        assert number is not None
+        world.make(number, names or world.graph.goals)
     elif word == b"run":
-        world.begin(*told)
-        world.finish(*told)
+        world.begin(names[0])
+        world.finish(names[0])
+    elif word == b"look":
+        world.look(names[0], names[1])
+    elif word == b"put":
+        world.put(names[0], names[1], number)
+    elif word == b"edit":
+        world.edit(names[0], number)
+    elif word in (b"stop", b"end"):
+        {b"stop": world.stop, b"end": world.end_make}[word]()
     else:
         {
-            b"stop": world.stop,
             b"begin": world.begin,
-            b"look": world.look,
-            b"put": world.put,
             b"done": world.end_recipe,
             b"finish": world.finish,
             b"pass": world.pass_by,
-            b"end": world.end_make,
-            b"edit": world.edit,
-        }[word](*told)
+        }[word](names[0])
 
 
-def run_plan(world, plan):
+def run_plan(world: World, plan: Plan) -> tuple[bytes, bool]:
     """What the run of a plan prints, and whether a line was refused."""
     text = []
     for number, line in plan:
@@ -274,6 +312,6 @@ def run_plan(world, plan):
             text.append(b"refused %d line %d\n" % (fault.args[0], number))
             text.append(world.listing())
             return b"".join(text), True
-        if line[0] == b"end":
+        if line.word == b"end":
             text.append(world.listing())
     return b"".join(text + [b"plan ok\n"]), False
