@@ -50,9 +50,16 @@ def refused_of(tree: Path, crate: str) -> int:
     """Tries a crate's edits, prints what rt says of each, and returns how many were refused."""
     refused = 0
     words = ["rt", "must-fail", crate]
-    how = {"stdin": subprocess.DEVNULL, "stdout": subprocess.PIPE, "stderr": subprocess.STDOUT}
-    with subprocess.Popen(words, cwd=tree, text=True, errors="replace", **how) as ran:
-        for line in ran.stdout:
+    with subprocess.Popen(
+        words,
+        cwd=tree,
+        text=True,
+        errors="replace",
+        stdin=subprocess.DEVNULL,
+        stdout=subprocess.PIPE,
+        stderr=subprocess.STDOUT,
+    ) as ran:
+        for line in ran.stdout or []:
             if line.startswith("rt: "):
                 print(line, end="", flush=True)
             refused += line.startswith("rt: must-fail ") and REFUSED in line

@@ -113,31 +113,31 @@ def varying(names: list[str], files: list[str]) -> Build:
 def needed(names: list[str], files: list[str]) -> Build:
     """Recipes that don't write their targets, which another recipe needs."""
     makefile = rules(["p"], " ".join(names)) + rules(names)
-    records = [("p", [], ["p"]), *((name, [], []) for name in names)]
-    return Build(makefile, [], records, names, files)
+    records: list[Record] = [(name, [], []) for name in names]
+    return Build(makefile, [], [("p", [], ["p"]), *records], names, files)
 
 
 def writers(names: list[str], files: list[str]) -> Build:
     """Two recipes that write the same files."""
-    records = [(one, [], [one, *files]) for one in ("a", "b")]
+    records: list[Record] = [(one, [], [one, *files]) for one in ("a", "b")]
     return Build(gathered("a", "b") + rules(["a", "b"]), [], records, ["a"], files, "b")
 
 
 def given(names: list[str], files: list[str]) -> Build:
     """Recipes that write sources."""
-    records = [(name, [], [name, *files]) for name in names]
+    records: list[Record] = [(name, [], [name, *files]) for name in names]
     return Build(gathered(*names) + rules(names), files, records, names, files)
 
 
 def own(names: list[str], files: list[str]) -> Build:
     """Recipes that read what they write."""
-    records = [(name, files, [name, *files]) for name in names]
+    records: list[Record] = [(name, files, [name, *files]) for name in names]
     return Build(gathered(*names) + rules(names), [], records, names, files)
 
 
 def reading(names: list[str], files: list[str], sources: list[str]) -> Build:
     """Recipes that read files of which the makefile says nothing."""
-    records = [(name, files, [name]) for name in names]
+    records: list[Record] = [(name, files, [name]) for name in names]
     return Build(gathered(*names) + rules(names), sources, records, names, files)
 
 
@@ -159,20 +159,20 @@ def unwritable(names: list[str], files: list[str]) -> Build:
 def loose(names: list[str], files: list[str]) -> Build:
     """Names without recipes, which recipes write; here the files are recipes."""
     bare = "".join(f"{name}:\n" for name in names)
-    records = [(file, [], [file, *names]) for file in files]
+    records: list[Record] = [(file, [], [file, *names]) for file in files]
     return Build(gathered(*files, *names) + bare + rules(files), [], records, names, files)
 
 
 def race(names: list[str], files: list[str]) -> Build:
     """Recipes that read what other recipes write."""
-    records = [(name, files, [name]) for name in names]
+    records: list[Record] = [(name, files, [name]) for name in names]
     records += [(file, [], [file]) for file in files]
     return Build(gathered(*names, *files) + rules(names + files), [], records, names, files)
 
 
 def beside(names: list[str], files: list[str], wait: str) -> Build:
     """Recipes that read files which another recipe writes beside its target."""
-    records = [("s", [], ["s", *files]), *((name, files, [name]) for name in names)]
+    records: list[Record] = [("s", [], ["s", *files]), *((name, files, [name]) for name in names)]
     makefile = gathered("s", wait, *names) + rules(["s", *names])
     return Build(makefile, [], records, names, files, "s")
 
@@ -192,7 +192,7 @@ def selection(names: list[str], files: list[str]) -> Build:
     makefile = ".SUFFIXES: .o .c .s\n.c.o:\n\tmk\n.s.o:\n\tmk\nall: gen .WAIT x.o\n" + rules(
         ["gen"]
     )
-    records = [("gen", [], ["gen", "x.c"]), ("x.o", ["x.s"], ["x.o"])]
+    records: list[Record] = [("gen", [], ["gen", "x.c"]), ("x.o", ["x.s"], ["x.o"])]
     return Build(makefile, ["x.s"], records, ["x.o"], ["x.c"])
 
 
