@@ -21,6 +21,8 @@ from pathlib import Path
 ROOT = Path(__file__).resolve().parents[2]
 BLOCK = re.compile(r"^```console(?: (more)| in (\S+))?\n(.*?)^```$", re.MULTILINE | re.DOTALL)
 COMMENT = re.compile(r"<!--.*?-->", re.DOTALL)
+# What a recorder says now and then of how far it is, where a machine is slow.
+PROGRESS = re.compile(r"^\[[^][]*\d+/\d+[^][]*\] .*\n", re.MULTILINE)
 READS = re.compile(r"^(yes \d+ recipes) \d+ reads$", re.MULTILINE)
 SECONDS = 120
 REFUSED = re.compile(r"^(refused \d|error: |(\S+:\d+: )?[\w:]+ \(\d+\): )", re.MULTILINE)
@@ -76,7 +78,7 @@ def differs(step: Step, folder: Path, environment: dict[str, str], varies: bool)
         timeout=SECONDS,
         check=False,
     )
-    printed = done.stdout.decode(errors="replace")
+    printed = PROGRESS.sub("", done.stdout.decode(errors="replace"))
     if printed and not printed.endswith("\n"):
         printed += "\n"
     if not is_as_shown(step.shown, printed, varies):
