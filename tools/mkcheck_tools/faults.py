@@ -52,6 +52,9 @@ def sentence_of(error: Exception, program: str) -> str:
 
 def mistake_of(error: Exception, program: str, more: str = "") -> str:
     """The same, with what it means besides where it is the program's mistake."""
+    if isinstance(error, OSError) and error.errno in FULL:
+        where = error.filename or "a file"
+        return f"{where} can't be written, since the disk is full: make room there, and try again"
     if isinstance(error, (Fault, OSError)):
         return str(error)
     last = traceback.extract_tb(error.__traceback__)[-1]

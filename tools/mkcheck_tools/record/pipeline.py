@@ -33,7 +33,7 @@ from mkcheck_tools.run import places
 from mkcheck_tools.run.ending import write_text
 from mkcheck_tools.run.paths import RealPath, real_in, unbound
 from mkcheck_tools.run.places import Place
-from mkcheck_tools.run.stopping import Stopped
+from mkcheck_tools.run.stopping import Stopped, pass_over_signals
 from mkcheck_tools.trace import tracing
 
 UNBOUND = (
@@ -84,10 +84,10 @@ def record_folder(request: Request, scratch: RealPath) -> int:
         for note in verdict.notes:
             notes.add(note)
         result = result_of(build, recorded, verdict, notes.add)
+        result = replace(result, failures=[*recorded.failures, *compared, *result.failures])
+        return write(shop, recorded, verdict, result, notes)
     except BaseException as end:
         raise told_of_end(end, request, keep(shop, recorded, verdict, False))
-    result = replace(result, failures=[*recorded.failures, *compared, *result.failures])
-    return write(shop, recorded, verdict, result, notes)
 
 
 def workshop(request: Request, build: Build, scratch: RealPath, warn: Warn) -> Workshop:
@@ -335,6 +335,7 @@ def write(
         if not whole or request.update or os.path.exists(path_of_state(updating.book)):
             kept = keep(shop, recorded, verdict, whole)
         else:
+            pass_over_signals()
             updating.forget()
     if whole and request.update and updating is not None:
         tell_of_update(len(recorded.footprints), updating)

@@ -45,6 +45,8 @@ Follow = Callable[[], World]
 # What LeakSanitizer says of a tracer.
 LEAKS = "LeakSanitizer does not work under ptrace"
 LINES_SHOWN = 20
+# A disk with less room than this is full.
+LITTLE = 1 << 16
 # The status of a shell that doesn't find a program.
 NOT_FOUND = 127
 
@@ -330,6 +332,7 @@ def run(
             said = failure(recipe, command, done.status, output)
             missed = missed_targets(recipe, accesses, naming, shop)
             more = [*missed, *varying_before(recipe, shop), *was_there(recipe, done.status, shop)]
+            more += said_of_full(shop)
             more += said_of_leaks(output)
             raise RecipeFault("\n".join([said, *more]))
     return accesses, output
@@ -353,6 +356,18 @@ def said_of_leaks(output: str) -> list[str]:
         "\tLeakSanitizer doesn't work where strace traces the program: record with"
         " ASAN_OPTIONS=detect_leaks=0 in the environment"
     ]
+
+
+def said_of_full(shop: Workshop) -> list[str]:
+    """What is said of a disk without room, on which what a recipe puts out finds none either."""
+    status = os.statvfs(shop.place.folder)
+    if status.f_bavail * status.f_frsize >= LITTLE:
+        return []
+    said = "\tthe disk on which recipes run is full: make room in"
+    if shop.place.folder == shop.folder:
+        return [f"{said} {shop.folder}"]
+    above = os.path.dirname(shop.scratch)
+    return [f"{said} {above}, or let TMPDIR name another folder"]
 
 
 def missed_targets(

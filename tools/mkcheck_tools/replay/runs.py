@@ -9,6 +9,7 @@ from collections.abc import Mapping
 from dataclasses import dataclass, field, replace
 from pathlib import Path
 
+from mkcheck_tools.faults import Fault
 from mkcheck_tools.judge.late import Met
 from mkcheck_tools.replay.differences import Comparison, Difference, is_file, only_touched
 from mkcheck_tools.replay.layouts import Layout, aged, damage
@@ -107,7 +108,7 @@ class Runner:
         """The runs of a recipe in a folder, up to the first that shows something. `order` tells
         which stamps its reads get when its outputs are there, and `amid` what else it finds."""
         while int(time.time()) <= int(trial.ended):
-            time.sleep(0.05)
+            places.pause(0.05)
         laid = stamps_of(trial, place.folder)
         outcome = self.one(trial, place, BARE, laid)
         if not outcome.passed:
@@ -210,7 +211,7 @@ class Runner:
         output = ""
         for command in trial.recipe.commands:
             if self.stopped.is_set():
-                return "it was stopped"
+                raise Fault("the program ends, so no command is started")
             words = [*front, *amid.words(command)]
             if follower is not None:
                 words = [*strace(looking=looking), inner, *words]

@@ -12,6 +12,7 @@ from dataclasses import replace
 
 from mkcheck_tools.replay.versions import FILE, Version
 from mkcheck_tools.replay.worlds import GIVEN, Trial, World
+from mkcheck_tools.run import places
 from mkcheck_tools.run.paths import Name
 
 SECOND = 1_000_000_000
@@ -42,7 +43,7 @@ def with_later_stamps(world: World, trial: Trial) -> Trial:
     stamps = [version.stamp for version in made.values()]
     first, last = min(stamps), max(stamps)
     while (later := time.time_ns() - STEP - last) < LEAST:
-        time.sleep((LEAST - later) / SECOND)
+        places.pause((LEAST - later) / SECOND)
     others = (
         world.stamp(name) if version == GIVEN else version.stamp
         for name, version in trial.before.items()

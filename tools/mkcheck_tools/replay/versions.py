@@ -2,6 +2,7 @@
 
 from __future__ import annotations
 
+import contextlib
 import hashlib
 import os
 import stat
@@ -120,6 +121,11 @@ class Store:
         beside = RealPath(goal + ".new")
         if os.path.lexists(beside):
             os.unlink(beside)
-        copy_bytes(path, beside)
-        os.replace(beside, goal)
+        try:
+            copy_bytes(path, beside)
+            os.replace(beside, goal)
+        except OSError as error:
+            with contextlib.suppress(OSError):
+                os.unlink(beside)
+            raise OSError(error.errno, error.strerror, goal) from None
         return version

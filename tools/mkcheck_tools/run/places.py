@@ -47,8 +47,8 @@ NOT_ENTERED = "mkcheck-record: the folder could not be mounted at the path of th
 
 _running: dict[int, None] = {}
 _lock = threading.Lock()
-# Not empty when the program ends.
-_ended: list[None] = []
+# Set when the program ends.
+_ending = threading.Event()
 
 
 def mounter() -> str:
@@ -302,7 +302,7 @@ def started(
     process = None
     try:
         with stopping.held(), _lock:
-            if _ended:
+            if _ending.is_set():
                 raise Fault("the program ends, so no command is started")
             process = subprocess.Popen(
                 words,
@@ -332,7 +332,13 @@ def kill_group(leader: int) -> None:
 def end_all() -> None:
     """Kills the groups of all commands that run, for a program that ends before they do. From then
     on none is started."""
+    _ending.set()
     with _lock:
-        _ended.append(None)
         for leader in _running:
             kill_group(leader)
+
+
+def pause(seconds: float) -> None:
+    """Waits for a time, unless the program ends, which is a fault."""
+    if _ending.wait(seconds):
+        raise Fault("the program ends, so nothing is waited for")

@@ -35,10 +35,15 @@ def catch_signals() -> None:
             signal.signal(number, stop)
 
 
+def pass_over_signals() -> None:
+    """From now on these signals change nothing: what is left to be done is short."""
+    for number in SIGNALS:
+        signal.signal(number, signal.SIG_IGN)
+
+
 def stop(number: int, _frame: FrameType | None) -> None:
     """Raises `Stopped`, or has that done later where the end is put off."""
-    for other in SIGNALS:
-        signal.signal(other, signal.SIG_IGN)
+    pass_over_signals()
     if not _held:
         raise Stopped(number)
     _came.append(number)
