@@ -19,7 +19,7 @@ from mkcheck_tools.imports.readers import ByCommand, Reader, Started
 from mkcheck_tools.imports.rereading import changed, other_needs, place_of, short
 from mkcheck_tools.imports.trying import Trial
 from mkcheck_tools.run.places import Place
-from mkcheck_tools.trace import tracing
+from mkcheck_tools.trace.tracing import Tracer, Watch
 from mkcheck_tools.trace.trees import Tree
 
 TRIED_AT_MOST = 24
@@ -116,7 +116,7 @@ class Readings:
         command = ["/bin/sh", "-c", enter, "sh", folder, program, "-n", "-k", "-j1", *words]
         reader = Reader(ByCommand(Tree.of(place)), place.seen, is_of_recipe=self.is_of_recipe)
         environment = {**outer_environment(), **more}
-        done = tracing.run(command, place, environment, scratch, looking=looking, texts=True)
+        done = Tracer(place, environment, scratch).run(command, Watch(looking=looking, texts=True))
         reader.follow(done.calls)
         self.outside.update(dict.fromkeys(reader.accesses.forbidden))
         return reader

@@ -400,8 +400,8 @@ def warn_of_stamps(
     one.
     """
     tree = accesses.tree
-    changing = [name for name in footprint.reads if not naming.is_fixed(name)]
-    warn_of_old_links(footprint, tree, changing, naming, begun, warn)
+    changing = changing_reads(footprint, naming)
+    warn_of_old_links(footprint, tree, naming, begun, warn)
     only = tree.status(seen_in(tree.root, changing[0])) if len(changing) == 1 else None
     for name in footprint.writes:
         path = seen_in(tree.root, name)
@@ -427,8 +427,13 @@ def warn_of_stamps(
             warn(Note(footprint.recipe.target, Kind.STAMP, text))
 
 
+def changing_reads(footprint: Footprint, naming: Naming) -> list[Name]:
+    """The files that a recipe reads and that can change."""
+    return [name for name in footprint.reads if not naming.is_fixed(name)]
+
+
 def warn_of_old_links(
-    footprint: Footprint, tree: Tree, changing: list[Name], naming: Naming, begun: int, warn: Warn
+    footprint: Footprint, tree: Tree, naming: Naming, begun: int, warn: Warn
 ) -> None:
     """A link is told that a recipe makes and that leads to an older file, by whose stamp make goes.
 
@@ -445,7 +450,7 @@ def warn_of_old_links(
             continue
         apart = 0 if status.st_ctime_ns % SECOND else COARSE
         other = naming.name_or_path(goal)
-        if status.st_mtime_ns < begun - apart and {*changing} - {other}:
+        if status.st_mtime_ns < begun - apart and {*changing_reads(footprint, naming)} - {other}:
             text = (
                 f"the recipe of {footprint.recipe.target} makes {name} a link to {shown(other)},"
                 " which is older, and make goes by the stamp of that: after a change of what the"

@@ -39,6 +39,7 @@ from mkcheck_tools.run.stopping import Stopped
 from mkcheck_tools.trace import tracing
 from mkcheck_tools.trace.accesses import Accesses, Follower
 from mkcheck_tools.trace.makes import Makes
+from mkcheck_tools.trace.tracing import Tracer, Watch
 from mkcheck_tools.trace.trees import Tree
 
 Follow = Callable[[], World]
@@ -313,7 +314,7 @@ def run(
 ) -> tuple[Accesses, str]:
     """Runs a recipe, command by command, as make would; returns what it did and put out."""
     accesses = Accesses(tree)
-    given = shop.environment
+    tracer = Tracer(shop.place, shop.environment, shop.scratch)
     output = ""
     for command in recipe.commands:
         progress.step(command.text)
@@ -322,7 +323,7 @@ def run(
         own = None if recipe.target in shop.opaque else Makes(shop.place.seen)
         if own is not None:
             own.written.update(accesses.touched)
-        done = tracing.run(command.words, shop.place, given, shop.scratch, links, True, makes=own)
+        done = tracer.run(command.words, Watch(links, looking=True), own)
         output += done.output
         Follower(accesses, shop.place.seen).follow(done.calls)
         with showing("" if accesses.makes else output):

@@ -34,7 +34,7 @@ from mkcheck_tools.replay.glances import Glances
 from mkcheck_tools.replay.layouts import Layout
 from mkcheck_tools.replay.listings import Age, age_of, is_listed
 from mkcheck_tools.replay.meetings import Meetings, Turns
-from mkcheck_tools.replay.runs import BARE, HANDED, ORDERED, VARIED, Outcome, Runner
+from mkcheck_tools.replay.runs import BARE, HANDED, ORDERED, VARIED, Followed, Outcome, Runner
 from mkcheck_tools.replay.stamps import with_later_stamps
 from mkcheck_tools.replay.surroundings import (
     AS_RECORDED,
@@ -425,7 +425,7 @@ class Replay:
         accesses = Accesses(Tree.of(place))
         follower = Follower(accesses, place.seen)
         try:
-            self.runner.run_commands(trial, place, follower, True, amid=amid)
+            self.runner.run_commands(trial, place, Followed(follower, True), amid=amid)
         except Fault:
             return ()
         front = place.seen + "/"
@@ -482,7 +482,8 @@ class Replay:
         laid = stamps_of(trial, place.folder)
         accesses = Accesses(Tree.of(place))
         try:
-            failed = self.runner.run_commands(trial, place, Follower(accesses, place.seen))
+            follower = Follower(accesses, place.seen)
+            failed = self.runner.run_commands(trial, place, Followed(follower))
         except Fault:
             failed = "its trace ends before it does"
         paths = {name: seen_in(place.seen, name) for name in late}

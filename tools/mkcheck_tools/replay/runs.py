@@ -22,7 +22,7 @@ from mkcheck_tools.run.paths import Name, RealPath, real_in, seen_in
 from mkcheck_tools.run.places import Place
 from mkcheck_tools.run.progress import first_line
 from mkcheck_tools.trace.accesses import Follower
-from mkcheck_tools.trace.tracing import failing, read_trace, strace
+from mkcheck_tools.trace.tracing import Watch, failing, read_trace, strace
 
 BARE, AGAIN, DAMAGED, LOOKED, ORDERED = "bare", "again", "damaged", "looked", "ordered"
 # A run amid other surroundings, of which no kind alone shows anything; those of make -j2.
@@ -88,6 +88,14 @@ class Outcome:
     def passed(self) -> bool:
         """Whether all runs gave what the recording gave."""
         return not self.failed and not self.differences and not self.broken
+
+
+@dataclass(frozen=True)
+class Followed:
+    """What takes the calls of commands; with `looking` also those that only look at names."""
+
+    follower: Follower
+    looking: bool = False
 
 
 @dataclass
@@ -194,15 +202,14 @@ class Runner:
         self,
         trial: Trial,
         place: Place,
-        follower: Follower | None = None,
-        looking: bool = False,
+        followed: Followed | None = None,
         front: tuple[str, ...] = (),
         amid: Surroundings = AS_RECORDED,
     ) -> str:
         """Runs the commands of a recipe; tells how it failed, or nothing where it ended well.
 
-        `follower` takes the calls, if they are to be traced; with `looking` also those that only
-        look at names. `front` are words that come before those of each command.
+        They are traced where they are to be `followed`. `front` are words that come before those of
+        each command.
         """
         trace = f"{place.folder}.trace" if place.is_bound else os.path.join(self.scratch, "trace")
         inner = f"{place.inner}.trace" if place.inner else trace
@@ -213,15 +220,15 @@ class Runner:
             if self.stopped.is_set():
                 raise Fault("the program ends, so no command is started")
             words = [*front, *amid.words(command)]
-            if follower is not None:
-                words = [*strace(looking=looking), inner, *words]
+            if followed is not None:
+                words = [*strace(Watch(looking=followed.looking)), inner, *words]
             with amid.input() as source:
                 given = amid.environment(self.environment, source)
                 ended = places.run(words, place, given, max(0.0, until - time.monotonic()), source)
             if CLOCK in amid:
                 clear(ended.process)
-            if follower is not None:
-                follower.follow(read_trace(Path(trace), looking))
+            if followed is not None:
+                followed.follower.follow(read_trace(Path(trace), followed.looking))
             output += ended.output
             if ended.timed_out:
                 head = (

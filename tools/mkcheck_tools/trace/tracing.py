@@ -78,14 +78,23 @@ class Done:
     left: tuple[str, ...] = ()
 
 
-@functools.cache
-def strace(links: bool = True, looking: bool = False, texts: bool = False) -> tuple[str, ...]:
-    """The words by which strace is started, before the file of its output.
+@dataclass(frozen=True)
+class Watch:
+    """What a trace has."""
 
-    Without `links`, calls that read symbolic links aren't traced: compilers make hundreds of them.
-    With `looking`, calls that only look at names are. With `texts`, the words of commands are
-    written out, and it is told where their output goes.
-    """
+    links: bool = True
+    """Whether it has the calls that read symbolic links: compilers make hundreds of them."""
+
+    looking: bool = False
+    """Whether it has the calls that only look at names."""
+
+    texts: bool = False
+    """Whether it has the words of commands, and tells where their output goes."""
+
+
+@functools.cache
+def strace(watch: Watch = Watch()) -> tuple[str, ...]:
+    """The words by which strace is started, before the file of its output."""
     program = shutil.which("strace")
     if program is None:
         raise Fault(
@@ -93,11 +102,12 @@ def strace(links: bool = True, looking: bool = False, texts: bool = False) -> tu
         )
     asked = subprocess.run([program, "-h"], capture_output=True, text=True, check=False).stdout
     quick = ("--seccomp-bpf",) if "--seccomp-bpf" in asked else ()
-    names = [*TRACED, *REFUSED, *(LOOKS if looking else ()), *(DUPLICATIONS if texts else ())]
-    calls = ",".join(f"?{name}" for name in names if links or name not in OF_LINKS)
+    names = [*TRACED, *REFUSED, *(LOOKS if watch.looking else ())]
+    names += DUPLICATIONS if watch.texts else ()
+    calls = ",".join(f"?{name}" for name in names if watch.links or name not in OF_LINKS)
     refused = ",".join(f"?{name}" for name in REFUSED)
     return (
-        *(program, "-f", *quick, "-y", "-q", "-s", TEXT_AT_MOST if texts else "0"),
+        *(program, "-f", *quick, "-y", "-q", "-s", TEXT_AT_MOST if watch.texts else "0"),
         *("-e", f"trace={calls}"),
         *("-e", f"inject={refused}:error=ENOSYS", "-o"),
     )
@@ -225,46 +235,45 @@ def is_writing(call: Call) -> bool:
     return any(flag in " ".join(call.arguments[1:]) for flag in ("O_WRONLY", "O_RDWR", "O_CREAT"))
 
 
-def run(
-    words: list[str],
-    place: Place,
-    given: dict[str, str],
-    scratch: str,
-    links: bool = True,
-    looking: bool = False,
-    texts: bool = False,
-    makes: Makes | None = None,
-) -> Done:
-    """Runs a command in a place, with this environment, and traces it. No process of it is left
-    then.
+@dataclass(frozen=True)
+class Tracer:
+    """Runs commands in a place, with this environment, and traces them. `scratch` is a folder for
+    what it needs."""
 
-    `links` says whether the texts of symbolic links that it reads are traced, `looking` whether the
-    names are at which it only looks, `texts` whether the words of the commands that it starts are.
-    With `makes` a make that it starts is ended as it begins to work.
-    """
-    pipe = os.path.join(scratch, "trace.pipe")
-    with contextlib.suppress(FileNotFoundError):
-        os.unlink(pipe)
-    os.mkfifo(pipe)
-    listener = Listener(os.open(pipe, os.O_RDONLY | os.O_NONBLOCK), Trace(looking), makes)
-    own_end = os.open(pipe, os.O_WRONLY)
-    os.set_blocking(listener.pipe, True)
-    with contextlib.suppress(OSError):
-        fcntl.fcntl(own_end, SET_PIPE_SIZE, PIPE_SIZE)
-    reading = threading.Thread(target=listener.listen, daemon=True)
-    reading.start()
-    try:
-        with tempfile.TemporaryFile(dir=scratch) as output:
-            traced = place.words([*strace(links, looking, texts), pipe, *words])
-            with places.started(traced, place.seen, given, output.fileno()) as process:
+    place: Place
+    environment: Mapping[str, str]
+    scratch: str
+
+    def run(self, words: list[str], watch: Watch, makes: Makes | None = None) -> Done:
+        """Runs a command. No process of it is left then. With `makes` a make that it starts is
+        ended as it begins to work."""
+        pipe = os.path.join(self.scratch, "trace.pipe")
+        with contextlib.suppress(FileNotFoundError):
+            os.unlink(pipe)
+        os.mkfifo(pipe)
+        listener = Listener(os.open(pipe, os.O_RDONLY | os.O_NONBLOCK), Trace(watch.looking), makes)
+        own_end = os.open(pipe, os.O_WRONLY)
+        os.set_blocking(listener.pipe, True)
+        with contextlib.suppress(OSError):
+            fcntl.fcntl(own_end, SET_PIPE_SIZE, PIPE_SIZE)
+        reading = threading.Thread(target=listener.listen, daemon=True)
+        reading.start()
+        try:
+            text, status = self.put_out([*strace(watch), pipe, *words])
+        finally:
+            os.close(own_end)
+            listener.kill()
+            reading.join()
+        return ended(listener, text, status)
+
+    def put_out(self, words: list[str]) -> tuple[str, int]:
+        """What a command puts out, and its status."""
+        with tempfile.TemporaryFile(dir=self.scratch) as output:
+            traced, seen = self.place.words(words), self.place.seen
+            with places.started(traced, seen, self.environment, output.fileno()) as process:
                 status = process.wait()
             output.seek(0)
-            text = output.read().decode("utf-8", "replace")
-    finally:
-        os.close(own_end)
-        listener.kill()
-        reading.join()
-    return ended(listener, text, status)
+            return output.read().decode("utf-8", "replace"), status
 
 
 def ended(listener: Listener, output: str, status: int) -> Done:
