@@ -6,15 +6,18 @@ from itertools import takewhile
 
 from mkcheck_tools.imports.builds import Build
 from mkcheck_tools.imports.judging import BuildVerdict
+from mkcheck_tools.imports.recorded import Recorded
 
 SHOWN_AT_MOST = 8
 # The status of a yes beside which something couldn't be judged.
 AS_FAR_AS_JUDGED = 4
 
 
-def answer_of(build: Build, verdict: BuildVerdict, sentences: list[str]) -> list[str]:
+def answer_of(
+    build: Build, recorded: Recorded, verdict: BuildVerdict, sentences: list[str]
+) -> list[str]:
     """What is printed: the answer, the findings as sentences, and all on which the answer rests."""
-    lines = [headline(build, verdict, sentences)]
+    lines = [headline(build, recorded.doubts, verdict, sentences)]
     lines += ["", *sentences] if sentences else []
     if build.problems:
         lines += ["", "Not judged:", *(f"    {text}" for text in build.problems)]
@@ -23,9 +26,9 @@ def answer_of(build: Build, verdict: BuildVerdict, sentences: list[str]) -> list
             "",
             "Of a recipe that isn't judged it is presumed that it writes its targets alone.",
         ]
-    if build.warnings:
+    if recorded.warnings:
         lines += ["", "What the recorder says:"]
-        lines += [f"    {text}" for text in shown(build.warnings)]
+        lines += [f"    {text}" for text in shown(list(recorded.warnings))]
     if build.given:
         lines += [
             "",
@@ -43,8 +46,9 @@ def answer_of(build: Build, verdict: BuildVerdict, sentences: list[str]) -> list
     return lines
 
 
-def headline(build: Build, verdict: BuildVerdict, sentences: list[str]) -> str:
-    """The first line. One sentence may tell of several findings."""
+def headline(build: Build, notes: int, verdict: BuildVerdict, sentences: list[str]) -> str:
+    """The first line. One sentence may tell of several findings; `notes` are those of the recorder
+    that say why a yes may be wrong."""
     counts = judged(build, verdict)
     if verdict.refused:
         return f"no answer: {verdict.refused}"
@@ -54,7 +58,7 @@ def headline(build: Build, verdict: BuildVerdict, sentences: list[str]) -> str:
         return f"no: {counted(len(verdict.findings), 'finding')}{among} ({counts})"
     if is_nothing_judged(build, verdict):
         return f"no answer: no recipe could be judged, of {verdict.recipes}"
-    doubts = f", with {counted(build.doubts, 'doubt')}" if build.doubts else ""
+    doubts = f", with {counted(notes, 'doubt')}" if notes else ""
     if build.problems:
         return f"yes as far as judged ({counts}{doubts})"
     tool = build.tool or "the build tool"

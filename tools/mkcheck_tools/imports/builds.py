@@ -210,10 +210,6 @@ class Build:
     tried: set[str] = field(default_factory=set)
     """Recipes and folders, as `RECIPE FOLDER`: the recipe does the same without the folder."""
 
-    looked: dict[str, list[str]] = field(default_factory=dict)
-    """For each recipe the folders at which it looked, of those that the build makes; with a `/`
-    behind it one whose names it read."""
-
     blind: set[str] = field(default_factory=set)
     """Targets without a recipe that another recipe writes, and that the tool doesn't look at again
     then; what needs them only waits for them. Known when the recording is there."""
@@ -250,15 +246,6 @@ class Build:
     unwritten: list[str] = field(default_factory=list)
     """Targets that aren't declared phony, and that their recipes don't write: the tool runs these
     in each build. They are named in the answer, since a recipe that fails unseen looks so too."""
-
-    unrecorded: dict[str, str] = field(default_factory=dict)
-    """Recipes that the recorder could not record, each with what it says of it."""
-
-    warnings: list[str] = field(default_factory=list)
-    doubts: int = 0
-    """How many notes of the recorder say why a yes may be wrong."""
-
-    """What the recorder said, when the build has been recorded."""
 
     def problem(self, text: str, *recipes: str) -> None:
         """Adds a problem, once, and the recipes that it keeps from being judged."""

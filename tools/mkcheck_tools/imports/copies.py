@@ -104,6 +104,11 @@ class Copies:
         for word in self.made:
             self.take_away(self.place(word).folder, names)
 
+    def show(self, names: set[str]) -> None:
+        """Lets copies have such files again; each copy is made anew where it is asked for."""
+        self.hidden -= names
+        self.forget()
+
     def forget(self) -> None:
         """Removes all copies: each is made anew where it is asked for."""
         for word in self.made:

@@ -5,6 +5,7 @@ from __future__ import annotations
 import json
 import os
 import re
+from collections.abc import Mapping
 from dataclasses import dataclass, field, replace
 from pathlib import Path
 
@@ -15,8 +16,7 @@ from mkcheck_tools.answers.refusals import CYCLE, NO_RULE, numbered
 from mkcheck_tools.book.footprint_files import Footprints, Record, read_footprints
 from mkcheck_tools.book.formats import first
 from mkcheck_tools.book.note_files import Noted, path_of_notes, read_notes, text_of_notes
-from mkcheck_tools.book.states import Unusable, path_of_state
-from mkcheck_tools.book.states import read as read_state
+from mkcheck_tools.book.states import State
 from mkcheck_tools.book.updating import FIRST_TIME
 from mkcheck_tools.faults import Fault
 from mkcheck_tools.imports.alike import HANDING_ON, passing_through
@@ -43,6 +43,8 @@ THROUGH = "makefile.through"
 UNAWARE = "unaware"
 # The target of which the recorder tells.
 OF_RECIPE = re.compile(r"the recipe of (\S+)")
+# What the recorder says of its state, whose place is the importer's.
+OF_UPDATE = re.compile(r": all recipes are recorded$|mkcheck-record --update ")
 # The front of the recorder's lines of progress.
 PROGRESS = re.compile(r"\[(?:\w+ )?\d+/\d+(?: [\d:]+ left)?\] ")
 
@@ -202,32 +204,25 @@ class Judge:
         """Asks mkcheck, in the folder of the project."""
         return Checker(self.mkcheck, self.place, environment=self.environment).run(*words)
 
-    def record(self, recorder: list[str], first: bool, looking: bool) -> str:
-        """Records the build, with the names at which recipes look where that is asked for; gives
-        what the recorder said."""
-        book = self.path("footprint.json")
-        for path in (book, path_of_state(book)):
-            Path(path).unlink(missing_ok=True)
-        name, how = FIRST if first else LATER, "--update" if looking else "-o"
-        words = [*recorder, "-f", self.path(name), "-C", self.place.seen, how, book]
+    def record(self, recorder: list[str], first: bool, book: str) -> str:
+        """Records the build, as far as it has changed since the last recording whose state lies
+        beside the footprints; gives what the recorder said."""
+        Path(book).unlink(missing_ok=True)
+        name = FIRST if first else LATER
+        words = [*recorder, "-f", self.path(name), "-C", self.place.seen, "--update", book]
         status, said, errors = run_here(self.place, words, self.environment, self.tail)
         is_written = os.path.exists(book)
         if status not in (0, 1) or not is_written:
             lines = (said + errors).splitlines(keepends=True)
-            lines = [line for line in lines if not line.rstrip().endswith(FIRST_TIME)]
+            lines = [line for line in lines if not OF_UPDATE.search(line)]
             text = "".join(line for line in lines if not PROGRESS.match(line))
             raise RecordingFault(OWN_ADVICE.sub(advice, text))
         lines = errors.splitlines(keepends=True)
         return "".join(line for line in lines if not line.rstrip().endswith(FIRST_TIME))
 
-    def looks(self, folders: set[str]) -> dict[str, list[str]]:
-        """At which of these folders each recipe looked, where that was recorded; with a `/` behind
-        it one whose names it read."""
-        book = self.path("footprint.json")
-        try:
-            state = read_state(path_of_state(book))
-        except Unusable as why:
-            raise Fault(f"what recipes looked at {why}: import again") from None
+    def looks(self, state: State, folders: set[str]) -> dict[str, list[str]]:
+        """At which of these folders each recipe looked; with a `/` behind it one whose names it
+        read."""
         back = {word: name for name, word in self.names().written.items() if "\0" not in name}
         found = {}
         for target, entry in state.entries.items():
@@ -265,9 +260,9 @@ class Judge:
                     found.setdefault(name, OWN_ADVICE.sub(advice, line))
         return found
 
-    def complete(self, footprints: Footprints, first: bool) -> None:
+    def complete(self, footprints: Footprints, first: bool, unrecorded: Mapping[str, str]) -> None:
         """Gives recipes without a record one by which they write their targets alone, and names
-        them."""
+        them; `unrecorded` has what the recorder says of some."""
         names = self.names()
         run_first = {*self.build.reached(False)}
         lines = {}
@@ -282,13 +277,14 @@ class Judge:
                 own = [] if node.kind is Kind.PHONY else [name, *also_made(self.build, name)]
                 record = Record(name, lines[names[name]], [], own)
                 footprints.records[name] = record
-                self.build.problem(self.why_unrecorded(node, name in run_first), name)
+                why = self.why_unrecorded(node, name in run_first, unrecorded)
+                self.build.problem(why, name)
 
-    def why_unrecorded(self, node: Node, in_first: bool) -> str:
+    def why_unrecorded(self, node: Node, in_first: bool, unrecorded: Mapping[str, str]) -> str:
         """The sentence on a recipe without a record."""
         where = str(node.origin) if node.origin else node.name
-        if node.name in self.build.unrecorded:
-            return f"{where}: {self.build.unrecorded[node.name]}"
+        if node.name in unrecorded:
+            return f"{where}: {unrecorded[node.name]}"
         if in_first:
             return f"{where}: the recipe of {node.name} could not be recorded; see import.log"
         return (

@@ -9,8 +9,8 @@ from __future__ import annotations
 
 import os
 import subprocess
-from collections.abc import Callable, Iterable
-from dataclasses import dataclass, field
+from collections.abc import Callable, Container, Iterable, Mapping, Sequence
+from dataclasses import dataclass, replace
 from pathlib import Path
 
 from mkcheck_tools.faults import Fault
@@ -29,15 +29,18 @@ CLEAN_SECONDS = 60
 A_DAY = 86_400 * 10**9
 
 
-@dataclass
+@dataclass(frozen=True)
 class Leftovers:
     """What an earlier build left in a project, of which copies are made."""
 
     copies: Copies
-    there: set[str] = field(default_factory=set)
+    there: frozenset[str]
     """The files and folders of the project before make reads."""
 
-    tracked: set[str] | None = None
+    times: Mapping[str, int]
+    """The times of the files before make reads."""
+
+    tracked: frozenset[str] | None = None
     """The files that git tracks."""
 
     is_cleaned: bool = False
@@ -46,51 +49,52 @@ class Leftovers:
     not_cleaned: str = ""
     """Why it hasn't, where the makefile has such a rule."""
 
-    times: dict[str, int] = field(default_factory=dict)
-    """The times of the files before make reads."""
+    hidden: frozenset[str] = frozenset()
+    """What copies don't have."""
 
-    shown_again: list[str] = field(default_factory=list)
+    shown_again: tuple[str, ...] = ()
     """Files without which a build fails, so that they are taken as they are."""
 
-    dependencies: set[str] = field(default_factory=set)
+    dependencies: frozenset[str] = frozenset()
     """Dependency files that say something before the build."""
 
-    def hide(
-        self,
-        shown: list[Make],
-        words: list[str],
-        run: Callable[..., list[Make]],
-        times: dict[str, int],
-    ) -> bool:
-        """Hides what an earlier build left; says whether there was something.
+    def found(
+        self, shown: list[Make], words: Sequence[str], run: Callable[..., list[Make]]
+    ) -> Leftovers:
+        """The same, with what an earlier build left.
 
         That is what `make clean` removes in a copy, by `run`, with the options among the words, but
         for files of a release. Where there is no such rule, or it fails, it is each target that git
-        doesn't track. `times` are those of the files.
+        doesn't track.
         """
-        self.times = times
         found = targets_there(self.copies.seen, shown, self.there)
-        if found:
-            self.tracked = tracked_files(self.copies.root)
-        found -= self.tracked or set()
+        tracked = tracked_files(self.copies.root) if found else None
+        found -= tracked or frozenset()
         if not found:
-            return False
+            return replace(self, tracked=tracked)
+        is_cleaned, not_cleaned = False, ""
         if has_clean(shown[0]):
-            options = [word for option in option_words(words) for word in option]
-            self.not_cleaned = clean([*options, CLEAN], run)
-            self.is_cleaned = not self.not_cleaned
-        if self.is_cleaned:
+            options = [word for option in option_words(list(words)) for word in option]
+            not_cleaned = clean([*options, CLEAN], run)
+            is_cleaned = not not_cleaned
+        if is_cleaned:
             left = listing(self.copies.place("clean").folder)
-            found = self.there - left - (self.tracked or set())
-            found -= self.of_release(found, times) if self.tracked is None else set()
-        elif self.tracked is None:
+            found = set(self.there - left - (tracked or frozenset()))
+            found -= self.of_release(found) if tracked is None else set()
+        elif tracked is None:
             found = set()
-        self.copies.hide(found)
-        return bool(found)
+        return replace(
+            self,
+            tracked=tracked,
+            is_cleaned=is_cleaned,
+            not_cleaned=not_cleaned,
+            hidden=frozenset(found),
+        )
 
-    def of_release(self, names: set[str], times: dict[str, int]) -> set[str]:
+    def of_release(self, names: set[str]) -> set[str]:
         """Those of these files that came with a release, though `make clean` removes them: they
         were there when it was configured, and are about as old as its other files."""
+        times = self.times
         configured = [
             stamp for name, stamp in times.items() if os.path.basename(name) == "config.status"
         ]
@@ -101,19 +105,34 @@ class Leftovers:
         limit = min(min(configured), newest + A_DAY)
         return {name for name in names if times.get(name, limit) < limit}
 
-    def show(self, names: set[str]) -> None:
-        """Lets copies have files again, since a build without them fails. The copies that are there
-        are made anew."""
-        self.shown_again += sorted(names)
-        self.copies.hidden -= names
-        self.copies.forget()
+    def without(self, names: set[str]) -> Leftovers:
+        """The same where copies have these files, since a build without them fails."""
+        return replace(
+            self,
+            hidden=self.hidden - names,
+            shown_again=(*self.shown_again, *sorted(names)),
+        )
+
+    def with_dependencies(self, folder: str, makes: list[Make]) -> Leftovers:
+        """The same, with the dependency files in a folder that name prerequisites before any recipe
+        has run."""
+        found: dict[str, None] = {}
+        for make in makes:
+            for text in make.makefiles:
+                name = path_name(self.copies.seen, make.folder, text)
+                is_made = any(rule.has_recipe for rule in make.base.rules.get(text, []))
+                if name in self.there and name not in self.hidden and not is_made:
+                    found.setdefault(name)
+        paths = {name: os.path.join(folder, name) for name in found}
+        told = {name for name, path in paths.items() if is_dependency_file(path) and has_rule(path)}
+        return replace(self, dependencies=self.dependencies | told)
 
     def sentence(self) -> str:
         """What is added to the sentence on a build that fails."""
-        if not self.copies.hidden:
+        if not self.hidden:
             return ""
         return (
-            f" (it was built without {self.some(self.copies.hidden)}, which an earlier build left;"
+            f" (it was built without {self.some(self.hidden)}, which an earlier build left;"
             " with --keep what is there is taken as it is)"
         )
 
@@ -122,25 +141,11 @@ class Leftovers:
         files = sorted(name for name in names if f"{name}/" not in self.there and name[-1:] != "/")
         return f"{counted(len(files), 'file')} ({', '.join(files[:5])}{', ..' * (len(files) > 5)})"
 
-    def find_dependencies(self, folder: str, makes: list[Make]) -> None:
-        """Finds dependency files in a folder that name prerequisites before any recipe has run."""
-        found: dict[str, None] = {}
-        for make in makes:
-            for text in make.makefiles:
-                name = path_name(self.copies.seen, make.folder, text)
-                is_made = any(rule.has_recipe for rule in make.base.rules.get(text, []))
-                if name in self.there and name not in self.copies.hidden and not is_made:
-                    found.setdefault(name)
-        paths = {name: os.path.join(folder, name) for name in found}
-        self.dependencies |= {
-            name for name, path in paths.items() if is_dependency_file(path) and has_rule(path)
-        }
-
-    def name(self, build: Build, times: dict[str, int], keep: bool) -> None:
+    def name(self, build: Build, times: Mapping[str, int], keep: bool) -> None:
         """Names what was hidden, and targets of which it isn't known whose they are. With `keep`
         all that is there is the project's. `times` are those of the files before the build."""
-        if self.copies.hidden:
-            some = self.some(self.copies.hidden)
+        if self.hidden:
+            some = self.some(self.hidden)
             left, taken = ("is", "it is") if some.startswith("1 ") else ("are", "they are")
             build.note(
                 f"{some} of an earlier build {left} left out, so that the build begins from"
@@ -152,7 +157,7 @@ class Leftovers:
                 f"{some} that `make clean` removes stayed as they are, since a build fails without"
                 " them"
             )
-        build.old_dependencies = self.dependencies
+        build.old_dependencies = set(self.dependencies)
         if keep or self.is_cleaned:
             return
         why = ""
@@ -172,7 +177,7 @@ class Leftovers:
         elif why:
             build.note(why)
 
-    def came_with_it(self, build: Build, name: str, times: dict[str, int]) -> bool:
+    def came_with_it(self, build: Build, name: str, times: Mapping[str, int]) -> bool:
         """Whether a target came with the project: git tracks it, or it isn't newer than the
         makefile with its rule."""
         if self.tracked is not None:
@@ -199,7 +204,7 @@ def has_clean(make: Make) -> bool:
     return any(rule.is_target for rule in make.base.rules.get(CLEAN, []))
 
 
-def targets_there(root: str, makes: list[Make], there: set[str]) -> set[str]:
+def targets_there(root: str, makes: list[Make], there: Container[str]) -> set[str]:
     """The files that are there, though recipes of the goals make them."""
     found = set()
     for make in makes:
@@ -210,7 +215,7 @@ def targets_there(root: str, makes: list[Make], there: set[str]) -> set[str]:
     return {name for name in found if name in there and f"{name}/" not in there}
 
 
-def tracked_files(folder: str) -> set[str] | None:
+def tracked_files(folder: str) -> frozenset[str] | None:
     """The files of a folder that git tracks; None where it isn't one of git's, or where git isn't
     there."""
     words = ["git", "-C", folder, "ls-files", "-z", "--recurse-submodules"]
@@ -224,7 +229,7 @@ def tracked_files(folder: str) -> set[str] | None:
     if done.returncode != 0:
         return None
     names = done.stdout.decode("utf-8", "surrogateescape").split("\0")
-    return set(filter(None, names)) or None
+    return frozenset(filter(None, names)) or None
 
 
 def has_rule(path: str) -> bool:

@@ -10,7 +10,7 @@ import contextlib
 import os
 import re
 import shutil
-from collections.abc import Iterable, Iterator
+from collections.abc import Iterable, Iterator, Mapping
 
 from mkcheck_tools.book.footprint_files import Footprints, Record
 from mkcheck_tools.imports.builds import Build, Node, path_name
@@ -38,25 +38,30 @@ class Probing:
         self,
         build: Build,
         footprints: Footprints,
-        root: str,
+        looked: Mapping[str, list[str]],
         built: Place | None,
         environment: dict[str, str],
     ) -> None:
-        self.build, self.footprints, self.root = build, footprints, root
+        self.build, self.footprints, self.looked = build, footprints, looked
         self.built, self.environment = built, environment
         made = [name for name in build.made if name.endswith("/")]
         self.folders = sorted(name.rstrip("/") for name in made)
         self.words: dict[str, set[str]] = {}
 
-    def probe(self) -> None:
-        """Adds a problem for each recipe to which such a folder matters."""
-        left = TRIED_AT_MOST
+    def waiting(self) -> Iterator[tuple[Node, Record, list[str]]]:
+        """The recipes to which such folders may matter, each with these folders, but for those that
+        were tried."""
         for record in list(self.footprints.records.values()) if self.folders else ():
             node = self.build.nodes.get(record.target)
             found = self.met(node, record) if node is not None else []
             found = [name for name in found if f"{record.target} {name}" not in self.build.tried]
-            if node is None or not found:
-                continue
+            if node is not None and found:
+                yield node, record, found
+
+    def probe(self) -> None:
+        """Adds a problem for each recipe to which such a folder matters."""
+        left = TRIED_AT_MOST
+        for node, record, found in self.waiting():
             text = self.sentence(node, found[0])
             if self.built is None:
                 self.build.problem(
@@ -88,7 +93,7 @@ class Probing:
         what = self.tried(node, record, folders)
         if what == "":
             self.build.tried.update(f"{record.target} {name}" for name in folders)
-            looked = self.build.looked.get(record.target, [])
+            looked = self.looked.get(record.target, [])
             for name in (name for name in folders if f"{name}/" in looked):
                 self.build.note(
                     f"{self.where(node)}: the recipe of {node.name} reads the names in the folder"
@@ -114,7 +119,7 @@ class Probing:
         """The folders that may matter to a recipe: it names them or looks at them, uses no file in
         them, and doesn't always run when the recipes do that make them."""
         used = [*record.reads, *record.writes]
-        words, looked = self.words_of(node, record), self.build.looked.get(record.target, [])
+        words, looked = self.words_of(node, record), self.looked.get(record.target, [])
         found = []
         for name in self.folders:
             if name == node.name:
@@ -130,14 +135,14 @@ class Probing:
         """The words of a recipe, and of the scripts of the project that it reads, as paths."""
         if record.target not in self.words:
             texts = [(node.setting.folder, command.text) for command in node.commands]
-            place = self.built.folder if self.built is not None else self.root
+            place = self.built.folder if self.built is not None else self.build.root
             for name in record.reads:
                 path = os.path.join(place, name)
                 if not name.startswith("/") and os.access(path, os.X_OK) and is_short(path):
                     text = content(path).decode("utf-8", "replace")
                     texts += [(node.setting.folder, text)] if text.startswith("#!") else []
             self.words[record.target] = {
-                path_name(self.root, os.path.join(self.root, folder), word)
+                path_name(self.build.root, os.path.join(self.build.root, folder), word)
                 for folder, text in texts
                 for word in BETWEEN_WORDS.split(text)
                 if word

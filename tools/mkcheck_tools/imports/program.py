@@ -3,14 +3,15 @@
 from __future__ import annotations
 
 import argparse
-import os
 import sys
 
 from mkcheck_tools import VERSION
 from mkcheck_tools.faults import Fault, sentence_of
+from mkcheck_tools.imports.desk import Desk
 from mkcheck_tools.imports.failing import BuildFault
-from mkcheck_tools.imports.importing import STEPS, Import
 from mkcheck_tools.imports.judging import RecordingFault
+from mkcheck_tools.imports.pipeline import STEPS, import_folder
+from mkcheck_tools.imports.request import Request, request_of
 from mkcheck_tools.run.folders import scratch_folder
 from mkcheck_tools.run.stopping import Stopped, catch_signals
 
@@ -65,29 +66,31 @@ def main(arguments: list[str]) -> int:
     asked = words_of(arguments)
     catch_signals()
     try:
-        with scratch_folder(os.path.realpath(asked.C)) as scratch:
-            return imported(asked, scratch)
+        request = request_of(asked)
+        with scratch_folder(request.root) as scratch:
+            return imported(request, scratch)
     except RecordingFault as fault:
         print(f"mkcheck-import: the recording failed:\n{str(fault).rstrip()}", file=sys.stderr)
     except Exception as error:
         print(f"mkcheck-import: {sentence_of(error, 'importer')}", file=sys.stderr)
     except Stopped as stopped:
-        print(f"mkcheck-import: stopped by {stopped.name}", file=sys.stderr)
+        rest = "" if request.look else "; the next import takes what this one has"
+        print(f"mkcheck-import: stopped by {stopped.name}{rest}", file=sys.stderr)
         return stopped.status
     return 2
 
 
-def imported(asked: argparse.Namespace, scratch: str) -> int:
+def imported(request: Request, scratch: str) -> int:
     """Imports, writes what was made however it ends, and gives the status."""
-    work = Import(asked, scratch)
+    desk = Desk(request, scratch)
     try:
-        return work.run()
+        return import_folder(request, desk, scratch)
     except BuildFault as fault:
-        work.log.append(fault.whole)
-        raise Fault(fault.short(work.log_path)) from None
+        desk.log.append(fault.whole)
+        raise Fault(fault.short(request.log)) from None
     finally:
-        if not asked.look:
-            work.write_output()
+        if not request.look:
+            desk.write_output()
 
 
 def run() -> None:

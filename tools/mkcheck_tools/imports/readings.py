@@ -96,13 +96,16 @@ class Readings:
     outside: dict[str, None] = field(default_factory=dict)
     """The files outside of the project that makes would write when they read their makefiles."""
 
+    seen: set[str] = field(default_factory=set)
+    """The paths of all files that makes, and what they start, read or looked at."""
+
     sentences: list[str] = field(default_factory=list)
     """What couldn't be tried."""
 
     def follow(
         self,
-        program: str,
         place: Place,
+        program: str,
         folder: str,
         words: list[str],
         more: dict[str, str],
@@ -118,6 +121,7 @@ class Readings:
         environment = {**outer_environment(), **more}
         done = Tracer(place, environment, scratch).run(command, Watch(looking=looking, texts=True))
         reader.follow(done.calls)
+        self.seen.update(reader.accesses.reads, reader.looked, reader.programs, reader.links)
         self.outside.update(dict.fromkeys(reader.accesses.forbidden))
         return reader
 
@@ -126,11 +130,11 @@ class Readings:
         return command.text in self.recipes or " ".join(command.words) in self.recipes
 
     def read_in(
-        self, program: str, place: Place, folder: str, words: list[str], more: dict[str, str]
+        self, place: Place, program: str, folder: str, words: list[str], more: dict[str, str]
     ) -> list[str]:
         """The files and links of the project that a make reads in a place and that are no
         makefiles."""
-        reader = self.follow(program, place, folder, words, more, looking=True)
+        reader = self.follow(place, program, folder, words, more, looking=True)
         programs = {path_name(place.seen, place.seen, path) for path in reader.programs}
         self.programs |= {name for name in programs if self.is_own(place, name)}
         paths = [path for path in reader.accesses.reads if path not in reader.programs]
@@ -147,12 +151,12 @@ class Readings:
         return [*(name for name in names if self.is_data(place, name)), *links]
 
     def outputs_used(
-        self, program: str, place: Place, folder: str, words: list[str], made: set[str]
+        self, place: Place, program: str, folder: str, words: list[str], made: set[str]
     ) -> set[str]:
         """Those of the files `made` that a make reads beside its makefiles, or at which a program
         looks that it starts when it reads them."""
         try:
-            reader = self.follow(program, place, folder, words, {}, looking=True)
+            reader = self.follow(place, program, folder, words, {}, looking=True)
         except Fault as fault:
             self.sentences.append(f"{UNKNOWN}: {fault}")
             return set()
@@ -161,12 +165,12 @@ class Readings:
         return {name for name in (names & made) - self.makefiles if self.is_own(place, name)}
 
     def find_outputs(
-        self, program: str, place: Place, folder: str, words: list[str], made: set[str]
+        self, place: Place, program: str, folder: str, words: list[str], made: set[str]
     ) -> None:
         """Finds those of the files `made` that a make reads beside its makefiles, in a place in
         which all that it makes is there, and out of date."""
         try:
-            reader = self.follow(program, place, folder, words, {})
+            reader = self.follow(place, program, folder, words, {})
         except Fault:
             return
         for path, commands in reader.accesses.readers.items():
@@ -174,10 +178,10 @@ class Readings:
             if name in made - self.makefiles and not reader.starting.issuperset(commands):
                 self.outputs.setdefault(name)
 
-    def try_all(self, program: str, place: Place, folder: str, words: list[str]) -> None:
+    def try_all(self, place: Place, program: str, folder: str, words: list[str]) -> None:
         """Finds the files that make reads in a place, and tries each."""
         try:
-            names = self.read_in(program, place, folder, words, {})
+            names = self.read_in(place, program, folder, words, {})
         except Fault as fault:
             self.sentences.append(f"{UNKNOWN}: {fault}")
             return
@@ -224,7 +228,7 @@ class Readings:
             own = [*make.words, *words]
             try:
                 names = self.read_in(
-                    program, place, make.folder, own, own_environment(make.environment)
+                    place, program, make.folder, own, own_environment(make.environment)
                 )
             except Fault as fault:
                 self.sentences.append(f"{UNKNOWN}: {fault}")

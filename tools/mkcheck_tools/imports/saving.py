@@ -6,10 +6,12 @@ import dataclasses
 import json
 from typing import Any
 
+from mkcheck_tools.book.note_files import Noted
 from mkcheck_tools.faults import Fault
 from mkcheck_tools.imports.builds import Build, Command, Kind, Node, Origin, Setting
+from mkcheck_tools.imports.recorded import Recorded
 
-FORMAT = 1
+FORMAT = 2
 SETS = (
     "configured",
     "makefiles",
@@ -23,9 +25,17 @@ SETS = (
 )
 
 
-def text_of_build(build: Build) -> str:
-    """The text of a build."""
-    return json.dumps({"format": FORMAT, "build": build}, default=plain_value)
+def text_of_build(build: Build, recorded: Recorded | None = None) -> str:
+    """The text of a build, with what the recorder said of it; its notes have a file of their
+    own."""
+    said = {}
+    if recorded is not None:
+        said = {
+            "unrecorded": dict(recorded.unrecorded),
+            "warnings": list(recorded.warnings),
+            "looked": dict(recorded.looked),
+        }
+    return json.dumps({"format": FORMAT, "build": build, "recorded": said}, default=plain_value)
 
 
 def plain_value(value: object) -> object:
@@ -49,6 +59,14 @@ def build_of_text(text: str) -> Build:
         return Build(**fields)
     except (ValueError, KeyError, TypeError) as error:
         raise Fault(f"the saved translation can't be read ({error}): import again") from None
+
+
+def recorded_of_text(text: str, noted: Noted) -> Recorded:
+    """What the recorder said, of a text that `build_of_text` takes; `noted` are its notes."""
+    values = json.loads(text)["recorded"]
+    if not values:
+        return Recorded(noted=noted)
+    return Recorded(values["unrecorded"], values["warnings"], noted, values["looked"])
 
 
 def node_of(values: dict[str, Any]) -> Node:

@@ -17,11 +17,13 @@ NOT_JUDGED = ": not judged"
 class Settling:
     """Changes the nodes of a build, and its footprints, to what the recording shows.
 
-    `before` has the files and folders that are there before the build.
+    `before` has the files and folders that are there before the build. `renamed` are nodes that
+    have another name then.
     """
 
     def __init__(self, build: Build, footprints: Footprints, before: set[str]) -> None:
         self.build, self.footprints, self.before = build, footprints, before
+        self.renamed: dict[str, str] = {}
         self.writers = footprints.writers
 
     def exists(self, name: str) -> bool:
@@ -291,8 +293,7 @@ class Settling:
             other.order_only = [new if n == old else n for n in other.order_only]
             other.late = [new if n == old else n for n in other.late]
             other.first_only = [new if n == old else n for n in other.first_only]
-        if old in self.build.looked:
-            self.build.looked[new] = self.build.looked.pop(old)
+        self.renamed[old] = new
         record = self.footprints.records.pop(old, None)
         if record is not None:
             record.target = new

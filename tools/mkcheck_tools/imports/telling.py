@@ -8,10 +8,11 @@ import sys
 import threading
 import time
 from collections.abc import Callable
-from typing import TextIO
+from typing import TextIO, TypeVar
 
 from mkcheck_tools.run.progress import CLEAR, duration
 
+Given = TypeVar("Given")
 # How often a terminal and another file get a line, in seconds.
 SECONDS_ON_TERMINAL = 1.0
 SECONDS_ELSEWHERE = 60.0
@@ -42,7 +43,7 @@ class Telling:
             front = CLEAR if self.terminal else ""
             print(f"{front}mkcheck-import: {text}", file=self.stream, flush=True)
 
-    def during(self, word: str, look: Callable[[], str], action: Callable[[], str]) -> str:
+    def during(self, word: str, look: Callable[[], str], action: Callable[[], Given]) -> Given:
         """Does a step, and tells meanwhile how far it is: `look` gives a text with counts."""
         ended = threading.Event()
         begun = time.monotonic()

@@ -1,0 +1,205 @@
+"""A folder in which GNU make is started, and what make shows there before a build."""
+
+from __future__ import annotations
+
+import os
+from collections.abc import Mapping
+from dataclasses import dataclass, replace
+
+from mkcheck_tools.faults import Fault
+from mkcheck_tools.imports.commands import is_export
+from mkcheck_tools.imports.confining import OWN, Confined
+from mkcheck_tools.imports.copies import Copies, links_in, listing
+from mkcheck_tools.imports.gnumake import (
+    Make,
+    content,
+    find_make,
+    last_words,
+    run_make,
+    version_of,
+    wrapper_in,
+)
+from mkcheck_tools.imports.inherited import all_macros
+from mkcheck_tools.imports.leaving import times_in
+from mkcheck_tools.imports.leftovers import Leftovers
+from mkcheck_tools.imports.transcripts import MARK
+
+ENOUGH = (4, 0)
+# What stands in the output of a make before each command.
+COMMAND_MARK = f"{MARK}\t".encode()
+
+
+@dataclass(frozen=True)
+class MakeFolder:
+    """Starts GNU make in one folder of a project, always with the same words."""
+
+    copies: Copies
+    folder: str
+    """The folder in which make starts, a path from the root."""
+
+    words: tuple[str, ...]
+    scratch: str
+    keep: bool = False
+    """Whether what is there already is taken as it is."""
+
+    is_built: bool = False
+    """Whether the translation is to be of a real build, and not of what `make -n` shows."""
+
+    program: str = ""
+    version: str = ""
+
+    watched: tuple[str, ...] = ()
+    """The macros whose values are shown with each command."""
+
+    hint: str = ""
+    """What is added to the sentence on makefiles that can't be read."""
+
+    @property
+    def wrapper(self) -> str:
+        """The path of the script that stands for make in commands."""
+        return wrapper_in(self.scratch)
+
+    @property
+    def top(self) -> str:
+        """The path of the folder, as make sees it."""
+        return os.path.normpath(os.path.join(self.copies.seen, self.folder))
+
+    def run(
+        self,
+        word: str,
+        is_real: bool,
+        words: list[str] | None = None,
+        folder: str | None = None,
+        more: dict[str, str] | None = None,
+        seconds: float | None = None,
+    ) -> list[Make]:
+        """Runs make in a copy. `words`, if given, replace its own words, and `folder` the folder in
+        which it starts; `more` are further variables of the environment. With `seconds`, a limit of
+        its time, make can change nothing but the copy."""
+        place = self.copies.shut(word)
+        if seconds is not None:
+            place, more = Confined(place.folder, place.seen, own=(self.scratch,)), OWN
+        folder = folder or os.path.normpath(os.path.join(place.seen, self.folder))
+        words = list(self.words) if words is None else words
+        how = is_real, list(self.watched), more, seconds
+        makes = run_make(self.program, place, folder, words, self.scratch, *how)
+        if not makes[0].transcript.is_whole:
+            said = last_words(makes[0].errors)
+            raise Fault(f"GNU make could not read its makefile: {said}{self.hint}")
+        return makes
+
+    def begun(self) -> int:
+        """How many commands the present make has begun."""
+        names = os.listdir(self.scratch) if os.path.isdir(self.scratch) else []
+        outputs = (os.path.join(self.scratch, name) for name in names if name.endswith(".out"))
+        return sum(content(path).count(COMMAND_MARK) for path in outputs)
+
+    def own_words(self, text: str) -> str:
+        """A command in which make goes by the name of its program."""
+        return text.replace(self.wrapper, self.program)
+
+
+@dataclass(frozen=True)
+class MakeShown:
+    """What makes show of a build before it is made, and what is there then."""
+
+    front: MakeFolder
+    makes: list[Make]
+    leftovers: Leftovers
+    exported: Mapping[str, set[str]]
+    """For each folder of a make the macros that single targets export."""
+
+    files: set[str]
+    times: dict[str, int]
+    """The times of the files before the build."""
+
+    read_made: set[str]
+    """The files that make made or changed when it read its makefiles."""
+
+    links: dict[str, str]
+
+    @property
+    def commands(self) -> int:
+        """How many commands are shown."""
+        return sum(len(make.transcript.spots) for make in self.makes)
+
+
+def make_folder(copies: Copies, folder: str, words: tuple[str, ...], scratch: str) -> MakeFolder:
+    """The folder of a build, with the program of GNU make; raises `Fault` where there is none that
+    is new enough."""
+    program = find_make()
+    version = version_of(program)
+    if tuple(map(int, version.split()[-1].split(".")[:2])) < ENOUGH:
+        raise Fault(f"{version} is too old: GNU make 4.0 or a later one is needed")
+    return MakeFolder(copies, folder, words, scratch, program=program, version=version)
+
+
+def shown_by(front: MakeFolder) -> MakeShown:
+    """What make would do, without what an earlier build left."""
+    place = front.copies.place("read")
+    times = times_in(place.folder)
+    leftovers = Leftovers(front.copies, frozenset(listing(place.folder)), times)
+    makes = front.run("read", is_real=False)
+    if not front.keep:
+        leftovers = leftovers.found(makes, front.words, front.run)
+        front.copies.hide(set(leftovers.hidden))
+        front = replace(front, hint=leftovers.sentence())
+        if leftovers.hidden:
+            makes = front.run("read", is_real=False)
+    return learned(front, makes, leftovers, times)
+
+
+def shown_with(shown: MakeShown, names: set[str]) -> MakeShown:
+    """The same where the copies have files that were hidden, since a build without them fails."""
+    leftovers = shown.leftovers.without(names)
+    front = replace(shown.front, hint=leftovers.sentence())
+    front.copies.show(names)
+    times = times_in(front.copies.place("read").folder)
+    found = learned(front, front.run("read", is_real=False), leftovers, times)
+    return replace(found, exported={**shown.exported, **found.exported})
+
+
+def learned(
+    front: MakeFolder, makes: list[Make], leftovers: Leftovers, times: dict[str, int]
+) -> MakeShown:
+    """What makes showed, and what is there before a build. `times` are those of the files before a
+    make read its makefiles."""
+    place = front.copies.place("read")
+    exported: dict[str, set[str]] = {}
+    watched = dict.fromkeys(front.watched)
+    for make in makes:
+        own = exported_by(make, front.copies, place.folder)
+        exported.setdefault(make.folder, set()).update(own)
+        watched.update(dict.fromkeys(watched_in(make, own)))
+    if len(watched) > len(front.watched):
+        front = replace(front, watched=tuple(watched))
+        makes = front.run("read", is_real=False)
+    after = times_in(place.folder)
+    return MakeShown(
+        front,
+        makes,
+        leftovers.with_dependencies(place.folder, makes),
+        {folder: names for folder, names in exported.items() if names},
+        listing(place.folder),
+        after,
+        {name for name, stamp in after.items() if times.get(name) != stamp},
+        links_in(place.folder),
+    )
+
+
+def watched_in(make: Make, exported: set[str]) -> list[str]:
+    """The macros that are set for some targets alone, and that recipes find in their environment:
+    those that single targets export, and those of the environment."""
+    names = (macro.name for macro in all_macros(make.base))
+    return [
+        name
+        for name in names
+        if (name in exported or name in make.environment) and name not in ("SHELL", "MAKEFLAGS")
+    ]
+
+
+def exported_by(make: Make, copies: Copies, folder: str) -> set[str]:
+    """The macros that single targets of a make export; the project lies in a folder."""
+    inside = folder + make.folder[len(copies.seen) :]
+    is_all = ".EXPORT_ALL_VARIABLES" in make.base.rules
+    return {macro.name for macro in all_macros(make.base) if is_all or is_export(macro, inside)}

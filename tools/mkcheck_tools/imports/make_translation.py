@@ -1,0 +1,160 @@
+"""The translation of a build of GNU make, with what make knows after it where it was made."""
+
+from __future__ import annotations
+
+import contextlib
+
+from mkcheck_tools.imports.answers import counted
+from mkcheck_tools.imports.builds import Build, path_name
+from mkcheck_tools.imports.depfiles import DepfileFault, read_depfile
+from mkcheck_tools.imports.gnumake import Make, content, last_words, outer_environment, passing
+from mkcheck_tools.imports.later import add_later
+from mkcheck_tools.imports.leaving import leave_alone
+from mkcheck_tools.imports.make_built import MakeBuilt
+from mkcheck_tools.imports.make_folder import MakeFolder, MakeShown
+from mkcheck_tools.imports.overlaps import name_overlaps
+from mkcheck_tools.imports.own_folders import take_longer
+from mkcheck_tools.imports.real_commands import take_unseen, to_build
+from mkcheck_tools.imports.rereading import changed, is_dependency_file, place_of
+from mkcheck_tools.imports.translating import Translation
+from mkcheck_tools.imports.unchanged import mark_unchanged
+
+# How the names of dependency files end.
+DEPENDENCY_ENDINGS = (".d", ".dep", ".deps", ".P", ".Po", ".Plo")
+
+
+def shown_build(shown: MakeShown) -> Build:
+    """The build as `make -n` shows it."""
+    front = shown.front
+    translation = Translation(
+        front.copies.seen, shown.makes, shown.files, None, front.wrapper, outer_environment()
+    )
+    translation.links, translation.exported = shown.links, dict(shown.exported)
+    build = translation.translate()
+    build.tool = front.version
+    name_overlaps(translation)
+    name_makefiles(translation, shown.makes, set())
+    name_passing(build, front, shown.makes)
+    build.read_made = set(shown.read_made)
+    shown.leftovers.name(build, shown.times, front.keep)
+    return build
+
+
+def made_build(built: MakeBuilt) -> Build:
+    """The build as make made it."""
+    shown, front = built.shown, built.shown.front
+    makes = shown.makes
+    reason = "--build was given" if front.is_built else to_build(shown.makes, built.makes)
+    if reason:
+        makes = built.makes
+        take_unseen(built.makes, shown.makes)
+    for others in (shown.makes, built.makes, built.later):
+        take_longer(makes, others)
+    leave_alone(front.copies.seen, makes, shown.times, built.times)
+    translation = Translation(
+        front.copies.seen, makes, shown.files, built.files, front.wrapper, outer_environment()
+    )
+    translation.links, translation.exported = built.links, dict(shown.exported)
+    build = translation.translate()
+    translation.name_failed(built.makes)
+    build.made = built.made
+    build.tool = front.version
+    if reason:
+        build.note(f"the commands are those of a real build, not of `make -n`: {reason}")
+    files = built.makefiles.dependencies
+    written = {name for name in files if shown.times.get(name) != built.times.get(name)}
+    add_later(translation, built.after, written)
+    build.unread = unread_dependencies(built)
+    if built.unchanged:
+        place = front.copies.shut("built")
+        mark_unchanged(build, built.unchanged, place, outer_environment())
+    name_overlaps(translation)
+    name_makefiles(translation, makes, files)
+    name_changes(build, built, makes)
+    build.makefiles, build.read_again = built.makefiles.unmade, built.read_again
+    build.read_made = shown.read_made - built.read_again
+    shown.leftovers.name(build, shown.times, front.keep)
+    return build
+
+
+def name_changes(build: Build, built: MakeBuilt, makes: list[Make]) -> None:
+    """Names what isn't the same in each make, or only in the makefiles as they were read."""
+    shown, front = built.shown, built.shown.front
+    varying = set()
+    for make, rule, what in changed(makes, built.later):
+        varying.add((make.folder, rule.name))
+        where, name = place_of(front.copies.seen, make, rule)
+        build.problem(
+            f"{where}: after a build make has other commands for {name}:"
+            f" {what.replace(front.wrapper, 'make')}, so what it does is judged for"
+            " the first ones alone",
+            name,
+        )
+    failed = [make for make in built.later if make.status != 0]
+    if failed and all(make.status == 0 for make in shown.makes):
+        build.problem(
+            "make fails after a build when all sources have new times, so it isn't known"
+            f" whether it has the same commands then ({last_words(failed[0].errors)})"
+        )
+    name_passing(build, front, makes)
+    for text in built.sentences:
+        build.problem(text)
+    built.readings.name(build, varying)
+
+
+def name_passing(build: Build, front: MakeFolder, makes: list[Make]) -> None:
+    """Names the makes that don't do what their makefiles say."""
+    for make, option in ((make, passing(make)) for make in makes):
+        if option:
+            folder = path_name(front.copies.seen, front.copies.seen, make.folder)
+            build.problem(
+                f"a recipe starts make in {folder} with {option}, by which it runs nothing or"
+                " passes over files: what it does then isn't judged; leave that option out"
+            )
+
+
+def unread_dependencies(built: MakeBuilt) -> dict[str, list[str]]:
+    """The dependency files that a build wrote and no make reads, each with what it names."""
+    copies = built.shown.front.copies
+    folder = copies.place("built").folder
+    read = {
+        path_name(copies.seen, make.folder, text)
+        for make in [*built.makes, *built.after]
+        for text in make.makefiles
+    }
+    found = {}
+    for name in sorted(built.made - read):
+        if name.endswith(DEPENDENCY_ENDINGS) and is_dependency_file(f"{folder}/{name}"):
+            text = content(f"{folder}/{name}").decode("utf-8", "surrogateescape")
+            with contextlib.suppress(DepfileFault):
+                words = read_depfile(text).prerequisites
+                places = {make.folder for make in built.makes}
+                found[name] = [
+                    path_name(copies.seen, place, word) for place in places for word in words
+                ]
+    return found
+
+
+def name_makefiles(translation: Translation, makes: list[Make], dependency_files: set[str]) -> None:
+    """Notes the makefiles that make would make anew, which is left out."""
+    found: dict[str, None] = {}
+    for make in makes:
+        view = translation.views.get(make.key)
+        if view is None:
+            continue
+        for name in make.makefiles:
+            rules = make.base.rules.get(name, [])
+            if any(rule.has_recipe for rule in rules):
+                path = translation.path(view, name)
+                found[path] = None
+                needs = [word for rule in rules for word in rule.needs]
+                if path not in dependency_files:
+                    needed = [translation.path(view, word) for word in needs]
+                    translation.build.remade.setdefault(path, needed)
+    if found:
+        some = ", ".join(list(found)[:5]) + (" .." if len(found) > 5 else "")
+        made = "they are" if len(found) > 1 else "it is"
+        translation.build.note(
+            f"{counted(len(found), 'makefile')} that make makes anew when what {made} made"
+            f" from changes ({some}): that is left out"
+        )

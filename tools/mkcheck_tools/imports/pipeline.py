@@ -1,0 +1,541 @@
+"""An import, from what is asked for to the answer: what the tool says, the build, its translation,
+the recording, what that settles, and the verdict. Each step gives a value that the next one takes.
+"""
+
+from __future__ import annotations
+
+import copy
+import json
+import os
+import secrets
+import shutil
+import sys
+from collections.abc import Iterable, Sequence
+from dataclasses import dataclass, replace
+from functools import partial
+from pathlib import Path
+from typing import Generic
+
+from mkcheck_tools.answers.checkers import find_checker
+from mkcheck_tools.book.footprint_files import Footprints
+from mkcheck_tools.book.note_files import path_of_notes
+from mkcheck_tools.book.states import State, Unusable, path_of_state
+from mkcheck_tools.book.states import read as read_state
+from mkcheck_tools.book.states import read_choice
+from mkcheck_tools.book.updating import Conditions
+from mkcheck_tools.faults import Fault
+from mkcheck_tools.imports.answers import AS_FAR_AS_JUDGED, answer_of, counted, status_of
+from mkcheck_tools.imports.builds import Build
+from mkcheck_tools.imports.configured import configured_files, configuring
+from mkcheck_tools.imports.copies import Copies, listing
+from mkcheck_tools.imports.desk import BOOK, LOG, SAVED, Desk
+from mkcheck_tools.imports.gnumake import outer_environment
+from mkcheck_tools.imports.judging import FIRST, BuildVerdict, Judge, RecordingFault, write
+from mkcheck_tools.imports.kept import (
+    Answer,
+    Kept,
+    Now,
+    change_of,
+    digest_of_value,
+    files_of,
+    made_in,
+)
+from mkcheck_tools.imports.leftovers import tracked_files
+from mkcheck_tools.imports.probing import Probing
+from mkcheck_tools.imports.recorded import Recorded, lines_of
+from mkcheck_tools.imports.request import Request
+from mkcheck_tools.imports.saving import build_of_text, recorded_of_text, text_of_build
+from mkcheck_tools.imports.sentences import Sentences
+from mkcheck_tools.imports.settling import Settling
+from mkcheck_tools.imports.tools import Built, NinjaTool, Shown, Tool, program_of, tool_of
+from mkcheck_tools.judge.notes import Kind
+from mkcheck_tools.replay.versions import digest_of
+from mkcheck_tools.run import places
+from mkcheck_tools.run.folders import prefix_of
+from mkcheck_tools.run.places import Place
+from mkcheck_tools.trace.tracing import strace
+
+STEPS = ("read", "translate", "graph", "record", "check")
+# The kinds of notes on what the translation has in it.
+OF_TRANSLATION = frozenset({Kind.BUILT_IN_RULE, Kind.UNLOOKED, Kind.WAIT})
+WITHOUT_BUILD = (
+    "it was translated without a build (--only translate), so what the build tool knows only after"
+    " one, as dependency files, isn't in it: import without --only"
+)
+
+
+@dataclass(frozen=True)
+class Translated:
+    """A translated build, and what writes, records and checks it. `text` is the build as a text,
+    before anything settles it."""
+
+    build: Build
+    judge: Judge
+    has_first: bool
+    text: str
+
+
+@dataclass(frozen=True)
+class Settled:
+    """A build and its footprints as the recording settles them; at which folders its recipes
+    looked."""
+
+    build: Build
+    footprints: Footprints
+    looked: dict[str, list[str]]
+
+
+@dataclass(frozen=True)
+class Judged:
+    """A build as the recording settles it, its footprints, and what was found of it."""
+
+    build: Build
+    footprints: Footprints
+    verdict: BuildVerdict
+    has_first: bool
+
+
+@dataclass(frozen=True)
+class Recording:
+    """A recording: what the recorder said, and what it knows of each recipe."""
+
+    recorded: Recorded
+    count: str
+    """How many of all recipes were recorded, where some were known already."""
+
+    state: State | None
+    recipes: int
+    """How many recipes have a record."""
+
+    digest: str
+    """A digest of all that the recorder gave."""
+
+    def made(self, reread: Sequence[str]) -> str:
+        """A digest of what recipes made, as `made_in` gives it; empty where it isn't known."""
+        if self.state is None or len(self.state.entries) != self.recipes:
+            return ""
+        return made_in(self.state, reread) or ""
+
+
+def import_folder(request: Request, desk: Desk, scratch: str) -> int:
+    """Does the steps that are asked for, and gives the status. What was made is written however
+    they end."""
+    find_programs(request)
+    left_out = (request.output, os.path.join(request.root, ".mkcheck"))
+    copies = Copies(request.root, os.path.join(scratch, "copies"), left_out)
+    if request.only in ("graph", "record", "check"):
+        return saved_step(request, desk, copies)
+    tool = tool_of(request, copies, scratch)
+    if isinstance(tool, NinjaTool):
+        return Import(request, desk, copies, tool).run()
+    return Import(request, desk, copies, tool).run()
+
+
+def find_programs(request: Request) -> None:
+    """Finds mkcheck, its recorder and strace; what isn't there is told before the build."""
+    if request.only not in ("read", "translate") and not request.look:
+        find_checker(Path(sys.argv[0]).resolve().parent)
+        recorder()
+    if request.only in (None, "record") and not request.look:
+        strace()
+
+
+def recorder() -> Path:
+    """The recorder, which lies beside this program."""
+    beside = Path(sys.argv[0]).resolve().parent / "mkcheck-record"
+    found = str(beside) if beside.exists() else shutil.which("mkcheck-record")
+    if found is None:
+        raise Fault("mkcheck-record isn't there: it belongs beside mkcheck-import")
+    return Path(found)
+
+
+def checker() -> str:
+    """The program mkcheck."""
+    return os.path.abspath(find_checker(Path(sys.argv[0]).resolve().parent))
+
+
+def environment() -> dict[str, str]:
+    """The environment of the recorder and of mkcheck."""
+    return {**outer_environment(), "MKCHECK": checker()}
+
+
+def judge_of(build: Build, place: Place, desk: Desk) -> Judge:
+    """What writes, records and checks a build."""
+    return Judge(build, place, desk.drafts, checker(), environment())
+
+
+@dataclass(frozen=True)
+class Import(Generic[Shown, Built]):
+    """The steps of one import by one build tool."""
+
+    request: Request
+    desk: Desk
+    copies: Copies
+    tool: Tool[Shown, Built]
+
+    def run(self) -> int:
+        """Does the steps, and gives the status."""
+        only = self.request.only
+        shown = self.desk.step("read", self.tool.read, self.tool.word)
+        if only == "read":
+            return 0
+        if self.request.look:
+            return look(self.translated(shown, None), self.desk)
+        if only == "translate":
+            built = self.built(shown) if self.request.build else None
+            return end_early(self.translated(shown, built).build)
+        now = now_of(self.request, self.tool.said(shown), self.tool.hidden(shown))
+        status = self.again(now)
+        return self.anew(shown, now) if status is None else status
+
+    def built(self, shown: Shown) -> Built:
+        """Lets the tool build in a copy."""
+        how_far = partial(self.tool.how_far, shown)
+        build = partial(self.tool.build, shown)
+        return self.desk.step("build", build, self.tool.word_of_build, how_far)
+
+    def translated(self, shown: Shown, built: Built | None) -> Translated:
+        """The translation, which is written."""
+
+        def translate() -> Translated:
+            if built is not None:
+                build = self.tool.translate_built(built)
+            else:
+                build = self.tool.translate(shown)
+                if self.request.only is not None:
+                    build.problem(WITHOUT_BUILD)
+            place = self.copies.place("read")
+            add_configured(build, place, self.request.configured)
+            return written(build, place, self.desk)
+
+        translated = self.desk.step("translate", translate, word_of_translation)
+        for text in translated.build.problems if self.request.only is None else ():
+            self.desk.say(f"not judged: {text}")
+        return translated
+
+    def anew(self, shown: Shown, now: Now) -> int:
+        """Builds, translates, records and checks; gives the status."""
+        built = self.built(shown)
+        basis = self.tool.basis(built)
+        translated = self.translated(shown, built)
+        if translated.build.failed:
+            raise Fault(translated.build.failed)
+        judge = translated.judge
+        self.desk.step("graph", partial(judge.graph, translated.has_first), str)
+        kept = now.kept(basis, translated.text, secrets.token_hex(16))
+        self.desk.keep(kept)
+        recording = recorded(self.request, translated, self.desk)
+        judged = judged_by(translated, recording, self.desk, self.copies)
+        return self.answer(judged, recording, kept)
+
+    def again(self, now: Now) -> int | None:
+        """Does as much as the last import left to do, and gives the status; None where all has to
+        be done, since it isn't sure that its translation still holds."""
+        kept = self.desk.take_kept()
+        if kept is None:
+            return None
+        change = change_of(kept, now)
+        if change.why:
+            self.refuse(change.why)
+            return None
+        place = self.copies.place("read")
+        translated = written(build_of_text(kept.build), place, self.desk)
+        try:
+            recording = recorded(self.request, translated, self.desk)
+        except RecordingFault:
+            self.refuse("a recipe can't be recorded")
+            return None
+        if change.is_edited:
+            if recording.recorded.unrecorded:
+                self.refuse("a recipe can't be recorded")
+                return None
+            if not kept.made or recording.made(kept.reread) != kept.made:
+                self.refuse("recipes make other files now, or other dependency files")
+                return None
+        elif kept.answer is not None and kept.answer.recorded == recording.digest:
+            if self.desk.digests(self.request.output) == kept.answer.files:
+                return self.answer_before(kept.answer)
+        if is_probed(translated, recording):
+            self.refuse("recipes have to be tried in a copy that is built")
+            return None
+        judged = judged_by(translated, recording, self.desk, self.copies)
+        return self.answer(judged, recording, replace(kept, files=now.files))
+
+    def refuse(self, why: str) -> None:
+        """Tells why the last translation isn't taken."""
+        self.desk.say(f"translated anew, since {why}")
+
+    def answer_before(self, answer: Answer) -> int:
+        """Gives the answer of the last import, with all that belongs to it."""
+        self.desk.take_output()
+        self.desk.log_notes(build_of_text(self.desk.text(SAVED)).notes)
+        tell(answer.lines, self.desk)
+        return answer.status
+
+    def answer(self, judged: Judged, recording: Recording, kept: Kept) -> int:
+        """Prints the answer, keeps what the next import may take, and gives the status."""
+        lines, status = answer(self.request, judged, recording.recorded)
+        tell(lines, self.desk)
+        files = self.desk.digests(self.desk.drafts)
+        found = Answer(tuple(lines), status, recording.digest, files) if status != 2 else None
+        self.desk.keep(replace(kept, made=recording.made(kept.reread), answer=found))
+        return status
+
+
+# Steps
+
+
+def word_of_translation(translated: Translated) -> str:
+    """How many problems there are."""
+    return counted(len(translated.build.problems), "problem")
+
+
+def written(build: Build, place: Place, desk: Desk) -> Translated:
+    """A translated build, whose makefiles are written."""
+    judge = judge_of(build, place, desk)
+    text = text_of_build(build)
+    return Translated(build, judge, save(judge, desk), text)
+
+
+def save(judge: Judge, desk: Desk, said: Recorded | None = None) -> bool:
+    """Writes the makefiles, the map and the translation itself, with what the recorder said; tells
+    whether the first build is another one."""
+    has_first = judge.write_makefiles()
+    judge.write_map()
+    write(judge.path(SAVED), text_of_build(judge.build, said) + "\n")
+    desk.log_notes(judge.build.notes)
+    return has_first
+
+
+def add_configured(build: Build, place: Place, asked: tuple[str, ...]) -> None:
+    """Marks the files of a configure step that are there before the build."""
+    found = configured_files(place.folder, asked)
+    build.configured |= found.files
+    origins = {node.origin.makefile for node in build.nodes.values() if node.origin}
+    build.generators = {name: found.tools[name] for name in origins & found.files}
+    for text in found.notes:
+        build.note(text)
+    for name in configuring(build):
+        build.note(
+            f"{name}: its recipe runs config.status, so it is of the configure step, and is"
+            " recorded as it is, and not replayed"
+        )
+
+
+def look(translated: Translated, desk: Desk) -> int:
+    """Says what will be judged, as far as that is known without a build."""
+    build = translated.build
+    desk.step("graph", partial(translated.judge.graph, translated.has_first), str)
+    recipes = [node for node in build.nodes.values() if node.commands]
+    named = [node for node in recipes if node.name not in build.unjudged]
+    goals = ", ".join(build.goals[:5]) + (" .." if len(build.goals) > 5 else "")
+    all_of = f"{len(named)} of {counted(len(recipes), 'recipe')}"
+    print(f"{all_of} will be judged, for {goals}, by {build.tool}")
+    for heading, texts in (("Not judged:", build.problems), ("Notes:", build.notes)):
+        if texts:
+            print("\n".join(["", heading, *(f"    {text}" for text in texts)]))
+    return 0
+
+
+def recorded(request: Request, translated: Translated, desk: Desk) -> Recording:
+    """The recording of the first build, as far as it isn't known yet."""
+    record = partial(record_build, request, translated, desk)
+    return desk.step("record", record, word_of_recording, translated.judge.tail.text)
+
+
+def word_of_recording(recording: Recording) -> str:
+    """How many of all recipes were recorded, where some were known already."""
+    return recording.count
+
+
+def record_build(request: Request, translated: Translated, desk: Desk) -> Recording:
+    """Records the first build, and reads what the recorder gave."""
+    build, judge = translated.build, translated.judge
+    own = own_trusted(judge)
+    trusted = [*request.trusted, *own]
+    words = [word for prefix in request.fixed for word in ("--fixed", prefix)]
+    words += [word for target in trusted for word in ("--trust", target)]
+    words += [] if request.replay else ["--no-replay"]
+    desk.take_state()
+    if is_other_choice(desk.recording, request.fixed, trusted):
+        os.unlink(path_of_state(desk.recording))
+    text = judge.record(
+        [sys.executable, str(recorder()), *words], translated.has_first, desk.recording
+    )
+    shutil.copyfile(desk.recording, desk.path(BOOK))
+    if os.path.exists(path_of_notes(desk.recording)):
+        shutil.copyfile(path_of_notes(desk.recording), path_of_notes(desk.path(BOOK)))
+    desk.log += [line for line in text.splitlines() if line.startswith("mkcheck-record: ")]
+    lines = lines_of(text, own)
+    state = state_of(desk.recording)
+    folders = {name.rstrip("/") for name in build.made if name.endswith("/")}
+    if folders and state is None:
+        raise Fault("what recipes looked at isn't known: import again")
+    found = Recorded(
+        judge.unrecorded(lines.failures),
+        lines.warnings,
+        judge.notes(OF_TRANSLATION, frozenset(own)),
+        judge.looks(state, folders) if state is not None else {},
+    )
+    save(judge, desk, found)
+    return Recording(
+        found,
+        lines.count,
+        state,
+        len(judge.read_book().records),
+        digest_of_value([desk.text(BOOK), found.warnings, found.unrecorded, str(found.noted)]),
+    )
+
+
+def state_of(book: str) -> State | None:
+    """What the recorder knows of each recipe."""
+    try:
+        return read_state(path_of_state(book))
+    except Unusable:
+        return None
+
+
+def is_other_choice(book: str, fixed: Sequence[str], trusted: Sequence[str]) -> bool:
+    """Whether the recording before was asked for something that this one isn't: the recorder would
+    take that from it."""
+    before = read_choice(path_of_state(book))
+    if before is None:
+        return False
+    asked = {name if name in before.steady else prefix_of(name) for name in fixed}
+    is_other = {*before.prefixes, *before.steady} != asked
+    return is_other or bool(before.trusted and not trusted)
+
+
+def own_trusted(judge: Judge) -> list[str]:
+    """The targets whose recipes aren't replayed without being asked for: those of `restat`, and
+    those that configure again."""
+    names, build = judge.names().written, judge.build
+    alike = [name for name, node in build.nodes.items() if node.left_alike]
+    return [names[name] for name in [*alike, *configuring(build)] if name in names]
+
+
+def is_probed(translated: Translated, recording: Recording) -> bool:
+    """Whether there are recipes that have to be tried in a copy of the project that is built."""
+    settled = settled_by(translated, recording)
+    looked = recording.recorded.looked
+    return any(Probing(settled.build, settled.footprints, looked, None, {}).waiting())
+
+
+def judged_by(
+    translated: Translated, recording: Recording, desk: Desk, copies: Copies | None
+) -> Judged:
+    """Settles what only the recording tells, and checks. Without copies of the project nothing is
+    tried."""
+
+    def check() -> Judged:
+        settled = settled_by(translated, recording)
+        judge = replace(translated.judge, build=settled.build)
+        place = None
+        if copies is not None and "built" in copies.made:
+            place = copies.shut("built")
+        said = replace(recording.recorded, looked=settled.looked)
+        Probing(settled.build, settled.footprints, settled.looked, place, judge.environment).probe()
+        if place is not None and copies is not None:
+            copies.place("read")
+        judge.write_book(settled.footprints, said.noted)
+        has_first = save(judge, desk, said)
+        return Judged(settled.build, settled.footprints, judge.check(has_first), has_first)
+
+    return desk.step("check", check, word_of_check)
+
+
+def word_of_check(judged: Judged) -> str:
+    """Whether the first build is another one."""
+    return "two passes" if judged.has_first else ""
+
+
+def settled_by(translated: Translated, recording: Recording) -> Settled:
+    """The build and its footprints as the recording settles them."""
+    build = copy.deepcopy(translated.build)
+    judge = replace(translated.judge, build=build)
+    footprints = judge.read_book()
+    judge.complete(footprints, translated.has_first, recording.recorded.unrecorded)
+    settling = Settling(build, footprints, listing(judge.place.folder))
+    settling.settle()
+    looked = recording.recorded.looked
+    renamed = {settling.renamed.get(name, name): found for name, found in looked.items()}
+    return Settled(build, footprints, renamed)
+
+
+def answer(request: Request, judged: Judged, said: Recorded) -> tuple[list[str], int]:
+    """The lines of the answer, and its status."""
+    told = Sentences(judged.build, judged.footprints, judged.has_first)
+    folder = os.path.relpath(request.output, request.root)
+    folder = request.output if folder.startswith("../") else folder
+    words = f"-f {folder}/makefile -b {folder}/footprint.json"
+    verdict = judged.verdict
+    texts = told.texts(verdict.findings, f"mkcheck check -w {words}" * verdict.hides)
+    return answer_of(judged.build, said, verdict, texts), status_of(judged.build, verdict)
+
+
+def tell(lines: Iterable[str], desk: Desk) -> None:
+    """Prints an answer."""
+    for line in lines:
+        print(line)
+    desk.log += ["", *lines]
+
+
+def end_early(build: Build) -> int:
+    """The status of a step that was asked for alone."""
+    for text in build.problems:
+        print(f"not judged: {text}")
+    return AS_FAR_AS_JUDGED if build.problems else 0
+
+
+def saved_step(request: Request, desk: Desk, copies: Copies) -> int:
+    """Does one step with what those before it left in the folder of the output."""
+    desk.take_output()
+    if not os.path.exists(desk.path(SAVED)):
+        raise Fault(f"{request.output} has no translation: import without --only first")
+    build = build_of_text(desk.text(SAVED))
+    desk.log += desk.text(LOG).splitlines()
+    place = Place(request.root, request.root)
+    if request.only == "record":
+        tool = tool_of(request, copies, os.path.join(os.path.dirname(copies.scratch), "tool"))
+        desk.step("read", tool.read)
+        place = copies.place("read")
+    judge = judge_of(build, place, desk)
+    has_first = os.path.exists(judge.path(FIRST))
+    translated = Translated(build, judge, has_first, "")
+    if request.only == "graph":
+        desk.step("graph", partial(judge.graph, has_first), str)
+        return end_early(build)
+    if request.only == "record":
+        recorded(request, translated, desk)
+        return end_early(build)
+    if not os.path.exists(judge.path(BOOK)):
+        raise Fault(f"{request.output} has no footprints: import with --only record first")
+    noted = judge.notes(frozenset(), frozenset())
+    recording = Recording(recorded_of_text(desk.text(SAVED), noted), "", None, 0, "")
+    judged = judged_by(translated, recording, desk, None)
+    lines, status = answer(request, judged, recording.recorded)
+    tell(lines, desk)
+    return status
+
+
+def now_of(request: Request, said: str, hidden: frozenset[str]) -> Now:
+    """What an import depends on, as it is now."""
+    program = program_of(request)
+    tracked = tracked_files(request.root)
+    asked = {
+        "folder": json.dumps([request.root, request.folder]),
+        "words": json.dumps([request.makefile, *request.words]),
+        "options": json.dumps(
+            [
+                *(request.tool, request.keep, request.build, request.replay),
+                *(request.fixed, request.configured, request.trusted),
+            ]
+        ),
+        "mkcheck": digest_of(checker()),
+        request.tool: f"{program} {digest_of(program)}",
+        "namespaces": f"{places.namespace() is not None} {places.shut() is not None}",
+        "git": "" if tracked is None else digest_of_value(sorted(tracked)),
+    }
+    files = files_of(request.root, (request.output,))
+    conditions = Conditions.of(asked, outer_environment())
+    return Now(request.root, conditions, files.without(hidden), said)

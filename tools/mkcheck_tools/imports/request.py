@@ -1,0 +1,103 @@
+"""What an import is asked for."""
+
+from __future__ import annotations
+
+import argparse
+import os
+from dataclasses import dataclass
+from pathlib import Path
+
+from mkcheck_tools.faults import Fault
+
+MAKEFILES = ("GNUmakefile", "makefile", "Makefile")
+
+
+@dataclass(frozen=True)
+class Request:
+    """An import: of which build, how far, and where what it makes goes."""
+
+    root: str
+    """The real path of the project's folder."""
+
+    folder: str
+    """The folder in which the tool is started, a path from the root."""
+
+    output: str
+    """The real path of the folder for what is made."""
+
+    log: str
+    """The log, as the user names it."""
+
+    tool: str
+    """`make` or `ninja`."""
+
+    makefile: str | None
+    words: tuple[str, ...]
+    keep: bool
+    build: bool
+    look: bool
+    only: str | None
+    fixed: tuple[str, ...]
+    configured: tuple[str, ...]
+    trusted: tuple[str, ...]
+    replay: bool
+
+    @property
+    def is_whole(self) -> bool:
+        """Whether all steps are asked for."""
+        return self.only is None and not self.look
+
+    @property
+    def make_words(self) -> tuple[str, ...]:
+        """The words of GNU make."""
+        return (*(("-f", self.makefile) if self.makefile else ()), *self.words)
+
+
+def request_of(asked: argparse.Namespace) -> Request:
+    """The import that the words of the command line ask for."""
+    root = os.path.realpath(asked.C)
+    if not os.path.isdir(root):
+        raise Fault(f"-C {asked.C}: there is no such folder")
+    folder = os.path.normpath(asked.S)
+    if not os.path.isdir(os.path.join(root, folder)):
+        raise Fault(f"-S {asked.S}: there is no such folder in {root}")
+    output = asked.o or os.path.normpath(os.path.join(asked.C, ".mkcheck"))
+    return Request(
+        root,
+        folder,
+        os.path.realpath(output),
+        os.path.join(output, "import.log"),
+        asked.tool or tool_in(Path(root, folder), asked.f is not None),
+        asked.f,
+        tuple(asked.words),
+        asked.keep,
+        asked.build,
+        asked.look,
+        asked.only,
+        tuple(asked.fixed),
+        tuple(asked.configured),
+        tuple(asked.trust),
+        not asked.no_replay,
+    )
+
+
+def tool_in(place: Path, has_make: bool) -> str:
+    """The build tool that a folder's files show."""
+    if has_make or any((place / name).exists() for name in MAKEFILES):
+        return "make"
+    if (place / "build.ninja").exists():
+        return "ninja"
+    raise Fault(no_build(place))
+
+
+def no_build(place: Path) -> str:
+    """The sentence where a folder has no build, with what makes one where that is seen."""
+    for name, command in (
+        ("configure", "run ./configure first"),
+        ("CMakeLists.txt", "run `cmake -S . -B build` first, and import with -S build"),
+        ("configure.ac", "run `autoreconf -i` and ./configure first"),
+        ("meson.build", "run `meson setup build` first, and import with -S build"),
+    ):
+        if (place / name).exists():
+            return f"{place} has no makefile and no build.ninja yet: {command}"
+    return f"{place} has no makefile and no build.ninja: give the folder of a build with -C"

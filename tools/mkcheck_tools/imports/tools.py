@@ -1,0 +1,284 @@
+"""The two build tools as the steps of an import see them."""
+
+from __future__ import annotations
+
+import hashlib
+import json
+import os
+import shutil
+from collections.abc import Iterable
+from dataclasses import asdict, dataclass, field, replace
+from typing import Any, Protocol, TypeVar
+
+from mkcheck_tools.imports.answers import counted
+from mkcheck_tools.imports.builds import Build, path_name
+from mkcheck_tools.imports.copies import Copies, Tail
+from mkcheck_tools.imports.gnumake import Make, content, find_make, own_environment
+from mkcheck_tools.imports.leftovers import targets_there
+from mkcheck_tools.imports.make_built import MakeBuilt, built_by
+from mkcheck_tools.imports.make_folder import MakeShown, make_folder, shown_by
+from mkcheck_tools.imports.make_translation import DEPENDENCY_ENDINGS, made_build, shown_build
+from mkcheck_tools.imports.ninja_folder import (
+    NinjaFolder,
+    NinjaShown,
+    ninja_build,
+    ninja_built,
+    ninja_shown,
+)
+from mkcheck_tools.imports.real_commands import to_build
+from mkcheck_tools.imports.request import Request
+
+Shown = TypeVar("Shown")
+Built = TypeVar("Built")
+
+
+@dataclass(frozen=True)
+class Basis:
+    """What a translation depends on beside the contents of sources."""
+
+    seen: frozenset[str] = frozenset()
+    """The paths of the files that the tool, and what it starts, read or looked at when it read its
+    own files."""
+
+    reread: frozenset[str] = frozenset()
+    """The files that recipes make, and that the tool reads in later builds."""
+
+    anew: tuple[str, ...] = ()
+    """Why all is to be translated anew after any edit."""
+
+
+class Tool(Protocol[Shown, Built]):
+    """What a build tool is asked; what a step gives the next one takes."""
+
+    def read(self) -> Shown:
+        """Asks the tool what it would do."""
+
+    def word(self, shown: Shown) -> str:
+        """A word on that."""
+
+    def said(self, shown: Shown) -> str:
+        """A digest of it."""
+
+    def hidden(self, shown: Shown) -> frozenset[str]:
+        """The files of the project that count for nothing."""
+
+    def how_far(self, shown: Shown) -> str:
+        """A text with counts of what the build has done so far."""
+
+    def build(self, shown: Shown) -> Built:
+        """Lets the tool build in a copy, and asks it again what it would do."""
+
+    def word_of_build(self, built: Built) -> str:
+        """A word on that."""
+
+    def translate(self, shown: Shown) -> Build:
+        """The build without what is known only after one."""
+
+    def translate_built(self, built: Built) -> Build:
+        """The build with that."""
+
+    def basis(self, built: Built) -> Basis:
+        """What its translation depends on. It has to be asked before the translation."""
+
+
+@dataclass(frozen=True)
+class MakeTool:
+    """GNU make."""
+
+    request: Request
+    copies: Copies
+    scratch: str
+
+    def read(self) -> MakeShown:
+        """Asks make what it would do."""
+        request = self.request
+        front = make_folder(self.copies, request.folder, request.make_words, self.scratch)
+        return shown_by(replace(front, keep=request.keep, is_built=request.build))
+
+    def word(self, shown: MakeShown) -> str:
+        """How many makes there are, and the version of make."""
+        return f"{counted(len(shown.makes), 'make')}, {shown.front.version}"
+
+    def said(self, shown: MakeShown) -> str:
+        """A digest of all that makes know and of the texts of their makefiles."""
+        folder = self.copies.place("read").folder
+        texts = [text_of_make(make, self.copies.seen, folder) for make in shown.makes]
+        left = shown.leftovers
+        texts += [*sorted(left.hidden), "", *sorted(left.dependencies), left.not_cleaned]
+        return digest_of(text.replace(self.scratch, "scratch") for text in texts)
+
+    def hidden(self, shown: MakeShown) -> frozenset[str]:
+        """The files of the project that an earlier build left, and that count for nothing."""
+        return shown.leftovers.hidden
+
+    def how_far(self, shown: MakeShown) -> str:
+        """How many commands the present make has begun, of those that `make -n` showed."""
+        total = shown.commands
+        return f"[{min(shown.front.begun(), total)}/{total}]" if total else ""
+
+    def build(self, shown: MakeShown) -> MakeBuilt:
+        """Lets make build in a copy."""
+        return built_by(shown)
+
+    def word_of_build(self, built: MakeBuilt) -> str:
+        """How many recipes ran."""
+        return counted(built.recipes, "recipe")
+
+    def translate(self, shown: MakeShown) -> Build:
+        """The build as `make -n` shows it."""
+        return shown_build(shown)
+
+    def translate_built(self, built: MakeBuilt) -> Build:
+        """The build as make made it."""
+        return made_build(built)
+
+    def basis(self, built: MakeBuilt) -> Basis:
+        """What the translation depends on: each edit of a file that make reads, and any edit where
+        make goes by times, or what it does was only seen in a build."""
+        shown, root = built.shown, self.copies.seen
+        left = shown.leftovers
+        there = targets_there(root, shown.makes, shown.files)
+        there.update(left.dependencies, left.shown_again)
+        written = {
+            name
+            for name in built.makefiles.all
+            if name in built.made or built.times.get(name) != shown.times.get(name)
+        }
+        reread = written | {name for name in built.made if name.endswith(DEPENDENCY_ENDINGS)}
+        readings = built.readings
+        why = to_build(shown.makes, built.makes)
+        reasons = {
+            f"targets are there before the build ({', '.join(sorted(there)[:3])})": there,
+            f"the commands are those of a real build: {why}": why,
+            f"recipes leave files as they are ({', '.join(built.unchanged[:3])})": built.unchanged,
+            "make makes files when it reads its makefiles": shown.read_made,
+            "what make reads beside its makefiles isn't known": readings.sentences,
+            "make reads what a recipe makes": readings.outputs,
+        }
+        anew = tuple(text for text, holds in reasons.items() if holds)
+        return Basis(frozenset(readings.seen), frozenset(reread), anew)
+
+
+def text_of_make(make: Make, root: str, folder: str) -> str:
+    """All that one make knows, and the texts of its makefiles, as they lie in a folder."""
+    rules = {
+        name: [plain(asdict(rule)) for rule in found] for name, found in make.base.rules.items()
+    }
+    names = [path_name(root, make.folder, text) for text in make.makefiles]
+    return json.dumps(
+        [
+            make.words,
+            make.folder,
+            make.status,
+            own_environment(make.environment),
+            make.base.values,
+            make.base.texts,
+            [asdict(macro) for macro in make.base.pattern_macros],
+            rules,
+            {name: content(os.path.join(folder, name)).decode("latin-1") for name in names},
+        ],
+        sort_keys=True,
+    )
+
+
+def plain(rule: dict[str, Any]) -> dict[str, Any]:
+    """A rule whose commands don't tell where they stood in what was printed."""
+    for command in rule["commands"]:
+        del command["offset"]
+    return rule
+
+
+def digest_of(texts: Iterable[str]) -> str:
+    """A digest of texts."""
+    digest = hashlib.sha256()
+    for text in texts:
+        digest.update(text.encode("utf-8", "surrogateescape") + b"\0")
+    return digest.hexdigest()
+
+
+@dataclass(frozen=True)
+class NinjaTool:
+    """Ninja."""
+
+    request: Request
+    copies: Copies
+    tail: Tail = field(default_factory=Tail)
+
+    def read(self) -> NinjaShown:
+        """Reads `build.ninja`, and asks ninja whether it could build."""
+        return ninja_shown(NinjaFolder(self.copies, self.request.folder, self.request.words))
+
+    def word(self, shown: NinjaShown) -> str:
+        """How many build lines there are, and the version of ninja."""
+        return f"{len(shown.manifest.edges)} build lines, ninja {shown.version}"
+
+    def said(self, shown: NinjaShown) -> str:
+        """A digest of the texts of all ninja files."""
+        place = self.copies.place("read").folder
+        paths = [os.path.join(place, shown.front.folder, name) for name in shown.manifest.files]
+        return digest_of([shown.version, *(content(path).decode("latin-1") for path in paths)])
+
+    def hidden(self, shown: NinjaShown) -> frozenset[str]:
+        """None."""
+        return frozenset()
+
+    def how_far(self, shown: NinjaShown) -> str:
+        """The last lines of ninja, which count its commands."""
+        return self.tail.text()
+
+    def build(self, shown: NinjaShown) -> NinjaShown:
+        """Lets ninja build in a copy."""
+        return ninja_built(shown, self.tail)
+
+    def word_of_build(self, built: NinjaShown) -> str:
+        """Nothing more."""
+        return ""
+
+    def translate(self, shown: NinjaShown) -> Build:
+        """The build as `build.ninja` says it."""
+        return ninja_build(shown)
+
+    def translate_built(self, built: NinjaShown) -> Build:
+        """The same, with what is known after a build."""
+        return ninja_build(built)
+
+    def basis(self, built: NinjaShown) -> Basis:
+        """What the translation depends on: all edges are asked for what only a build shows of
+        them."""
+        manifest = built.manifest
+        folder = os.path.normpath(os.path.join(self.copies.seen, built.front.folder))
+        own = (os.path.join(folder, name) for name in manifest.files)
+        told = [
+            edge.value(what, escape=str)
+            for edge in manifest.edges
+            for what in ("depfile", "dyndep")
+            if edge.value(what)
+        ]
+        place = self.copies.place("read")
+        there = [
+            path
+            for path, edge in manifest.maker.items()
+            if not edge.is_phony
+            and not edge.value("generator")
+            and os.path.lexists(place.real(os.path.normpath(os.path.join(folder, path))))
+        ]
+        reasons = {
+            f"targets are there before the build ({', '.join(there[:3])})": there,
+            "a build line has `restat`": any(edge.restat for edge in manifest.edges),
+            "the first build fails, and the second one doesn't": built.is_late,
+        }
+        anew = tuple(text for text, holds in reasons.items() if holds)
+        names = (path_name(self.copies.seen, folder, path) for path in told)
+        return Basis(frozenset(own), frozenset(names), anew)
+
+
+def tool_of(request: Request, copies: Copies, scratch: str) -> MakeTool | NinjaTool:
+    """The build tool of an import."""
+    if request.tool == "ninja":
+        return NinjaTool(request, copies)
+    return MakeTool(request, copies, os.path.join(scratch, "make"))
+
+
+def program_of(request: Request) -> str:
+    """The path of the program of the build tool; raises `Fault` where GNU make isn't there."""
+    return shutil.which("ninja") or "" if request.tool == "ninja" else find_make()
