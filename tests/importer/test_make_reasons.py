@@ -5,6 +5,8 @@ Each stands beside one that differs a little, in which the sentence is right.
 
 from __future__ import annotations
 
+import re
+
 from importer.make_folder import can_judge
 from importer.test_make_unseen import UnseenTestCase
 
@@ -186,6 +188,51 @@ class PrintedTest(UnseenTestCase):
         answer = self.accepted()
         self.assertIn("cmp -s conf gen.mk || cp conf gen.mk", answer.rules())
         self.assertNotIn("\t  GEN", answer.rules())
+        self.assertNotIn("of a real build", answer.output)
+
+    LIKE_MAKE = (
+        "  SPLIT include/autoconf.h -> include/config/*",
+        "cc -c other.c -o other.o",
+        "make[1]: Entering directory '/other'",
+        "make: *** [Makefile:2: other] Error 1",
+        "Makefile:2: target 'other' does not exist",
+        "# GNU Make 4.3",
+        "# Make data base, printed on a day",
+        "# Finished Make data base on a day",
+    )
+    PRINTING = "".join(
+        f"{name}: a lines\n\t@cat lines; sleep 0.02\n\tcat lines; cp a {name}\n\t@cat lines\n"
+        for name in "xyz"
+    )
+
+    def test_what_looks_like_a_command_or_like_make_is_neither(self) -> None:
+        self.write({"Makefile": f"all: x y z\n.PHONY: all\n{self.PRINTING}"})
+        self.prints_in("")
+
+    def test_what_is_printed_beside_other_recipes_is_neither(self) -> None:
+        """The make below has four jobs."""
+        self.write(
+            {
+                "Makefile": "all:\n\t@cat sub/lines\n\t$(MAKE) -j4 -C sub\n.PHONY: all\n",
+                "sub/Makefile": f"all: x y z\n.PHONY: all\n{self.PRINTING}",
+            }
+        )
+        self.prints_in("sub/")
+
+    def prints_in(self, folder: str) -> None:
+        """An import of recipes in a folder that print such lines before, in and after their
+        commands."""
+        lines = "".join(f"{line}\n" for line in self.LIKE_MAKE)
+        self.write({f"{folder}a": "a\n", f"{folder}lines": lines})
+        answer = self.accepted()
+        for name in "xyz":
+            commands = answer.records[folder + name].commands
+            self.assertEqual(
+                [re.sub(r"^(cd sub; )?(set \+e; )?", "", line) for line in commands],
+                ["cat lines; sleep 0.02", f"cat lines; cp a {name}", "cat lines"],
+            )
+        for line in self.LIKE_MAKE:
+            self.assertNotIn(line, answer.makefile)
         self.assertNotIn("of a real build", answer.output)
 
 

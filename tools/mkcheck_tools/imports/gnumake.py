@@ -229,7 +229,9 @@ def run_make(
     search = f"{os.path.dirname(wrapper)}:{outer.get('PATH', os.defpath)}"
     environment = {**outer, "PATH": search, "MKIMPORT_OUT": os.path.join(scratch, "top.out")}
     how = ["--trace"] if is_real else ["-n", "-k", "--trace"]
-    own = [*how, "-p", "-j1", f"MAKE={wrapper}", marking(watched, is_real), f"--eval={EVAL}"]
+    # Where a make has several jobs, what recipes print doesn't come between a mark and its command.
+    own = [*how, "-p", "-j1", "-Otarget", f"MAKE={wrapper}"]
+    own += [marking(watched, is_real), f"--eval={EVAL}"]
     enter = 'cd "$1" && shift && exec "$@"'
     command = ["/bin/sh", "-c", enter, "sh", folder, wrapper, *own, *words]
     ended = run(command, place, environment, seconds)
