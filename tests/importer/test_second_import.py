@@ -136,7 +136,7 @@ class EditedSourceTest(SecondImportTestCase):
         self.write({"b.c": "exit 3\n"})
         answer = self.imported(keep=True)
         self.assertEqual(answer.status, 2)
-        self.assertIn("the build fails", answer.errors)
+        self.assertIn("the build failed", answer.errors)
         self.write({"b.c": "echo b\n"})
         self.second()
 
@@ -187,7 +187,7 @@ class AnewTest(SecondImportTestCase):
         self.write({"Makefile": makefile.replace("b.o: b.c", "b.o: b.c other.h")})
         self.first()
         self.write({"other.h": "p\n"})
-        self.assertEqual(self.anew("other.h has changed, which the tool reads"), "2 of 3")
+        self.assertEqual(self.anew("other.h has changed, which the tool reads"), "1 of 3")
 
     def test_a_file_outside_that_make_reads(self) -> None:
         outside = self.scratch / "outside"

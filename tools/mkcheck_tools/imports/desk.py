@@ -82,6 +82,12 @@ class Desk:
             if os.path.exists(os.path.join(self.request.output, name)):
                 shutil.copyfile(os.path.join(self.request.output, name), self.path(name))
 
+    def clear(self) -> None:
+        """Takes away the results that were made so far."""
+        for name in RESULTS:
+            with contextlib.suppress(FileNotFoundError):
+                os.unlink(self.path(name))
+
     def take_kept(self) -> Kept | None:
         """Takes what the import before kept."""
         return read_kept(os.path.join(self.request.output, KEPT, IMPORT))

@@ -58,6 +58,7 @@ from mkcheck_tools.trace.tracing import strace
 STEPS = ("read", "translate", "graph", "record", "check")
 # The kinds of notes on what the translation has in it.
 OF_TRANSLATION = frozenset({Kind.BUILT_IN_RULE, Kind.UNLOOKED, Kind.WAIT})
+OTHER_FILES = "recipes make other files now, or other dependency files"
 WITHOUT_BUILD = (
     "it was translated without a build (--only translate), so what the build tool knows only after"
     " one, as dependency files, isn't in it: import without --only"
@@ -176,6 +177,8 @@ class Import(Generic[Shown, Built]):
     def run(self) -> int:
         """Does the steps, and gives the status."""
         only = self.request.only
+        # What is edited from now on is another file the next time.
+        files = files_of(self.request.root, (self.request.output,))
         shown = self.desk.step("read", self.tool.read, self.tool.word)
         if only == "read":
             return 0
@@ -184,7 +187,8 @@ class Import(Generic[Shown, Built]):
         if only == "translate":
             built = self.built(shown) if self.request.build else None
             return end_early(self.translated(shown, built).build)
-        now = now_of(self.request, self.tool.said(shown), self.tool.hidden(shown))
+        files = files.without(self.tool.hidden(shown))
+        now = Now(self.request.root, conditions_of(self.request), files, self.tool.said(shown))
         status = self.again(now)
         return self.anew(shown, now) if status is None else status
 
@@ -245,16 +249,14 @@ class Import(Generic[Shown, Built]):
         except RecordingFault:
             self.refuse("a recipe can't be recorded")
             return None
-        if change.is_edited:
-            if recording.recorded.unrecorded:
-                self.refuse("a recipe can't be recorded")
+        before = kept.answer
+        is_same = before is not None and before.recorded == recording.digest
+        if change.is_edited or (before is not None and not is_same):
+            if why := other_build(kept, recording):
+                self.refuse(why)
                 return None
-            if not kept.made or recording.made(kept.reread) != kept.made:
-                self.refuse("recipes make other files now, or other dependency files")
-                return None
-        elif kept.answer is not None and kept.answer.recorded == recording.digest:
-            if self.desk.digests(self.request.output) == kept.answer.files:
-                return self.answer_before(kept.answer)
+        elif before is not None and self.desk.digests(self.request.output) == before.files:
+            return self.answer_before(before)
         if is_probed(translated, recording):
             self.refuse("recipes have to be tried in a copy that is built")
             return None
@@ -263,10 +265,12 @@ class Import(Generic[Shown, Built]):
 
     def refuse(self, why: str) -> None:
         """Tells why the last translation isn't taken."""
+        self.desk.clear()
         self.desk.say(f"translated anew, since {why}")
 
     def answer_before(self, answer: Answer) -> int:
         """Gives the answer of the last import, with all that belongs to it."""
+        self.desk.clear()
         self.desk.take_output()
         self.desk.log_notes(build_of_text(self.desk.text(SAVED)).notes)
         tell(answer.lines, self.desk)
@@ -282,7 +286,18 @@ class Import(Generic[Shown, Built]):
         return status
 
 
-# Steps
+def other_build(kept: Kept, recording: Recording) -> str:
+    """Why the translation may not be that of the files as they are now, which were recorded; empty
+    where it is."""
+    if recording.recorded.unrecorded:
+        return "a recipe can't be recorded"
+    if kept.anew:
+        return f"recipes do something else now, and {kept.anew[0]}"
+    made = recording.made(kept.reread)
+    if not made or not kept.made:
+        return "what recipes make isn't known"
+    return "" if made == kept.made else OTHER_FILES
+
 
 
 def word_of_translation(translated: Translated) -> str:
@@ -518,8 +533,8 @@ def saved_step(request: Request, desk: Desk, copies: Copies) -> int:
     return status
 
 
-def now_of(request: Request, said: str, hidden: frozenset[str]) -> Now:
-    """What an import depends on, as it is now."""
+def conditions_of(request: Request) -> Conditions:
+    """What an import depends on beside files: words, programs, the environment."""
     program = program_of(request)
     tracked = tracked_files(request.root)
     asked = {
@@ -536,6 +551,4 @@ def now_of(request: Request, said: str, hidden: frozenset[str]) -> Now:
         "namespaces": f"{places.namespace() is not None} {places.shut() is not None}",
         "git": "" if tracked is None else digest_of_value(sorted(tracked)),
     }
-    files = files_of(request.root, (request.output,))
-    conditions = Conditions.of(asked, outer_environment())
-    return Now(request.root, conditions, files.without(hidden), said)
+    return Conditions.of(asked, outer_environment())
