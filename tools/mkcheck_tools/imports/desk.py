@@ -17,6 +17,7 @@ from mkcheck_tools.imports.kept import Kept, read_kept, text_of
 from mkcheck_tools.imports.request import Request
 from mkcheck_tools.imports.telling import Telling
 from mkcheck_tools.replay.versions import digest_of
+from mkcheck_tools.run.paths import RealPath
 
 # The translation, for steps that are done one at a time.
 SAVED = "translation.json"
@@ -143,7 +144,9 @@ class Desk:
     def digests(self, folder: str) -> dict[str, str]:
         """Digests of the results that lie in a folder."""
         paths = {name: os.path.join(folder, name) for name in RESULTS}
-        return {name: digest_of(path) for name, path in paths.items() if os.path.isfile(path)}
+        return {
+            name: digest_of(RealPath(path)) for name, path in paths.items() if os.path.isfile(path)
+        }
 
     def text(self, name: str) -> str:
         """What a file holds that was made."""

@@ -23,6 +23,7 @@ from mkcheck_tools.faults import Fault
 from mkcheck_tools.imports.builds import FOREIGN, path_name
 from mkcheck_tools.imports.tools import Basis
 from mkcheck_tools.replay.versions import FILE, Version, version_of
+from mkcheck_tools.run.paths import RealPath
 
 FORMAT = 1
 # What is no file that lasts.
@@ -79,7 +80,7 @@ def walked(folder: str, unwanted: frozenset[str]) -> Iterator[os.DirEntry[str]]:
 def version_of_readable(path: str) -> Version | None:
     """What stands at a path; of a file that can't be read no content is known."""
     try:
-        return version_of(path)
+        return version_of(RealPath(path))
     except Fault:
         return Version("unreadable", 0, "")
 

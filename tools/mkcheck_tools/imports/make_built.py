@@ -125,8 +125,7 @@ def built_by(asked: MakeShown) -> MakeBuilt:
     readings.find_outputs(copies.shut("built"), *reading, made)
     readings.try_all(copies.shut("asked"), *reading)
     if readings.found:
-        folder = up_to_date(front, after_times)
-        readings.confirm(folder, functools.partial(ask, front, "fresh"))
+        readings.confirm(up_to_date(front, after_times), functools.partial(ask, front, "fresh"))
     ask_unseen(shown, [built, after], made, asking, readings)
     return MakeBuilt(
         shown,

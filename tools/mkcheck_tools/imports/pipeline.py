@@ -52,6 +52,7 @@ from mkcheck_tools.judge.notes import Kind
 from mkcheck_tools.replay.versions import digest_of
 from mkcheck_tools.run import places
 from mkcheck_tools.run.folders import prefix_of
+from mkcheck_tools.run.paths import resolved
 from mkcheck_tools.run.places import Place
 from mkcheck_tools.trace.tracing import strace
 
@@ -299,7 +300,6 @@ def other_build(kept: Kept, recording: Recording) -> str:
     return "" if made == kept.made else OTHER_FILES
 
 
-
 def word_of_translation(translated: Translated) -> str:
     """How many problems there are."""
     return counted(len(translated.build.problems), "problem")
@@ -509,7 +509,7 @@ def saved_step(request: Request, desk: Desk, copies: Copies) -> int:
         raise Fault(f"{request.output} has no translation: import without --only first")
     build = build_of_text(desk.text(SAVED))
     desk.log += desk.text(LOG).splitlines()
-    place = Place(request.root, request.root)
+    place = Place.of(request.root)
     if request.only == "record":
         tool = tool_of(request, copies, os.path.join(os.path.dirname(copies.scratch), "tool"))
         desk.step("read", tool.read)
@@ -546,8 +546,8 @@ def conditions_of(request: Request) -> Conditions:
                 *(request.fixed, request.configured, request.trusted),
             ]
         ),
-        "mkcheck": digest_of(checker()),
-        request.tool: f"{program} {digest_of(program)}",
+        "mkcheck": digest_of(resolved(checker())),
+        request.tool: f"{program} {digest_of(resolved(program))}",
         "namespaces": f"{places.namespace() is not None} {places.shut() is not None}",
         "git": "" if tracked is None else digest_of_value(sorted(tracked)),
     }

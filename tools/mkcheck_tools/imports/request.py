@@ -8,6 +8,7 @@ from dataclasses import dataclass
 from pathlib import Path
 
 from mkcheck_tools.faults import Fault
+from mkcheck_tools.run.paths import RealPath, resolved
 
 MAKEFILES = ("GNUmakefile", "makefile", "Makefile")
 
@@ -16,7 +17,7 @@ MAKEFILES = ("GNUmakefile", "makefile", "Makefile")
 class Request:
     """An import: of which build, how far, and where what it makes goes."""
 
-    root: str
+    root: RealPath
     """The real path of the project's folder."""
 
     folder: str
@@ -55,7 +56,7 @@ class Request:
 
 def request_of(asked: argparse.Namespace) -> Request:
     """The import that the words of the command line ask for."""
-    root = os.path.realpath(asked.C)
+    root = resolved(asked.C)
     if not os.path.isdir(root):
         raise Fault(f"-C {asked.C}: there is no such folder")
     folder = os.path.normpath(asked.S)

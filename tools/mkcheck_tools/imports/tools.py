@@ -27,6 +27,7 @@ from mkcheck_tools.imports.ninja_folder import (
 )
 from mkcheck_tools.imports.real_commands import to_build
 from mkcheck_tools.imports.request import Request
+from mkcheck_tools.run.paths import SeenPath
 
 Shown = TypeVar("Shown")
 Built = TypeVar("Built")
@@ -260,7 +261,7 @@ class NinjaTool:
             for path, edge in manifest.maker.items()
             if not edge.is_phony
             and not edge.value("generator")
-            and os.path.lexists(place.real(os.path.normpath(os.path.join(folder, path))))
+            and os.path.lexists(place.real(SeenPath(os.path.normpath(os.path.join(folder, path)))))
         ]
         reasons = {
             f"targets are there before the build ({', '.join(there[:3])})": there,
