@@ -151,7 +151,7 @@ class EditedSourceTest(SecondImportTestCase):
         self.assertEqual(self.taken(), "3 of 3")
         self.write({"a.c": "other.h\n"})
         self.assertEqual(self.anew("dependency files"), "0 of 3")
-        self.assertIn("a.o: other.h", self.rules_of_a())
+        self.assertEqual(self.rules_of_a(), "a.o: a.c other.h")
 
     def rules_of_a(self) -> str:
         """What the translated makefile says of a.o."""
@@ -301,7 +301,13 @@ class StoppedTest(SecondImportTestCase):
             path.unlink(missing_ok=True)
         shutil.rmtree(self.folder / ".mkcheck", ignore_errors=True)
         words = [sys.executable, str(IMPORTER), "-C", str(self.folder), "--no-replay"]
-        with subprocess.Popen(words, env=ENVIRONMENT, stderr=subprocess.PIPE, text=True) as process:
+        with subprocess.Popen(
+            words,
+            env=ENVIRONMENT,
+            stderr=subprocess.PIPE,
+            text=True,
+            preexec_fn=lambda: signal.signal(number, signal.SIG_DFL),
+        ) as process:
             while process.poll() is None and not begun.exists():
                 time.sleep(0.05)
             process.send_signal(number)
