@@ -15,7 +15,7 @@ from mkcheck_tools.imports.ordering import Order
 from mkcheck_tools.imports.plain import makefile, quoted, shell_text
 from mkcheck_tools.imports.recursion import is_only_makes, without_makes
 from mkcheck_tools.imports.saving import build_of_text, text_of_build
-from mkcheck_tools.imports.transcripts import MARK, prefix_of, read_transcript
+from mkcheck_tools.imports.transcripts import BEGINNING, MARK, prefix_of, read_transcript
 from mkcheck_tools.imports.translating import Translation
 from mkcheck_tools.imports.trying import Said, Trial
 from mkcheck_tools.judge.refusals import started_make
@@ -144,9 +144,13 @@ class TranscriptTest(unittest.TestCase):
 
     def test_last_beginning(self) -> None:
         """A make that has remade its makefiles begins anew."""
-        base = "# Make data base, printed on x\n# Finished Make data base on x\n"
-        before = mark("a.o") + "old\n" + base
+        before = f"{BEGINNING}\n" + mark("a.o") + f"old\n{BEGINNING}\n"
         self.assertEqual(self.commands(before + mark("a.o") + "new\n"), {"a.o": [("new", False)]})
+
+    def test_what_a_recipe_prints_is_no_end(self) -> None:
+        base = "# Make data base, printed on x\n# Finished Make data base on x\n"
+        text = mark("a.o") + f"cc\n{base}" + mark("a.o") + "ld\n"
+        self.assertEqual(self.commands(text), {"a.o": [("cc", False), ("ld", False)]})
 
     def test_member(self) -> None:
         self.assertEqual(self.commands(mark("l.a", "m.o") + "ar\n"), {"l.a(m.o)": [("ar", False)]})

@@ -23,7 +23,7 @@ from pathlib import Path
 
 from mkcheck_tools.faults import Fault
 from mkcheck_tools.imports.database import OWN, Database, Shown, joined
-from mkcheck_tools.imports.transcripts import MARK, Transcript, marking, read_transcript
+from mkcheck_tools.imports.transcripts import BEGINNING, MARK, Transcript, marking, read_transcript
 from mkcheck_tools.run.places import Place, run
 
 # Variables that make and the shell set for each process, and those of this program.
@@ -53,6 +53,7 @@ PASSING = re.compile(
 # down the environment of recipes.
 ENVIRONMENT = f"{OWN}environment"
 EVAL = f"""unexport IFS
+$(info {BEGINNING})
 -include {ENVIRONMENT}
 {ENVIRONMENT}: ; +@env -0 > "$$MKIMPORT_ENV"
 .DEFAULT_GOAL :="""

@@ -9,6 +9,8 @@ from mkcheck_tools.answers.graphs import goes_on
 from mkcheck_tools.imports.database import OWN, START, Database, Rule, Shown, read_database
 
 MARK = "@@mkcheck-import@@"
+# What a make prints when it begins to read its makefiles.
+BEGINNING = f"{MARK} begins"
 FIELDS = ("$@", "$%", "$(SHELL)", "$(.SHELLFLAGS)", "$(origin .SHELLFLAGS)")
 # Lines of make itself, which may stand between a mark and its command, or in place of the command.
 TALK = re.compile(r"(?:[\w./-]*make(?:\[\d+\])?: |# GNU Make \d|# Make data base, printed on )")
@@ -67,14 +69,15 @@ class Transcript:
 def read_transcript(output: bytes, watched: list[str]) -> Transcript:
     """Reads the output of a make that was run with `-p` and the macro that `marking` gives.
 
-    A make that has remade its makefiles begins anew, and then the last beginning counts.
+    A make that has remade its makefiles begins anew, and then the last beginning counts. Its end
+    can't tell that: recipes may print what looks like it.
     """
     text = output.decode("utf-8", "surrogateescape")
     end = text.rfind(START)
     if end < 0:
         return Transcript(Database(), is_whole=False)
     transcript = Transcript(read_database(text[end:]))
-    begin = max(text.rfind("# Finished Make data base", 0, end), 0)
+    begin = max(text.rfind(BEGINNING, 0, end), 0)
     transcript.is_mixed = len(set(LEVEL.findall(text))) > 1
     one_shell = transcript.is_one_shell = ".ONESHELL" in transcript.base.rules
     read_commands(transcript, text, begin, end, watched)
