@@ -1,5 +1,5 @@
 -- The invariant over the begin of a recipe, its end, and the passing of a node.
-use Rattle.std.proofs.Common.{◌≡◌, ℕ, ◌∷◌, true, Option, Some, None, ◌⊎◌, inl, inr, ⊎_elim, sym, ◌∙◌, ap, subst, arith}
+use Rattle.std.proofs.Common.{◌≡◌, ℕ, ◌∷◌, true, Option, Some, None, ◌⊎◌, inl, inr, ⊎_elim, refl, sym, ◌∙◌, ap, subst, arith}
 use Rattle.std.proofs.lemmas.Bool.{cases_eq}
 use Rattle.mk_graph.specs.Membership.{Has}
 use Rattle.mk_graph.specs.Graph.{Graph, node}
@@ -10,7 +10,7 @@ use Rattle.mk_build.specs.Steps.{Begin, Ready, begun}
 use Rattle.mk_build.specs.Runs.{Runs, runs_after}
 use Rattle.mk_build.proofs.Changes.{changed_at_here, changed_at_there}
 use Rattle.mk_build.proofs.InOrder.{runs_not_done, begun_in_order}
-use Rattle.mk_build.proofs.Invariant.{WasThrough, Fits, InMake, AreUpToDate, Holds}
+use Rattle.mk_build.proofs.Invariant.{WasThrough, Fits, InMake, AreUpToDate, Holds, ran_moved, up_moved}
 
 module _ (g : Graph) (s : Setting) (p : Runs) (start : ℕ) (m : Making) (d : Disk) (fits : Fits g s p m.running d) (is : InMake g s p start m d) (x : ℕ) (ready : Ready g m x) (recipe : (node g x).recipe ≡ true) where
   -- the runs after the begin
@@ -71,9 +71,7 @@ module _ (g : Graph) (s : Setting) (p : Runs) (start : ℕ) (m : Making) (d : Di
     began = λ t. ⊎_elim (λ same. let at = began_here t same in omega arith) (λ differ. let same = began_there t differ in let came = fits.began t in omega arith) (cases_eq x t);
     ended = fits.ended;
     end_step = λ t run is_last. let came = fits.end_step t run is_last in omega arith;
-    begin_step = λ t run stopped is_last. fits.begin_step t run (λ runs. stopped (inr runs)) is_last ∙ sym (step_there t (other t stopped));
-    after_begin = λ t f stamp stopped wrote has. let same = began_there t (other t stopped) in let late = fits.after_begin t f stamp (λ runs. stopped (inr runs)) wrote has in omega arith;
-    whole = λ t stopped. fits.whole t (λ runs. stopped (inr runs));
+    whole = λ t t_recipe stopped. ⊎_elim (λ bound. inl bound) (λ ran. inr (ran.0, ran_moved g s p now ran.0 d t refl (began_there t (other t stopped)) (step_there t (other t stopped)) ran.1)) (fits.whole t t_recipe (λ runs. stopped (inr runs)));
     saw = fits.saw;
     apart = apart_begun;
   }
@@ -104,15 +102,7 @@ module _ (g : Graph) (s : Setting) (p : Runs) (start : ℕ) (m : Making) (d : Di
 
   -- what is done stays up to date
   pub begin_settled : AreUpToDate g s p start m d → AreUpToDate g s now start (begun m x) d
-  begin_settled up t t_done t_recipe =
-      let old = up t t_done t_recipe in
-      record {
-        run = old.run;
-        is_last = old.is_last;
-        whole = old.whole;
-        sees = old.sees;
-        settled = ⊎_elim (λ need_not. inl need_not) (λ late. inr (let same = began_there t (done_differs t t_done) in omega arith)) old.settled;
-      }
+  begin_settled up t t_done t_recipe = up_moved g s p now start d t refl (began_there t (done_differs t t_done)) (step_there t (done_differs t t_done)) (up t t_done t_recipe)
 
   -- the invariant after the begin of a recipe
   pub begin_holds : Holds g s now start (begun m x) d

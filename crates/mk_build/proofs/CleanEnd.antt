@@ -10,7 +10,7 @@ use Rattle.mk_graph.specs.Serial.{visits}
 use Rattle.mk_build.specs.Setting.{FileName, Setting, is_given, reads, writes}
 use Rattle.mk_build.specs.World.{Disk, content, changed, outcome}
 use Rattle.mk_graph.specs.Schedules.{HasAll, InOpenGroup, Wanted, goal as wanted_goal, onward as wanted_onward, CanStart, IsSchedule, IsPart}
-use Rattle.mk_build.specs.Clean.{Contents, given_contents, put_all, run_clean, make_clean, make_all_clean, ReachedFrom, IsBuilt}
+use Rattle.mk_build.specs.Clean.{Contents, given_contents, put_all, run_clean, make_clean, make_all_clean, ReachedFrom, IsBuilt, IsFresh}
 use Rattle.mk_build.specs.Right.{AreSound, HaveNoRace}
 use Rattle.mk_graph.specs.Lists.{has_left, has_right}
 use Rattle.mk_build.proofs.Changes.{cases_name, changed_here, changed_there}
@@ -52,12 +52,6 @@ put_all_agrees d (k ∷ files) (c ∷ cs) at e =
           (λ differ. ⊎_elim (λ before. inl (changed_there at k f (Some c) differ ∙ before))
           (λ among. ⊎_elim (λ same. absurd (differ same)) (λ later. inr later) among) why) (cases_name k f)),
     )
-
--- the recipe's files hold the outcome of what its reads hold
-pub record IsFresh (g : Graph) (s : Setting) (d : Disk) (t : ℕ) : Type 0 where
-  pub written : List ℕ
-  pub known : outcome d.known t (map (content d) (reads g s t)) ≡ Some written
-  pub holds : map (content d) (writes g s t) ≡ map (λ c. Some c) written
 
 module _ (g : Graph) (s : Setting) (graph : IsGraph g) (sound : AreSound g s) (no_race : HaveNoRace g s) (d : Disk) (goals : List ℕ) (part : IsPart goals g.goals) where
   -- the contents agree with the disk in given files and in what these nodes write

@@ -1,5 +1,5 @@
 -- The invariant over the end of a recipe and the passing of a node.
-use Rattle.std.proofs.Common.{◌≡◌, ℕ, ◌<◌, ◌≤◌, List, [], ◌∷◌, true, Option, Some, None, map, inl, inr, ⊎_elim, refl, sym, ◌∙◌, ap, subst, ◌⊎◌, arith}
+use Rattle.std.proofs.Common.{◌≡◌, ℕ, ◌≤◌, List, [], ◌∷◌, true, Option, Some, None, map, inl, inr, ⊎_elim, refl, sym, ◌∙◌, ap, subst, ◌⊎◌, arith}
 use Rattle.std.specs.Prelude.{unwrap_or}
 use Rattle.std.specs.Option.{option_flatten}
 use Rattle.std.proofs.lemmas.Bool.{cases_eq}
@@ -9,10 +9,11 @@ use Rattle.mk_build.specs.Setting.{FileName, Setting, reads, writes}
 use Rattle.mk_build.specs.World.{Outcome, Disk, Making, Busy, content}
 use Rattle.mk_build.specs.Steps.{End, Ready, MayEnd, finished, noted, changed_at, seen_by, put_by}
 use Rattle.mk_build.specs.Runs.{WholeRun, Runs, run_of, runs_after, one_later}
+use Rattle.mk_build.specs.Coherent.{IsBoundToRun}
 use Rattle.mk_build.proofs.Changes.{changed_at_here, changed_at_there}
 use Rattle.mk_build.proofs.InOrder.{runs_not_done, finished_in_order, Has-without, Has-from_without}
 use Rattle.mk_build.proofs.Outcomes.{noted_new, noted_old}
-use Rattle.mk_build.proofs.Invariant.{HasRunWhole, WasThrough, IsUntouched, SawOrLater, Fits, InMake, IsUpToDate, AreUpToDate, Holds}
+use Rattle.mk_build.proofs.Invariant.{HasRunWhole, RanWhole, WasThrough, SawOrLater, Fits, InMake, IsUpToDate, AreUpToDate, Holds}
 
 -- what was put was put somewhere
 pub put_somewhere : (o : Option ℕ) → ¬ (o ≡ None) → o ≡ Some (unwrap_or o 0)
@@ -114,19 +115,41 @@ module _ (g : Graph) (s : Setting) (p : Runs) (start : ℕ) (m : Making) (d : Di
           end_step = λ r is_last. ⊎_elim (λ here. absurd (was.stopped (subst (λ (k : ℕ). Has m.running k) here.0 may.runs))) (λ there. was.end_step r there.1) (last_cases t r is_last);
         }
 
-    -- a recipe that doesn't run has none of its files or is as its last run left it
-    whole_ended : (t : ℕ) → ¬ (Has (finished m x).running t) → IsUntouched g s (noted d result) t ⊎ ((r : WholeRun) × (last t ≡ Some r) × HasRunWhole g s r (noted d result) t)
-    whole_ended t stopped =
+    -- it ran whole
+    ran_now : (q : Runs) → q.last x ≡ Some run → q.began x ≡ p.began x → q.begin_step x ≡ p.begin_step x → RanWhole g s q run (noted d result) x
+    unfolding result
+    ran_now q is_last same_begin same_step = record {
+      is_last = is_last;
+      begin_step = sym same_step;
+      in_order = let came = fits.began x in omega arith;
+      whole = whole_now;
+      after_begin = λ f stamp wrote has. let late = is.put_late x f (unwrap_or (m.put x f) 0) stamp may.runs wrote (put_somewhere (m.put x f) (may.put f wrote)) has in omega arith;
+    }
+
+    -- another one that ran whole has
+    ran_still : (t : ℕ) (r : WholeRun) → ¬ (x ≡ t) → RanWhole g s p r d t → RanWhole g s (record (one_later p) { last = last }) r (noted d result) t
+    unfolding result
+    ran_still t r differ ran = record {
+      is_last = last_there t differ ∙ ran.is_last;
+      begin_step = ran.begin_step;
+      in_order = ran.in_order;
+      whole = whole_still t r ran.whole;
+      after_begin = ran.after_begin;
+    }
+
+    -- a recipe that doesn't run is bound to or is as its last run left it
+    whole_ended : (t : ℕ) → (node g t).recipe ≡ true → ¬ (Has (finished m x).running t) → IsBoundToRun g s (noted d result) t ⊎ ((r : WholeRun) × RanWhole g s (record (one_later p) { last = last }) r (noted d result) t)
+    unfolding result
+    whole_ended t recipe stopped =
         ⊎_elim (λ same. inr (
           run,
-          last_here t same,
-          subst (λ (k : ℕ). HasRunWhole g s run (noted d result) k)
-              same whole_now,
-        )) (λ differ. ⊎_elim (λ none. inl none)
-        (λ whole. inr (whole.0, last_there t differ ∙ whole.1, whole_still t whole.0 whole.2))
-        (fits.whole t (stopped_before t stopped differ))) (cases_eq x t)
+          subst (λ (k : ℕ). RanWhole g s (record (one_later p) { last = last }) run (noted d result) k)
+              same (ran_now (record (one_later p) { last = last }) (last_here x refl) refl refl),
+        )) (λ differ. ⊎_elim (λ bound. inl bound)
+        (λ ran. inr (ran.0, ran_still t ran.0 differ ran.1))
+        (fits.whole t recipe (stopped_before t stopped differ))) (cases_eq x t)
 
-    -- what last runs saw is there or was written since
+    -- what last runs saw is there or has changed since
     saw_ended : (t : ℕ) (r : WholeRun) → last t ≡ Some r → SawOrLater g s r (noted d result) t
     saw_ended t r is_last f read =
         ⊎_elim (λ here. inl (sees_now f (subst (λ (k : ℕ). Has (reads g s k) f) (sym here.0) read) ∙ ap (λ (k : WholeRun). k.saw f) here.1)) (λ there. fits.saw t r there.1 f read) (last_cases t r is_last)
@@ -138,11 +161,6 @@ module _ (g : Graph) (s : Setting) (p : Runs) (start : ℕ) (m : Making) (d : Di
       began = fits.began;
       ended = λ t r is_last. ⊎_elim (λ here. let same = ap (λ (k : WholeRun). k.ended) here.1 in omega arith) (λ there. fits.ended t r there.1) (last_cases t r is_last);
       end_step = λ t r is_last. ⊎_elim (λ here. let same = ap (λ (k : WholeRun). k.end_step) here.1 in omega arith) (λ there. let came = fits.end_step t r there.1 in omega arith) (last_cases t r is_last);
-      begin_step = λ t r stopped is_last. ⊎_elim (λ here. sym (ap (λ (k : WholeRun). k.begin_step) here.1) ∙ ap p.begin_step here.0) (λ there. fits.begin_step t r (stopped_before t stopped there.0) there.1) (last_cases t r is_last);
-      after_begin = λ t f stamp stopped wrote has. ⊎_elim (λ same. subst (λ (k : ℕ). p.began k < stamp) same
-          (let own = subst (λ (k : ℕ). Has (writes g s k) f) (sym same) wrote in is.put_late x f
-          (unwrap_or (m.put x f) 0) stamp may.runs own (put_somewhere (m.put x f) (may.put f own)) has))
-          (λ differ. fits.after_begin t f stamp (stopped_before t stopped differ) wrote has) (cases_eq x t);
       whole = whole_ended;
       saw = saw_ended;
       apart = λ o t before. ⊎_elim (λ one. inl (through_ended o (p.began t) (p.begin_step t) one)) (λ two. inr (through_ended t (p.began o) (p.begin_step o) two)) (fits.apart o t before);
@@ -168,11 +186,11 @@ module _ (g : Graph) (s : Setting) (p : Runs) (start : ℕ) (m : Making) (d : Di
     pub end_settled : AreUpToDate g s p start m d → AreUpToDate g s (runs_after (Busy m d) (End x) p) start (finished m x) (noted d (record { recipe = x; seen = seen_by g s m x; written = put_by g s m x }))
     unfolding result last
     end_settled are t (inl same) recipe =
-        subst (λ (k : ℕ). IsUpToDate g s (runs_after (Busy m d) (End x) p) start (noted d result) k) same (record { run = run; is_last = last_here x refl; whole = whole_now; sees = sees_now; settled = inr (is.runs x may.runs) })
+        subst (λ (k : ℕ). IsUpToDate g s (runs_after (Busy m d) (End x) p) start (noted d result) k) same (record { run = run; ran = ran_now (runs_after (Busy m d) (End x) p) (last_here x refl) refl refl; sees = sees_now; settled = inr (is.runs x may.runs) })
     end_settled are t (inr before) recipe =
         let differ : ¬ (x ≡ t) = λ same. runs_not_done g m is.order x may.runs (subst (λ (k : ℕ). Has m.done k) (sym same) before) in
         let up = are t before recipe in
-        record { run = up.run; is_last = last_there t differ ∙ up.is_last; whole = whole_still t up.run up.whole; sees = up.sees; settled = up.settled }
+        record { run = up.run; ran = ran_still t up.run differ up.ran; sees = up.sees; settled = up.settled }
 
   module _ (ready : Ready g m x) where
     -- what doesn't run after a node was passed didn't run
@@ -187,9 +205,7 @@ module _ (g : Graph) (s : Setting) (p : Runs) (start : ℕ) (m : Making) (d : Di
         began = fits.began;
         ended = fits.ended;
         end_step = fits.end_step;
-        begin_step = λ t r stopped is_last. fits.begin_step t r (stopped_passed t stopped) is_last;
-        after_begin = λ t f stamp stopped wrote has. fits.after_begin t f stamp (stopped_passed t stopped) wrote has;
-        whole = λ t stopped. fits.whole t (stopped_passed t stopped);
+        whole = λ t recipe stopped. fits.whole t recipe (stopped_passed t stopped);
         saw = fits.saw;
         apart = λ o t before. ⊎_elim (λ one. inl (through_finished o (p.began t) (p.begin_step t) (p.last o) one)) (λ two. inr (through_finished t (p.began o) (p.begin_step o) (p.last t) two)) (fits.apart o t before);
       };

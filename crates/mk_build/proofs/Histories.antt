@@ -1,25 +1,27 @@
 -- The invariant holds in each state of each legal history, and at the end of a make its goals are built.
 use Rattle.std.proofs.Common.{◌≡◌, ℕ, List, [], ◌∷◌, true, Option, Some, None, inl, inr, ⊎_elim, refl, sym, ◌∙◌, ap, subst, arith}
 use Rattle.std.specs.Option.{option_map}
-use Rattle.std.proofs.lemmas.Bool.{true≢false}
+use Rattle.std.proofs.lemmas.Bool.{true≢false, cases_Bool}
 use Rattle.mk_graph.specs.Membership.{Has}
 use Rattle.mk_graph.specs.Graph.{Graph, node, IsGraph}
-use Rattle.mk_build.specs.Setting.{FileName, Setting, is_editable, reads, writes}
+use Rattle.mk_build.specs.Setting.{FileName, Setting, is_editable, name, reads, writes}
 use Rattle.mk_build.specs.World.{File, Disk, Making, World, Idle, Busy, IsStartDisk, content, HasStamp, written, disk_of, outcome}
 use Rattle.mk_graph.specs.Schedules.{IsPart}
 use Rattle.mk_build.specs.Steps.{Step, Edit, Make, Begin, Look, Put, End, Pass, Stop, EndMake, MustRun, Ready, Allowed, after, make_of, finished, looked, has_put, IsLegal, after_all, disk_after}
 use Rattle.mk_build.specs.Runs.{WholeRun, Runs, no_runs, runs_after, runs_after_all, runs_of}
+use Rattle.mk_build.specs.Clean.{IsFresh}
 use Rattle.mk_build.specs.Ways.{Carries}
 use Rattle.mk_build.specs.Right.{AreSound, HaveNoRace, HaveWays, IsRightAt}
-use Rattle.mk_build.specs.RunLaws.{SawOrWasWrittenAfter, RanBefore}
+use Rattle.mk_build.specs.Coherent.{ContainsOrChanged}
+use Rattle.mk_build.specs.RunLaws.{RanBefore}
 use Rattle.mk_build.proofs.Sound.{editable_is_not_written}
-use Rattle.mk_build.proofs.Invariant.{IsUntouched, SawOrLater, Fits, IsUpToDate, AreUpToDate, Holds, IsInvariant, IsSettled, start_after, fits_later, holds_later, up_later}
-use Rattle.mk_build.proofs.Writing.{map_same, fits_written}
+use Rattle.mk_build.proofs.Invariant.{SawOrLater, Fits, IsUpToDate, AreUpToDate, Holds, IsInvariant, IsSettled, start_after, fits_later, holds_later, up_later}
+use Rattle.mk_build.proofs.Writing.{cases_file, map_same, fits_written}
 use Rattle.mk_build.proofs.Putting.{put_holds, put_settled, look_holds}
-use Rattle.mk_build.proofs.Passing.{cases_file, ready_ran_after, passed_is_up_to_date}
+use Rattle.mk_build.proofs.Passing.{ready_ran_after, passed_is_up_to_date}
 use Rattle.mk_build.proofs.Beginning.{begin_holds, begin_settled}
 use Rattle.mk_build.proofs.Ending.{end_holds, end_settled, pass_holds, pass_settled}
-use Rattle.mk_build.proofs.CleanEnd.{IsFresh, is_built}
+use Rattle.mk_build.proofs.CleanEnd.{is_built}
 
 -- a file with a stamp is there
 pub stamped_file : (d : Disk) (f : FileName) (stamp : ℕ) → HasStamp d f stamp → (file : File) × (d.files f ≡ Some file) × (file.stamp ≡ stamp)
@@ -37,15 +39,24 @@ module _ (g : Graph) (s : Setting) where
   kept_with_runs P keeps p start w [] is legal = (start, is)
   kept_with_runs P keeps p start w (step ∷ steps) is legal = kept_with_runs P keeps (runs_after w step p) (start_after w step start) (after g s w step) steps (keeps p start w step is legal.0) legal.1
 
-module _ (g : Graph) (s : Setting) (graph : IsGraph g) (sound : AreSound g s) where
+module _ (g : Graph) (s : Setting) (sound : AreSound g s) where
+  -- none of its files is there
+  abbrev pub IsUntouched : Disk → ℕ → Type 0
+  IsUntouched d t = (f : FileName) → Has (writes g s t) f → d.files f ≡ None
+
   -- nothing that recipes write is there at a start
-  pub untouched_at_start : (d : Disk) → IsStartDisk s d → (t : ℕ) → IsUntouched g s d t
+  pub untouched_at_start : (d : Disk) → IsStartDisk s d → (t : ℕ) → IsUntouched d t
   untouched_at_start d start t f wrote =
       ⊎_elim (λ none. none) (λ there. let is = stamped_file d f there.0 there.1 in absurd (true≢false (sym (start.given f is.0 is.1) ∙ sound.not_given t f wrote))) (cases_file d f)
 
   -- so no file of a recipe has a stamp
-  no_stamp : (d : Disk) (t : ℕ) → IsUntouched g s d t → (f : FileName) (stamp : ℕ) → Has (writes g s t) f → ¬ (HasStamp d f stamp)
+  no_stamp : (d : Disk) (t : ℕ) → IsUntouched d t → (f : FileName) (stamp : ℕ) → Has (writes g s t) f → ¬ (HasStamp d f stamp)
   no_stamp d t none f stamp wrote has = let gone : None ≡ Some stamp = sym (ap (λ (x : Option File). option_map (λ (y : File). y.stamp) x) (none f wrote)) ∙ has in cc
+
+  -- a recipe that has none of its files must run
+  pub untouched_must_run : (d : Disk) (t : ℕ) → (node g t).recipe ≡ true → IsUntouched d t → MustRun g d t
+  untouched_must_run d t recipe none =
+      ⊎_elim (λ phony. inl (inl phony)) (λ not_phony. inr (inl (none (name g t) (sound.target t recipe not_phony)))) (cases_Bool (node g t).phony)
 
   -- no recipe has a last run at first
   no_last : {A : Type 0} (run : WholeRun) → None ≡ Some run → A
@@ -58,16 +69,15 @@ module _ (g : Graph) (s : Setting) (graph : IsGraph g) (sound : AreSound g s) wh
     began = λ t. omega arith;
     ended = λ t run e. no_last run e;
     end_step = λ t run e. no_last run e;
-    begin_step = λ t run stopped e. no_last run e;
-    after_begin = λ t f stamp stopped wrote has. absurd (no_stamp d t (untouched_at_start d start t) f stamp wrote has);
-    whole = λ t stopped. inl (untouched_at_start d start t);
+    whole = λ t recipe stopped. inl (inl (untouched_must_run d t recipe (untouched_at_start d start t)));
     saw = λ t run e. no_last run e;
     apart = λ o t before. inl (record { stopped = λ h. h; early = λ f stamp wrote has. absurd (no_stamp d o (untouched_at_start d start o) f stamp wrote has); ended = λ run e. no_last run e; end_step = λ run e. no_last run e });
   }
 
+module _ (g : Graph) (s : Setting) (graph : IsGraph g) (sound : AreSound g s) where
   -- after an edit
   edit_fits : (p : Runs) (d : Disk) (f : FileName) (c : ℕ) → Fits g s p [] d → is_editable s f ≡ true → Fits g s p [] (written d f c)
-  edit_fits p d f c fits editable = fits_written g s p [] d fits f c (inl editable) (λ t wrote. absurd (editable_is_not_written g s graph sound t f editable wrote))
+  edit_fits p d f c fits editable = fits_written g s p [] d fits f c (inl editable) (λ t wrote. absurd (editable_is_not_written g s graph sound t f editable wrote)) sound
 
   -- after the begin of a make
   pub make_holds : (p : Runs) (d : Disk) (jobs : ℕ) (goals : List ℕ) → Fits g s p [] d → IsPart goals g.goals → Holds g s p d.clock (make_of jobs goals) d
@@ -111,8 +121,8 @@ module _ (g : Graph) (s : Setting) (graph : IsGraph g) (sound : AreSound g s) wh
     step_keeps p start (Busy m d) EndMake is may = fits_later g s p [] d (rest_after p start m d is may.1)
 
     -- the invariant after a legal history
-    pub history_fits : (d : Disk) (steps : List Step) → IsStartDisk s d → IsLegal g s (Idle d) steps → (start : ℕ) × IsInvariant g s (runs_of g s d steps) start (after_all g s (Idle d) steps)
-    history_fits d steps start legal = kept_with_runs g s (IsInvariant g s) step_keeps no_runs 0 (Idle d) steps (start_fits d start) legal
+    pub history_fits : (p : Runs) (d : Disk) (steps : List Step) → Fits g s p [] d → IsLegal g s (Idle d) steps → (start : ℕ) × IsInvariant g s (runs_after_all g s (Idle d) steps p) start (after_all g s (Idle d) steps)
+    history_fits p d steps fits legal = kept_with_runs g s (IsInvariant g s) step_keeps p 0 (Idle d) steps fits legal
 
     -- the disk of a world fits the runs
     saw_in : (p : Runs) (start : ℕ) (w : World) → IsInvariant g s p start w → (t : ℕ) (run : WholeRun) → p.last t ≡ Some run → SawOrLater g s run (disk_of w) t
@@ -120,10 +130,10 @@ module _ (g : Graph) (s : Setting) (graph : IsGraph g) (sound : AreSound g s) wh
     saw_in p start (Busy m d) is = is.fits.saw
 
     -- so last runs saw what is there, or it was written since
-    pub last_runs_saw : (d : Disk) (steps : List Step) → IsStartDisk s d → IsLegal g s (Idle d) steps → (t : ℕ) (run : WholeRun) → (runs_of g s d steps).last t ≡ Some run → (f : FileName) → Has (reads g s t) f → SawOrWasWrittenAfter run (disk_after g s d steps) f
+    pub last_runs_saw : (d : Disk) (steps : List Step) → IsStartDisk s d → IsLegal g s (Idle d) steps → (t : ℕ) (run : WholeRun) → (runs_of g s d steps).last t ≡ Some run → (f : FileName) → Has (reads g s t) f → ContainsOrChanged g s (disk_after g s d steps) f (run.saw f) run.ended
     last_runs_saw d steps start legal t run is_last f read =
-        let is = history_fits d steps start legal in
-        ⊎_elim (λ sees. inl sees) (λ late. inr late.1) (saw_in (runs_of g s d steps) is.0 (after_all g s (Idle d) steps) is.1 t run is_last f read)
+        let is = history_fits no_runs d steps (start_fits g s sound d start) legal in
+        saw_in (runs_of g s d steps) is.0 (after_all g s (Idle d) steps) is.1 t run is_last f read
 
     -- a node may be passed where it is up to date, if it has a recipe
     abbrev pub PassesUpToDate : Runs → ℕ → Making → Disk → Type 0
@@ -166,7 +176,7 @@ module _ (g : Graph) (s : Setting) (graph : IsGraph g) (sound : AreSound g s) wh
     fresh_from : (p : Runs) (start : ℕ) (m : Making) (d : Disk) → AreUpToDate g s p start m d → (n : ℕ) → Has m.done n → (node g n).recipe ≡ true → IsFresh g s d n
     fresh_from p start m d are n done recipe =
         let up = are n done recipe in
-        record { written = up.whole.written; known = subst (λ (l : List (Option ℕ)). outcome d.known n l ≡ Some up.whole.written) (sym (map_same (content d) up.run.saw (reads g s n) up.sees)) up.whole.known; holds = up.whole.holds }
+        record { written = up.ran.whole.written; known = subst (λ (l : List (Option ℕ)). outcome d.known n l ≡ Some up.ran.whole.written) (sym (map_same (content d) up.run.saw (reads g s n) up.sees)) up.ran.whole.known; holds = up.ran.whole.holds }
 
     -- at the end of a make its goals are built
     pub right_at : (p : Runs) (start : ℕ) (w : World) → IsWhole p start w → IsRightAt g s w
@@ -177,17 +187,17 @@ module _ (g : Graph) (s : Setting) (graph : IsGraph g) (sound : AreSound g s) wh
       -- each step keeps all of it, where each read that needs a way has one
       whole_keeps : (p : Runs) (start : ℕ) (w : World) (step : Step) → IsWhole p start w → Allowed g s w step → IsWhole (runs_after w step p) (start_after w step start) (after g s w step)
       whole_keeps p start w step is may =
-          (step_keeps p start w step is.0 may, step_settles (λ q begun m d at are n ready recipe need_not. passed_is_up_to_date g s graph sound q begun m d at.fits at.make are n ready recipe need_not ways) p start w step is may)
+          (step_keeps p start w step is.0 may, step_settles (λ q begun m d at are n ready recipe need_not. passed_is_up_to_date g s graph sound q begun m d at.fits at.make are n ready recipe need_not no_race ways) p start w step is may)
 
-      -- so does each legal history
-      history_is_whole : (d : Disk) (steps : List Step) → IsStartDisk s d → IsLegal g s (Idle d) steps → (start : ℕ) × IsWhole (runs_of g s d steps) start (after_all g s (Idle d) steps)
-      history_is_whole d steps start legal = kept_with_runs g s IsWhole whole_keeps no_runs 0 (Idle d) steps (start_fits d start, tt) legal
+      -- so does each legal history from a disk that fits some runs
+      pub fits_is_whole : (p : Runs) (d : Disk) (steps : List Step) → Fits g s p [] d → IsLegal g s (Idle d) steps → (start : ℕ) × IsWhole (runs_after_all g s (Idle d) steps p) start (after_all g s (Idle d) steps)
+      fits_is_whole p d steps fits legal = kept_with_runs g s IsWhole whole_keeps p 0 (Idle d) steps (fits, tt) legal
 
-      -- each legal history is right
-      pub history_is_right : (d : Disk) (steps : List Step) → IsStartDisk s d → IsLegal g s (Idle d) steps → IsRightAt g s (after_all g s (Idle d) steps)
-      history_is_right d steps start legal =
-          let is = history_is_whole d steps start legal in
-          right_at (runs_of g s d steps) is.0 (after_all g s (Idle d) steps) is.1
+      -- it is right
+      pub fits_is_right : (p : Runs) (d : Disk) (steps : List Step) → Fits g s p [] d → IsLegal g s (Idle d) steps → IsRightAt g s (after_all g s (Idle d) steps)
+      fits_is_right p d steps fits legal =
+          let is = fits_is_whole p d steps fits legal in
+          right_at (runs_after_all g s (Idle d) steps p) is.0 (after_all g s (Idle d) steps) is.1
 
       -- the last run of what a recipe carries lies before its own, where it may be passed
       ran_in : (p : Runs) (start : ℕ) (w : World) → IsWhole p start w → (t o : ℕ) → (node g t).recipe ≡ true → Allowed g s w (Pass t) → Carries g s t o → RanBefore p o t
@@ -198,5 +208,5 @@ module _ (g : Graph) (s : Setting) (graph : IsGraph g) (sound : AreSound g s) wh
       -- so in each legal history
       pub carried_ran_before : (d : Disk) (steps : List Step) → IsStartDisk s d → IsLegal g s (Idle d) steps → (t o : ℕ) → (node g t).recipe ≡ true → Allowed g s (after_all g s (Idle d) steps) (Pass t) → Carries g s t o → RanBefore (runs_of g s d steps) o t
       carried_ran_before d steps start legal t o recipe may carries =
-          let is = history_is_whole d steps start legal in
+          let is = fits_is_whole no_runs d steps (start_fits g s sound d start) legal in
           ran_in (runs_of g s d steps) is.0 (after_all g s (Idle d) steps) is.1 t o recipe may carries

@@ -1,13 +1,13 @@
 -- What holds in each state of each legal history where footprints are sound.
-use Rattle.std.proofs.Common.{◌≡◌, ℕ, ◌<◌, ◌≤◌, List, [], true, Option, Some, None, map, ◌⊎◌, arith}
+use Rattle.std.proofs.Common.{◌≡◌, ℕ, ◌<◌, ◌≤◌, List, [], true, Option, Some, map, ◌⊎◌, inl, inr, ⊎_elim, refl, ◌∙◌, sym, arith}
 use Rattle.mk_graph.specs.Membership.{Has}
 use Rattle.mk_graph.specs.Graph.{Graph, node}
 use Rattle.mk_build.specs.Setting.{FileName, Setting, reads, writes}
-use Rattle.mk_build.specs.World.{Disk, Making, World, Idle, Busy, content, HasStamp, WasWrittenAfter, outcome}
+use Rattle.mk_build.specs.World.{Disk, Making, World, Idle, Busy, content, HasStamp, outcome}
 use Rattle.mk_graph.specs.Schedules.{Before}
 use Rattle.mk_build.specs.Steps.{Step, Make, MustRun}
 use Rattle.mk_build.specs.Runs.{WholeRun, Runs, one_later}
-use Rattle.mk_build.specs.Ways.{CanChange}
+use Rattle.mk_build.specs.Coherent.{IsBoundToRun, ContainsOrChanged}
 use Rattle.mk_build.proofs.InOrder.{InOrder}
 
 -- The recipe is as its last whole run left it: what it wrote is there, as the outcome of what it saw, and no later than
@@ -18,9 +18,13 @@ pub record HasRunWhole (g : Graph) (s : Setting) (run : WholeRun) (d : Disk) (t 
   pub holds : map (content d) (writes g s t) ≡ map (λ c. Some c) written
   pub early : (f : FileName) (stamp : ℕ) → Has (writes g s t) f → HasStamp d f stamp → stamp ≤ run.ended
 
--- none of its files is there
-abbrev pub IsUntouched : Graph → Setting → Disk → ℕ → Type 0
-IsUntouched g s d t = (f : FileName) → Has (writes g s t) f → d.files f ≡ None
+-- The recipe is as its last whole run left it, which it last began: what it wrote is later than this begin.
+pub record RanWhole (g : Graph) (s : Setting) (p : Runs) (run : WholeRun) (d : Disk) (t : ℕ) : Type 0 where
+  pub is_last : p.last t ≡ Some run
+  pub begin_step : run.begin_step ≡ p.begin_step t
+  pub in_order : p.began t ≤ run.ended
+  pub whole : HasRunWhole g s run d t
+  pub after_begin : (f : FileName) (stamp : ℕ) → Has (writes g s t) f → HasStamp d f stamp → p.began t < stamp
 
 -- The recipe was through at this clock and before this step: it isn't running, what it wrote is no later than the clock,
 -- and its last whole run ended no later and before the step.
@@ -30,22 +34,19 @@ pub record WasThrough (g : Graph) (s : Setting) (last : Option WholeRun) (runnin
   pub ended : (run : WholeRun) → last ≡ Some run → run.ended ≤ clock
   pub end_step : (run : WholeRun) → last ≡ Some run → run.end_step < step
 
--- Each file that a recipe reads holds what its last whole run saw, or can change and was written after that run.
+-- Each file that a recipe reads contains what its last whole run saw, or has changed since.
 abbrev pub SawOrLater : Graph → Setting → WholeRun → Disk → ℕ → Type 0
-SawOrLater g s run d t = (f : FileName) → Has (reads g s t) f → (content d f ≡ run.saw f) ⊎ (CanChange s f × WasWrittenAfter d f run.ended)
+SawOrLater g s run d t = (f : FileName) → Has (reads g s t) f → ContainsOrChanged g s d f (run.saw f) run.ended
 
--- The disk fits the runs so far, while these recipes run: stamps, begins and ends have come; what a recipe wrote is
--- later than its last begin; a recipe that doesn't run has last begun its last whole run, or has none of its files; what
--- last runs saw is there or was written since; and of two of which one is before the other, one was through when the
--- other last began.
+-- The disk fits the runs so far, while these recipes run: stamps, begins and ends have come; a recipe that doesn't run is
+-- bound to run or is as its last whole run left it; what last runs saw is there or has changed since; and of two of
+-- which one is before the other, one was through when the other last began.
 pub record Fits (g : Graph) (s : Setting) (p : Runs) (running : List ℕ) (d : Disk) : Type 0 where
   pub stamped : (f : FileName) (stamp : ℕ) → HasStamp d f stamp → stamp ≤ d.clock
   pub began : (t : ℕ) → p.began t ≤ d.clock
   pub ended : (t : ℕ) (run : WholeRun) → p.last t ≡ Some run → run.ended ≤ d.clock
   pub end_step : (t : ℕ) (run : WholeRun) → p.last t ≡ Some run → run.end_step < p.steps
-  pub begin_step : (t : ℕ) (run : WholeRun) → ¬ (Has running t) → p.last t ≡ Some run → run.begin_step ≡ p.begin_step t
-  pub after_begin : (t : ℕ) (f : FileName) (stamp : ℕ) → ¬ (Has running t) → Has (writes g s t) f → HasStamp d f stamp → p.began t < stamp
-  pub whole : (t : ℕ) → ¬ (Has running t) → IsUntouched g s d t ⊎ ((run : WholeRun) × (p.last t ≡ Some run) × HasRunWhole g s run d t)
+  pub whole : (t : ℕ) → (node g t).recipe ≡ true → ¬ (Has running t) → IsBoundToRun g s d t ⊎ ((run : WholeRun) × RanWhole g s p run d t)
   pub saw : (t : ℕ) (run : WholeRun) → p.last t ≡ Some run → SawOrLater g s run d t
   pub apart : (o t : ℕ) → Before g o t → WasThrough g s (p.last o) running d o (p.began t) (p.begin_step t) ⊎ WasThrough g s (p.last t) running d t (p.began o) (p.begin_step o)
 
@@ -53,8 +54,7 @@ pub record Fits (g : Graph) (s : Setting) (p : Runs) (running : List ℕ) (d : D
 -- need not run or has run since the make began.
 pub record IsUpToDate (g : Graph) (s : Setting) (p : Runs) (start : ℕ) (d : Disk) (t : ℕ) : Type 0 where
   pub run : WholeRun
-  pub is_last : p.last t ≡ Some run
-  pub whole : HasRunWhole g s run d t
+  pub ran : RanWhole g s p run d t
   pub sees : (f : FileName) → Has (reads g s t) f → content d f ≡ run.saw f
   pub settled : (¬ (MustRun g d t)) ⊎ (start ≤ p.began t)
 
@@ -93,6 +93,25 @@ abbrev pub start_after : World → Step → ℕ → ℕ
 start_after (Idle d) (Make jobs goals) start = d.clock
 start_after world other start = start
 
+-- what ran whole has, after runs in which it began last and ended last as before
+pub ran_moved : (g : Graph) (s : Setting) (p q : Runs) (run : WholeRun) (d : Disk) (t : ℕ) → q.last t ≡ p.last t → q.began t ≡ p.began t → q.begin_step t ≡ p.begin_step t → RanWhole g s p run d t → RanWhole g s q run d t
+ran_moved g s p q run d t same_last same_begin same_step ran = record {
+  is_last = same_last ∙ ran.is_last;
+  begin_step = ran.begin_step ∙ sym same_step;
+  in_order = let before = ran.in_order in omega arith;
+  whole = ran.whole;
+  after_begin = λ f stamp wrote has. let late = ran.after_begin f stamp wrote has in omega arith;
+}
+
+-- what is up to date is so over the same begin and the same last run
+pub up_moved : (g : Graph) (s : Setting) (p q : Runs) (start : ℕ) (d : Disk) (t : ℕ) → q.last t ≡ p.last t → q.began t ≡ p.began t → q.begin_step t ≡ p.begin_step t → IsUpToDate g s p start d t → IsUpToDate g s q start d t
+up_moved g s p q start d t same_last same_begin same_step up = record {
+  run = up.run;
+  ran = ran_moved g s p q up.run d t same_last same_begin same_step up.ran;
+  sees = up.sees;
+  settled = ⊎_elim (λ need_not. inl need_not) (λ late. inr (omega arith)) up.settled;
+}
+
 -- what fits the runs fits them after one step more
 pub fits_later : (g : Graph) (s : Setting) (p : Runs) (running : List ℕ) (d : Disk) → Fits g s p running d → Fits g s (one_later p) running d
 fits_later g s p running d fits = record {
@@ -100,9 +119,7 @@ fits_later g s p running d fits = record {
   began = fits.began;
   ended = fits.ended;
   end_step = λ t run is_last. let came = fits.end_step t run is_last in omega arith;
-  begin_step = fits.begin_step;
-  after_begin = fits.after_begin;
-  whole = fits.whole;
+  whole = λ t recipe stopped. ⊎_elim (λ bound. inl bound) (λ ran. inr (ran.0, ran_moved g s p (one_later p) ran.0 d t refl refl refl ran.1)) (fits.whole t recipe stopped);
   saw = fits.saw;
   apart = fits.apart;
 }
@@ -123,6 +140,4 @@ holds_later g s p start m d is = record {
 
 -- what is up to date is so after one step more
 pub up_later : (g : Graph) (s : Setting) (p : Runs) (start : ℕ) (m : Making) (d : Disk) → AreUpToDate g s p start m d → AreUpToDate g s (one_later p) start m d
-up_later g s p start m d are t done recipe =
-    let up = are t done recipe in
-    record { run = up.run; is_last = up.is_last; whole = up.whole; sees = up.sees; settled = up.settled }
+up_later g s p start m d are t done recipe = up_moved g s p (one_later p) start d t refl refl refl (are t done recipe)

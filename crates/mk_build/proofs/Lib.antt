@@ -10,6 +10,8 @@ pub mod Outcomes
 pub mod Ending
 pub mod CleanEnd
 pub mod Histories
+pub mod Coherence
+pub mod CoherentHistories
 pub mod OneBuild
 pub mod Numbered
 pub mod WholeRuns

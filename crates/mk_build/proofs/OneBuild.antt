@@ -1,9 +1,8 @@
 -- One make from a start: what waits has no file yet, so that it must run.
 use Rattle.std.proofs.Common.{◌≡◌, ℕ, ◌+◌, List, [], ◌∷◌, true, Some, inl, inr, ⊎_elim, ◌∙◌, subst}
-use Rattle.std.proofs.lemmas.Bool.{cases_Bool}
 use Rattle.mk_graph.specs.Membership.{Has}
 use Rattle.mk_graph.specs.Graph.{Graph, node, IsGraph}
-use Rattle.mk_build.specs.Setting.{FileName, Setting, name, writes}
+use Rattle.mk_build.specs.Setting.{FileName, Setting, writes}
 use Rattle.mk_build.specs.World.{Disk, Making, World, Idle, Busy, IsStartDisk, content, written}
 use Rattle.mk_build.specs.Steps.{Step, Edit, Make, Begin, Look, Put, End, Pass, Stop, EndMake, MustRun, Ready, Allowed, after, make_of, finished, looked, has_put, IsLegal, after_all}
 use Rattle.mk_build.specs.Runs.{Runs, no_runs, runs_after}
@@ -11,21 +10,20 @@ use Rattle.mk_build.specs.Right.{AreSound, HaveNoRace, IsRightAt}
 use Rattle.mk_build.specs.BuildLaws.{IsInside, AreInside}
 use Rattle.mk_build.proofs.Changes.{cases_name, changed_there}
 use Rattle.mk_build.proofs.InOrder.{Has-from_without}
-use Rattle.mk_build.proofs.Invariant.{IsUntouched, IsSettled, start_after, up_later}
+use Rattle.mk_build.proofs.Invariant.{IsSettled, start_after, up_later}
 use Rattle.mk_build.proofs.Beginning.{begin_settled}
 use Rattle.mk_build.proofs.Putting.{put_settled}
 use Rattle.mk_build.proofs.Ending.{end_settled}
-use Rattle.mk_build.proofs.Histories.{untouched_at_start, start_fits, make_holds, step_keeps, PassesUpToDate, pass_keeps_settled, IsWhole, right_at}
+use Rattle.mk_build.proofs.Histories.{IsUntouched, untouched_at_start, untouched_must_run, start_fits, make_holds, step_keeps, PassesUpToDate, pass_keeps_settled, IsWhole, right_at}
 
 module _ (g : Graph) (s : Setting) (graph : IsGraph g) (sound : AreSound g s) (no_race : HaveNoRace g s) where
   -- no file of what waits is there
   abbrev WaitUntouched : Making → Disk → Type 0
-  WaitUntouched m d = (t : ℕ) → ¬ (Has m.done t) → ¬ (Has m.running t) → IsUntouched g s d t
+  WaitUntouched m d = (t : ℕ) → ¬ (Has m.done t) → ¬ (Has m.running t) → IsUntouched g s sound d t
 
   -- what is ready has no file, so it must run
   ready_must_run : (m : Making) (d : Disk) → WaitUntouched m d → (t : ℕ) → Ready g m t → (node g t).recipe ≡ true → MustRun g d t
-  ready_must_run m d none t ready recipe =
-      ⊎_elim (λ phony. inl (inl phony)) (λ not_phony. inr (inl (none t ready.0.not_done ready.1 (name g t) (sound.target t recipe not_phony)))) (cases_Bool (node g t).phony)
+  ready_must_run m d none t ready recipe = untouched_must_run g s sound d t recipe (none t ready.0.not_done ready.1)
 
   -- what waits in a world has no file
   abbrev HaveNoFile : World → Type 0
@@ -84,4 +82,4 @@ module _ (g : Graph) (s : Setting) (graph : IsGraph g) (sound : AreSound g s) (n
   -- one make from a start is right
   pub one_build : (d : Disk) (jobs : ℕ) (goals : List ℕ) (steps : List Step) → IsStartDisk s d → AreInside steps → IsLegal g s (Idle d) (Make jobs goals ∷ steps) → IsRightAt g s (after_all g s (Idle d) (Make jobs goals ∷ steps))
   one_build d jobs goals steps start inside legal =
-      all_right no_runs d.clock (Busy (make_of jobs goals) d) steps inside (λ t not_done stopped. untouched_at_start g s graph sound d start t) (make_holds g s graph sound no_runs d jobs goals (start_fits g s graph sound d start) legal.0.1, λ t done. absurd done) legal.1
+      all_right no_runs d.clock (Busy (make_of jobs goals) d) steps inside (λ t not_done stopped. untouched_at_start g s sound d start t) (make_holds g s graph sound no_runs d jobs goals (start_fits g s sound d start) legal.0.1, λ t done. absurd done) legal.1

@@ -1,28 +1,23 @@
 -- A recipe that need not run and whose turn has come is up to date.
-use Rattle.std.proofs.Common.{◌≡◌, ℕ, ◌<◌, ◌≤◌, List, [], ◌∷◌, true, false, Option, Some, None, map, ◌⊎◌, inl, inr, ⊎_elim, refl, sym, ◌∙◌, ap, subst, arith}
+use Rattle.std.proofs.Common.{◌≡◌, ℕ, ◌<◌, ◌≤◌, List, [], ◌∷◌, true, false, Option, Some, None, map, ◌⊎◌, inl, inr, ⊎_elim, sym, ◌∙◌, ap, subst, arith}
 use Rattle.std.specs.Option.{option_map}
 use Rattle.std.proofs.lemmas.Bool.{cases_Bool, cases_lt}
 use Rattle.mk_graph.specs.Membership.{Has}
 use Rattle.mk_graph.specs.Graph.{Graph, node, prerequisites, IsGraph}
-use Rattle.mk_build.specs.Setting.{FileName, Setting, name, writes}
-use Rattle.mk_build.specs.World.{File, Disk, Making, content, HasStamp}
+use Rattle.mk_build.specs.Setting.{FileName, Setting, name, reads, writes}
+use Rattle.mk_build.specs.World.{File, Disk, Making, content, HasStamp, WasWrittenAfter}
 use Rattle.mk_graph.specs.Schedules.{Before}
 use Rattle.mk_build.specs.Steps.{MustRun, Ready}
 use Rattle.mk_build.specs.Runs.{WholeRun, Runs}
-use Rattle.mk_build.specs.Ways.{Carries, Way, over, written, source, always}
-use Rattle.mk_build.specs.Right.{AreSound, HaveWays}
+use Rattle.mk_build.specs.Ways.{Carries, Way, over, written, source, always, CanChange}
+use Rattle.mk_build.specs.Right.{AreSound, HaveNoRace, HaveWays}
+use Rattle.mk_build.specs.Coherent.{IsMissing}
 use Rattle.mk_build.specs.RunLaws.{RanBefore}
 use Rattle.mk_graph.proofs.Turning.{turn_has_before}
 use Rattle.mk_build.proofs.InOrder.{runs_not_done}
-use Rattle.mk_build.proofs.Sound.{writer_has_recipe, carried_is_before}
-use Rattle.mk_build.proofs.Invariant.{HasRunWhole, WasThrough, Fits, InMake, IsUpToDate, AreUpToDate}
-
--- a file that is there has a stamp
-pub cases_file : (d : Disk) (f : FileName) → (d.files f ≡ None) ⊎ ((stamp : ℕ) × HasStamp d f stamp)
-cases_file d f = cases_option (d.files f) refl where
-  cases_option : (o : Option File) → d.files f ≡ o → (d.files f ≡ None) ⊎ ((stamp : ℕ) × HasStamp d f stamp)
-  cases_option None e = inl e
-  cases_option (Some file) e = inr (file.stamp, ap (λ (x : Option File). option_map (λ (y : File). y.stamp) x) e)
+use Rattle.mk_build.proofs.Sound.{writer_has_recipe, carried_is_before, writer_is_before}
+use Rattle.mk_build.proofs.Writing.{cases_file}
+use Rattle.mk_build.proofs.Invariant.{RanWhole, WasThrough, Fits, InMake, IsUpToDate, AreUpToDate}
 
 -- what was written whole is there
 pub is_there : (d : Disk) (files : List FileName) (contents : List ℕ) → map (content d) files ≡ map (λ c. Some c) contents → (f : FileName) → Has files f → (c : ℕ) × (content d f ≡ Some c)
@@ -48,6 +43,19 @@ pub no_later : (g : Graph) (d : Disk) (t q stamp late : ℕ) → ¬ (MustRun g d
 no_later g d t q stamp late need_not need has has_late = ⊎_elim (λ less. absurd (need_not (inr (inr (q, stamp, late, need, has, has_late, less))))) (λ le. le) (cases_lt stamp late)
 
 module _ (g : Graph) (s : Setting) (graph : IsGraph g) (sound : AreSound g s) (p : Runs) (start : ℕ) (m : Making) (d : Disk) (fits : Fits g s p m.running d) (is : InMake g s p start m d) (done : AreUpToDate g s p start m d) where
+  -- what a done recipe writes is there
+  written_is_there : (o : ℕ) → Has m.done o → (f : FileName) → Has (writes g s o) f → (stamp : ℕ) × HasStamp d f stamp
+  written_is_there o o_done f wrote =
+      let whole = (done o o_done (writer_has_recipe g s o f wrote)).ran.whole in
+      let there = is_there d (writes g s o) whole.written whole.holds f wrote in
+      has_stamp d f there.0 there.1
+
+  -- so it isn't missing
+  not_missing : (o : ℕ) → Has m.done o → (f : FileName) → Has (writes g s o) f → ¬ (d.files f ≡ None)
+  not_missing o o_done f wrote none =
+      let there = written_is_there o o_done f wrote in
+      let gone : None ≡ Some there.0 = sym (ap (λ (x : Option File). option_map (λ (y : File). y.stamp) x) none) ∙ there.1 in cc
+
   -- A recipe on the way: it need not run, last began no later than the make, and all that is before it is done.
   record IsPassed (t : ℕ) : Type 0 where
     recipe : (node g t).recipe ≡ true
@@ -71,13 +79,11 @@ module _ (g : Graph) (s : Setting) (graph : IsGraph g) (sound : AreSound g s) (p
     -- the direct prerequisite over which it is carried is there
     link_is_there : (stamp : ℕ) × HasStamp d (name g carries.0) stamp
     link_is_there =
-        let whole = (done o carried_is_done carried_has_recipe).whole in
-        let there = is_there d (writes g s o) whole.written whole.holds (name g carries.0) carries.2 in
-        has_stamp d (name g carries.0) there.0 there.1
+        written_is_there o carried_is_done (name g carries.0) carries.2
 
     -- it was written after its writer began
     link_is_late : p.began o < link_is_there.0
-    link_is_late = fits.after_begin o (name g carries.0) link_is_there.0 (λ runs. runs_not_done g m is.order o runs carried_is_done) carries.2 link_is_there.1
+    link_is_late = (done o carried_is_done carried_has_recipe).ran.after_begin (name g carries.0) link_is_there.0 carries.2 link_is_there.1
 
     -- what is carried was through when the recipe last began
     carried_was_through : WasThrough g s (p.last o) m.running d o (p.began t) (p.begin_step t)
@@ -88,7 +94,7 @@ module _ (g : Graph) (s : Setting) (graph : IsGraph g) (sound : AreSound g s) (p
 
     -- so its last whole run lies before the last begin of the recipe
     carried_ran_before : (first : WholeRun) × (p.last o ≡ Some first) × (first.end_step < p.begin_step t)
-    carried_ran_before = let up = done o carried_is_done carried_has_recipe in (up.run, up.is_last, carried_was_through.end_step up.run up.is_last)
+    carried_ran_before = let up = done o carried_is_done carried_has_recipe in (up.run, up.ran.is_last, carried_was_through.end_step up.run up.ran.is_last)
 
     -- it last began before the recipe
     began_before : p.began o < p.began t
@@ -107,6 +113,14 @@ module _ (g : Graph) (s : Setting) (graph : IsGraph g) (sound : AreSound g s) (p
       before = λ k before. turn_has_before g m.goals is.order.part k o carried_has_recipe before m.done is.order.turns carried_is_done;
     }
 
+  -- what was passed is as its last whole run left it
+  passed_ran_whole : (t : ℕ) → IsPassed t → (run : WholeRun) × RanWhole g s p run d t
+  passed_ran_whole t passed = elim (fits.whole t passed.recipe passed.stopped) [
+    | inl (inl must) ↦ absurd (passed.need_not must)
+    | inl (inr (q, need, missing)) ↦ absurd (not_missing missing.1.0 (passed.before missing.1.0 (carried_is_before g s graph sound t missing.1.0 (q, need, missing.1.1))) (name g q) missing.1.1 missing.0)
+    | inr ran ↦ ran
+  ]
+
   -- a file that has a way from a recipe that was passed is no later than its target
   along : (f : FileName) {t : ℕ} → Way g s f t → IsPassed t → (stamp late : ℕ) → HasStamp d (name g t) stamp → HasStamp d f late → late ≤ stamp
   along f {t = t} (over o carries way) passed stamp late has has_late =
@@ -114,11 +128,11 @@ module _ (g : Graph) (s : Setting) (graph : IsGraph g) (sound : AreSound g s) (p
       let target = target_is_there g d o o_passed.need_not in
       let bound = along f way o_passed target.0 late target.1 has_late in
       let early = (carried_was_through t o passed carries).early (name g o) target.0 (own_target o o_passed) target.1 in
-      let begun = fits.after_begin t (name g t) stamp passed.stopped (own_target t passed) has in
+      let begun = (passed_ran_whole t passed).1.after_begin (name g t) stamp (own_target t passed) has in
       omega arith
   along f {t = t} (written o carries wrote) passed stamp late has has_late =
       let early = (carried_was_through t o passed carries).early f late wrote has_late in
-      let begun = fits.after_begin t (name g t) stamp passed.stopped (own_target t passed) has in
+      let begun = (passed_ran_whole t passed).1.after_begin (name g t) stamp (own_target t passed) has in
       omega arith
   along f {t = t} (source editable needs) passed stamp late has has_late =
       no_later g d t needs.0 stamp late passed.need_not needs.1 has (subst (λ (k : FileName). HasStamp d k late) (sym needs.2) has_late)
@@ -130,31 +144,40 @@ module _ (g : Graph) (s : Setting) (graph : IsGraph g) (sound : AreSound g s) (p
     ready_is_passed = record { recipe = recipe; need_not = need_not; stopped = ready.1; waited = is.waits t ready.0.not_done ready.1; before = λ o before. before recipe m.goals m.done is.order.part is.order.turns ready.0 }
 
     -- it is as its last whole run left it
-    ready_ran_whole : (run : WholeRun) × (p.last t ≡ Some run) × HasRunWhole g s run d t
-    ready_ran_whole =
-        let target = target_is_there g d t need_not in
-        ⊎_elim (λ none. let gone : None ≡ Some target.0 = sym (ap (λ (x : Option File). option_map (λ (y : File). y.stamp) x) (none (name g t) (own_target t ready_is_passed))) ∙ target.1 in absurd (cc)) (λ is_whole. is_whole) (fits.whole t ready.1)
+    ready_ran_whole : (run : WholeRun) × RanWhole g s p run d t
+    ready_ran_whole = passed_ran_whole t ready_is_passed
 
     -- the last run of what it carries lies before its own
     pub ready_ran_after : (o : ℕ) → Carries g s t o → RanBefore p o t
     ready_ran_after o carries =
         let first = carried_ran_before t o ready_is_passed carries in
         let own = ready_ran_whole in
-        let same = fits.begin_step t own.0 ready.1 own.1 in
-        record { first = first.0; second = own.0; is_of_first = first.1; is_of_second = own.1; in_order = let early = first.2 in omega arith }
+        let same = own.1.begin_step in
+        record { first = first.0; second = own.0; is_of_first = first.1; is_of_second = own.1.is_last; in_order = let early = first.2 in omega arith }
 
-    -- it is up to date
-    pub passed_is_up_to_date : HaveWays g s → IsUpToDate g s p start d t
-    passed_is_up_to_date ways =
+    -- what was written after its last run and has a way is no later than its target, which isn't so
+    written_no_later : HaveWays g s → (f : FileName) → Has (reads g s t) f → CanChange s f → ¬ (WasWrittenAfter d f ready_ran_whole.0.ended)
+    written_no_later ways f read can later =
         let target = target_is_there g d t need_not in
         let own = ready_ran_whole in
-        record {
-          run = own.0;
-          is_last = own.1;
-          whole = own.2;
-          sees = λ f read. ⊎_elim (λ sees. sees) (λ later. let bound = along f (ways t f read later.0)
-              ready_is_passed target.0 later.1.0 target.1 later.1.1 in let less = later.1.2 in let early =
-              own.2.early (name g t) target.0 (own_target t ready_is_passed) target.1 in absurd (omega arith))
-              (fits.saw t own.0 own.1 f read);
-          settled = inl need_not;
-        }
+        let bound = along f (ways t f read can) ready_is_passed target.0 later.0 target.1 later.1 in
+        let less = later.2 in
+        let early = own.1.whole.early (name g t) target.0 (own_target t ready_is_passed) target.1 in
+        omega arith
+
+    -- what it reads isn't missing, as its writer is done
+    read_not_missing : HaveNoRace g s → (f : FileName) → Has (reads g s t) f → ¬ (IsMissing g s d f)
+    read_not_missing no_race f read missing =
+        not_missing missing.1.0 (ready_is_passed.before missing.1.0 (writer_is_before g s graph sound no_race t missing.1.0 f read missing.1.1)) f missing.1.1 missing.0
+
+    -- so each file that it reads contains what its last run saw
+    sees_all : HaveNoRace g s → HaveWays g s → (f : FileName) → Has (reads g s t) f → content d f ≡ ready_ran_whole.0.saw f
+    sees_all no_race ways f read = elim (fits.saw t ready_ran_whole.0 ready_ran_whole.1.is_last f read) [
+      | inl sees ↦ sees
+      | inr (inl later) ↦ absurd (written_no_later ways f read later.0 later.1)
+      | inr (inr missing) ↦ absurd (read_not_missing no_race f read missing)
+    ]
+
+    -- it is up to date
+    pub passed_is_up_to_date : HaveNoRace g s → HaveWays g s → IsUpToDate g s p start d t
+    passed_is_up_to_date no_race ways = record { run = ready_ran_whole.0; ran = ready_ran_whole.1; sees = sees_all no_race ways; settled = inl need_not }

@@ -14,7 +14,7 @@ use Rattle.mk_graph.proofs.Turning.{turn_has_before}
 use Rattle.mk_build.proofs.InOrder.{InOrder, runs_not_done}
 use Rattle.mk_build.proofs.Sound.{reader_has_recipe, carried_is_before, written_can_change, writer_is_before}
 use Rattle.mk_build.proofs.Invariant.{Fits, InMake, AreUpToDate, Holds}
-use Rattle.mk_build.proofs.Writing.{content_here, content_there, stamp_is, stamp_there, whole_written, fits_written, must_written}
+use Rattle.mk_build.proofs.Writing.{content_here, content_there, stamp_is, stamp_there, ran_written, fits_written, must_written}
 
 -- a recipe that is before a running or done one doesn't run
 module _ (g : Graph) (m : Making) (order : InOrder g m) (o t : ℕ) (before : Before g o t) where
@@ -60,8 +60,7 @@ module _ (g : Graph) (s : Setting) (graph : IsGraph g) (sound : AreSound g s) (n
       let up = are t t_done recipe in
       record {
         run = up.run;
-        is_last = up.is_last;
-        whole = whole_written g s p m.running d fits f c (written_can_change g s graph sound x f wrote) only_it t up.run (λ h. runs_not_done g m is.order t h t_done) up.whole;
+        ran = ran_written g s p m.running d fits f c (written_can_change g s graph sound x f wrote) only_it t up.run (λ h. runs_not_done g m is.order t h t_done) up.ran;
         sees = λ h read. content_there d f c h (not_read_by_done t h t_done read) ∙ up.sees h read;
         settled = ⊎_elim (λ need_not. inl (λ must. need_not (must_written g s p m.running d fits f c (written_can_change g s graph sound x f wrote) only_it t (not_target t t_done recipe) (not_needed t t_done recipe) must))) (λ ran. inr ran) up.settled;
       }
@@ -89,7 +88,7 @@ module _ (g : Graph) (s : Setting) (graph : IsGraph g) (sound : AreSound g s) (n
   -- the invariant after a writing of a running recipe
   pub put_holds : Holds g s p start (has_put m x f c) (written d f c)
   put_holds = record {
-    fits = fits_written g s p m.running d fits f c (written_can_change g s graph sound x f wrote) only_it;
+    fits = fits_written g s p m.running d fits f c (written_can_change g s graph sound x f wrote) only_it sound;
     make = record {
       order = record { part = is.order.part; turns = is.order.turns; recipes = is.order.recipes; running = is.order.running };
       start_came = let came = is.start_came in omega arith;

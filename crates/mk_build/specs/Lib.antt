@@ -9,7 +9,9 @@ pub mod Ways
 pub mod Stale
 pub mod Overlap
 pub mod ScheduleMake
+pub mod Coherent
 pub mod Right
 pub mod RunLaws
 pub mod EmptyInputs
 pub mod BuildLaws
+pub mod CoherenceLaws

@@ -1,27 +1,24 @@
 -- Laws about the runs of recipes: what the last runs saw, and which run came before which.
-use Rattle.std.specs.Prelude.{◌≡◌, ℕ, ◌<◌, List, Some, true, ◌⊎◌}
+use Rattle.std.specs.Prelude.{◌≡◌, ℕ, ◌<◌, List, Some, true}
 use Rattle.mk_graph.specs.Membership.{Has}
 use Rattle.mk_graph.specs.Graph.{Graph, node, IsGraph}
 use Rattle.mk_build.specs.Setting.{FileName, Setting, reads}
-use Rattle.mk_build.specs.World.{Disk, Idle, IsStartDisk, content, WasWrittenAfter}
+use Rattle.mk_build.specs.World.{Disk, Idle, IsStartDisk}
 use Rattle.mk_build.specs.Steps.{Step, Pass, Allowed, IsLegal, after_all, disk_after}
 use Rattle.mk_build.specs.Runs.{WholeRun, Runs, runs_of}
 use Rattle.mk_build.specs.Ways.{Carries}
+use Rattle.mk_build.specs.Coherent.{ContainsOrChanged}
 use Rattle.mk_build.specs.Right.{AreSound, HaveNoRace, HaveWays}
 
--- The file still contains what the run saw in it, or it was written after the run ended.
-abbrev pub SawOrWasWrittenAfter : WholeRun → Disk → FileName → Type 0
-SawOrWasWrittenAfter run d f = (content d f ≡ run.saw f) ⊎ WasWrittenAfter d f run.ended
-
 -- In each trace from a start disk, if footprints are sound and there is no race, each file that a
--- recipe reads still contains what the recipe's last whole run saw in it, or was written after that
--- run.
+-- recipe reads still contains what the recipe's last whole run saw in it, or has changed since.
 abbrev pub LastRunsSawWhatIsThere : Type 0
 LastRunsSawWhatIsThere =
     (g : Graph) (s : Setting) → IsGraph g → AreSound g s → HaveNoRace g s →
     (d : Disk) (steps : List Step) → IsStartDisk s d → IsLegal g s (Idle d) steps →
     (t : ℕ) (run : WholeRun) → (runs_of g s d steps).last t ≡ Some run →
-    (f : FileName) → Has (reads g s t) f → SawOrWasWrittenAfter run (disk_after g s d steps) f
+    (f : FileName) → Has (reads g s t) f →
+    ContainsOrChanged g s (disk_after g s d steps) f (run.saw f) run.ended
 
 -- Both recipes have run whole, and the step that ended the last run of the first came before the
 -- step that began the last run of the second.

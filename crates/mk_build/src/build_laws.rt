@@ -1,6 +1,7 @@
 //! Laws of builds. Each is the contract of an empty function; calling the function gives the law.
 
 ghost use Rattle.mk_build.specs.BuildLaws.{FirstIsAStart, SerialMakeIsLegal, BeforeHoldsInHistories, NotBeforeIsShown, ReadyRecipesRunTogether, OneBuildIsRight, AcceptedIsRight, StaleIsShown, StaleHistoryExists, SchedulesRun, ScheduleHistoryExists, RecipesOverlap, MakesCanBeStopped, WaysGoOverChains, NamesHaveOneNumber};
+ghost use Rattle.mk_build.specs.CoherenceLaws.{StartIsCoherent, CoherenceIsKept, CoherentIsRight, CoherentIsFresh, HandEditsAreNotCoherent};
 ghost use Rattle.mk_build.specs.RunLaws.{LastRunsSawWhatIsThere, CarriedRanBefore};
 
 /// The first disk of a world, which has exactly its given files, numbered in the order of their
@@ -45,6 +46,35 @@ pub fn accepted_is_right()
     ensures { AcceptedIsRight }
 {}
 
+/// If footprints are sound, a start disk is coherent.
+pub fn start_is_coherent()
+    ensures { StartIsCoherent }
+{}
+
+/// If footprints are sound and there is no race, each trace keeps a disk coherent, after each of its
+/// steps.
+pub fn coherence_is_kept()
+    ensures { CoherenceIsKept }
+{}
+
+/// If footprints are sound, there is no race, and each read of a file that can change has a way,
+/// then each trace from a coherent disk is right.
+pub fn coherent_is_right()
+    ensures { CoherentIsRight }
+{}
+
+/// On a coherent disk, a recipe that isn't bound to run and reads nothing later than its target is
+/// fresh.
+pub fn coherent_is_fresh()
+    ensures { CoherentIsFresh }
+{}
+
+/// A disk isn't coherent if a fresh recipe's output was edited by hand to another content, and the
+/// recipe isn't bound to run and reads nothing later than its target.
+pub fn hand_edits_are_not_coherent()
+    ensures { HandEditsAreNotCoherent }
+{}
+
 /// If footprints are sound and a read of a file that can change has no way, a trace shows it, if
 /// there are enough stamps: make all goals, edit the file if it is editable, and make all goals
 /// again without the recipe and those that it reaches by carrying. At its end the file is later
@@ -85,8 +115,7 @@ pub fn makes_can_be_stopped()
 {}
 
 /// In each trace from a start disk, if footprints are sound and there is no race, each file that a
-/// recipe reads still contains what the recipe's last whole run saw in it, or was written after
-/// that run.
+/// recipe reads still contains what the recipe's last whole run saw in it, or has changed since.
 pub fn last_runs_saw_what_is_there()
     ensures { LastRunsSawWhatIsThere }
 {}
