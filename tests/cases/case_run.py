@@ -12,6 +12,7 @@ from collections.abc import Iterator, Sequence
 from pathlib import Path
 
 from case_file import Answer, Case, CaseError, Section
+from json_answers import misspoken
 
 SECONDS = 60
 FOOTPRINTS = "footprint.json"
@@ -173,11 +174,14 @@ def broken_promises(
     program: Path, folder: Path, words: Sequence[str], answer: Answer
 ) -> Iterator[str]:
     """What is wrong about an answer that must lead to another one: with the lines of `repair` the
-    answer is yes, and `verify` accepts the certificate of a yes, but not for other goals."""
+    answer is yes, `verify` accepts the certificate of a yes, but not for other goals, and
+    `check --json` says what `check` says."""
     if words[0] == "repair" and answer.status == 0 and answer.output:
         yield from repaired(program, folder, words, answer.output)
     if words[0] == "check" and answer.output.startswith(b"yes "):
         yield from certified(program, folder, words, answer.output.splitlines()[0])
+    if words[0] == "check":
+        yield from misspoken(lambda words: ask(program, words, folder), words)
 
 
 def repaired(program: Path, folder: Path, words: Sequence[str], lines: bytes) -> Iterator[str]:

@@ -146,6 +146,13 @@ def unknown(names: list[str], files: list[str]) -> Build:
     return reading(names, files, [])
 
 
+def unreached(names: list[str], files: list[str]) -> Build:
+    """Recipes that read what a recipe writes which the goals don't reach."""
+    records: list[Record] = [(name, files, [name]) for name in names]
+    makefile = gathered(*names) + rules([*names, "maker"])
+    return Build(makefile, [], [*records, ("maker", [], ["maker", *files])], names, files, "maker")
+
+
 def stale(names: list[str], files: list[str]) -> Build:
     """Recipes that read sources."""
     return reading(names, files, files)
@@ -207,6 +214,7 @@ BUILDS: list[tuple[str, bool, bool, Callable[[list[str], list[str]], Build]]] = 
     ("given", False, False, given),
     ("own", False, False, own),
     ("unknown", False, False, unknown),
+    ("unknown", True, True, unreached),
     ("loose", False, True, loose),
     ("race", False, True, race),
     ("race", True, True, side_race),

@@ -25,8 +25,10 @@ COMMENT = re.compile(r"<!--.*?-->", re.DOTALL)
 PROGRESS = re.compile(r"^\[[^][]*\d+/\d+[^][]*\] .*\n", re.MULTILINE)
 READS = re.compile(r"^(yes \d+ recipes) \d+ reads$", re.MULTILINE)
 SECONDS = 120
-REFUSED = re.compile(r"^(refused \d|error: |(\S+:\d+: )?[\w:]+ \(\d+\): )", re.MULTILINE)
-FOUND = re.compile(r"^no |^\S+: .* \[\w+\]$", re.MULTILINE)
+REFUSED = re.compile(
+    r"^(refused \d|error: |(\S+:\d+: )?[\w:]+ \(\d+\): |\{\"answer\":\"refused\")", re.MULTILINE
+)
+FOUND = re.compile(r"^no |^\S+: .* \[\w+\]$|^\{\"answer\":\"no\"", re.MULTILINE)
 
 
 @dataclass(frozen=True)

@@ -40,6 +40,7 @@ PLACES = [
     Run(["check", "-b", "."], 2, "refused 35 .\n"),
     Run(["graph", "-f", "/etc", "1+=2"], 2, "refused 11 operand:1\n"),
 ]
+UNMENDED = "no record a.o\nno record p\nno lines mend this; mkcheck check -w says what to do\n"
 PIPES = [
     Run(["graph", "-f", "/dev/stdin"], 0, GRAPH, stdin=RULES),
     Run(["check", "-b", "/dev/stdin"], 0, WAYS, stdin=RECORDS),
@@ -47,7 +48,7 @@ PIPES = [
     Run(["check", "-b", "/dev/stdin", "-e", "1"], 0, WAYS, stdin=RECORDS),
     Run(["check", "-b", "/dev/stdin", "-e", "1"], 1, PLAN, stdin=HEADER),
     Run(["check", "-b", "/dev/stdin", "-e", "1"], 1, "no plan\n", stdin=UNTOLD),
-    Run(["repair", "-b", "/dev/stdin"], 1, "no record a.o\nno record p\n", stdin=UNTOLD),
+    Run(["repair", "-b", "/dev/stdin"], 1, err=UNMENDED, stdin=UNTOLD),
     Run(["repair", "-b", "/dev/stdin"], 2, "refused 35 /dev/stdin\n", stdin=HEADER),
     Run(["repair", "-f", "/dev/stdin", "-b", "H"], 2, "refused 35 /dev/stdin\n", stdin=RULES),
     Run(["check", "-w", "-f", "/dev/stdin", "-b", "B"], 2, UNPIPED, stdin="a: ./b\n"),
@@ -59,7 +60,6 @@ UNWRITTEN = [
     ["check", "-w", "-b", "H"],
     ["check", "-w", "-b", "N"],
     ["repair", "-b", "H"],
-    ["repair", "-b", "U"],
     ["--help"],
 ]
 

@@ -12,11 +12,13 @@ EXAMPLES = ROOT / "examples"
 OBJECT = "p: a.o\n\tcc -o p a.o\na.o: a.c\n\tcc -c a.c\n"
 HEADED = "p: a.o > p = cc -o p a.o; a.o: a.c h.h > a.o = cc -c a.c"
 LACKING = "\na.o: h.h\n"
+TOO_LONG = "with the lines that mend this the makefile would have more than 16777216 bytes\n"
 
 
 def assert_repair(status: int, text: str, files: dict[str, str], folder: Path) -> None:
-    """Asserts what `repair` prints, and that it mends."""
-    assert_answers(Run(["repair", "-b", "B"], status, text, files=files), folder)
+    """Asserts what `repair` prints, and that it mends; with status 1 on standard error alone."""
+    out, err = ("", text) if status == 1 else (text, "")
+    assert_answers(Run(["repair", "-b", "B"], status, out, err, files=files), folder)
 
 
 def lines_of(lines: list[str]) -> str:
@@ -32,7 +34,9 @@ def filled(text: str, size: int) -> str:
 
 
 @pytest.mark.parametrize(
-    "more, status, printed", [(0, 0, LACKING), (1, 1, "no stale a.o h.h\n")], ids=["fits", "doesnt"]
+    "more, status, printed",
+    [(0, 0, LACKING), (1, 1, "no stale a.o h.h\n" + TOO_LONG)],
+    ids=["fits", "doesnt"],
 )
 def test_the_mended_makefile_must_fit(more: int, status: int, printed: str, tmp_path: Path) -> None:
     """With the added lines the makefile has at most 16,777,216 bytes."""
@@ -61,7 +65,8 @@ def test_each_round_may_find_more(count: int, tmp_path: Path) -> None:
 def test_a_makefile_is_judged_64_times(tmp_path: Path) -> None:
     """What a 65th round would mend is told."""
     tried = [f"tried r{n}: s{n + 1}" for n in range(63)]
-    lines = ["no stale r0 s1", *tried, "no stale r63 s64"]
+    said = "with these lines mkcheck check says:"
+    lines = ["no stale r0 s1", *tried, said, "no stale r63 s64"]
     assert_repair(1, lines_of(lines), chain(64), tmp_path)
 
 
@@ -132,8 +137,9 @@ def test_right_examples_lack_nothing(tmp_path: Path) -> None:
 
 
 def test_two_writers_of_awk_are_not_mended(tmp_path: Path) -> None:
-    """The findings are printed, as they are stored."""
+    """The findings are printed, as they are stored, and that no lines are known."""
     found = (EXAMPLES / "awk" / "check.txt").read_text()
+    found += "no lines mend this; mkcheck check -w says what to do\n"
     assert_repair(1, found, example("awk", "makefile"), tmp_path)
 
 

@@ -12,13 +12,15 @@ from program.runs import PROGRAM, Run, answer, assert_answers
 HERE = Path(__file__).resolve().parent
 HINT = "\n\nFor more information, try '--help'.\n"
 PROGRAM_USAGE = "\n\nUsage: mkcheck <COMMAND>" + HINT
-CHECK_USAGE = "\n\nUsage: mkcheck check [-f F] [-r] -b BOOK [-c] [-w] [-e N] [WORD]..." + HINT
+CHECK_USAGE = (
+    "\n\nUsage: mkcheck check [-f F] [-r] -b BOOK [-c] [-w] [-e N] [--json] [WORD]..." + HINT
+)
 GRAPH_USAGE = "\n\nUsage: mkcheck graph [-f F] [-r] [-b BOOK] [-c] [WORD]..." + HINT
 REPAIR_USAGE = "\n\nUsage: mkcheck repair [-f F] [-r] -b BOOK [WORD]..." + HINT
 VERIFY_USAGE = "\n\nUsage: mkcheck verify [-f F] [-r] -b BOOK -k CERT [WORD]..." + HINT
 SIMULATE_USAGE = "\n\nUsage: mkcheck simulate [-f F] [-r] -b BOOK -p PLAN [WORD]..." + HINT
 AS_VALUE = "error: unexpected argument '{0}' found\n\n  tip: to pass '{0}' as a value, use '-- {0}'"
-UNEXPECTED = "error: unexpected argument 'race' found\n\nUsage: mkcheck explain [WHAT]" + HINT
+EXPLAIN_USAGE = "\n\nUsage: mkcheck explain [WORD]..." + HINT
 MISSING = "error: the following required arguments were not provided:\n  "
 NO_TEXT = "error: a word of the command line is not UTF-8\n"
 TWICE = "error: the argument '-b <BOOK>' cannot be used multiple times"
@@ -30,7 +32,7 @@ HELP = [
     *(([name, "--help"], name) for name in "graph check repair verify simulate explain".split()),
 ]
 REJECTED = [
-    Run(["explain", "stale", "race"], 2, err=UNEXPECTED),
+    Run(["explain", "-b", "B"], 2, err=AS_VALUE.format("-b") + EXPLAIN_USAGE),
     Run(["frob"], 2, err="error: unrecognized subcommand 'frob'" + PROGRAM_USAGE),
     Run(["-x"], 2, err="error: unexpected argument '-x' found" + PROGRAM_USAGE),
     Run(["check"], 2, err=MISSING + "-b <BOOK>" + CHECK_USAGE),

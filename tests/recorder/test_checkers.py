@@ -77,6 +77,18 @@ class CheckerTest(unittest.TestCase):
             else:
                 self.assertEqual(self.fault(script), said)
 
+    def test_explanations(self) -> None:
+        """What mkcheck doesn't explain has an empty text: it says so on standard error alone."""
+        known = self.checker("echo 'stale: it stays old'; echo; echo more")
+        self.assertEqual(known.explain("stale"), "stale: it stays old\n\nmore")
+        self.assertEqual(known.explained("stale")[0], "it stays old")
+        for script in ("echo 'error: no word' >&2; exit 2", "echo 'no word'; exit 2", "exit 2"):
+            unknown = self.checker(script)
+            self.assertEqual(unknown.explain("frob"), "")
+            self.assertEqual(unknown.explained("frob"), ("frob", ""))
+        with self.assertRaisesRegex(Fault, "explain ran out of memory"):
+            self.checker("exit 3").explain("stale")
+
     def test_time(self) -> None:
         """A program that goes on for longer than it may is stopped."""
         said = self.fault("exec sleep 60", 0.2)

@@ -231,6 +231,8 @@ def case_of(rng: Random, command: str) -> Case:
     """A case of a command."""
     if command == "words":
         return case_in_words(rng)
+    if command == "json":
+        return case_in_json(rng)
     if command == "repair" and rng.random() < 0.85:
         return lacking_case(rng)
     share = {"graph": 0.0, "check": 0.75, "repair": 0.9, "verify": 0.9, "simulate": 0.9}[command]
@@ -285,6 +287,18 @@ def case_in_words(rng: Random) -> Case:
         more.insert(rng.randint(0, len(more)), "-c")
     if rng.random() < 0.03:
         more += ["-e", rng.choice(["1", "2", "+9"])]
+    case.words[:1] = ["check", *more]
+    return case
+
+
+def case_in_json(rng: Random) -> Case:
+    """A case of `check --json`, over a build for `check`, sometimes with options that change
+    nothing."""
+    case = case_of(rng, "check")
+    more = ["--json"] * rng.choice([1] * 20 + [2])
+    for option in (["-c"], ["-w"], ["-e", rng.choice(["1", "2", "x"])]):
+        if rng.random() < 0.04:
+            more += option
     case.words[:1] = ["check", *more]
     return case
 

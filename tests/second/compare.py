@@ -11,6 +11,7 @@ from __future__ import annotations
 
 import argparse
 import collections
+import json
 import multiprocessing
 import os
 import random
@@ -33,7 +34,7 @@ from request import Answer, Disk, Request
 from second import answered
 from sentences import THEN
 
-COMMANDS = ["graph", "check", "verify", "simulate", "evidence", "repair", "words"]
+COMMANDS = ["graph", "check", "verify", "simulate", "evidence", "repair", "words", "json"]
 GATE_CASES = {
     "graph": 300,
     "check": 300,
@@ -42,6 +43,7 @@ GATE_CASES = {
     "evidence": 150,
     "repair": 250,
     "words": 300,
+    "json": 250,
 }
 IN_WORDS = re.compile(rb" \[(\w+)\]\n  (\w+): ")
 FAULT = re.compile(rb"(?:\S+:\d+: )?([\w:]+ \(\d+\)): ")
@@ -88,7 +90,8 @@ def given_up(_signal: int, _frame: FrameType | None) -> NoReturn:
 
 
 def asked(program: str, words: list[str], folder: str) -> Answer:
-    """Standard output and status of the program; no status where it gives no answer.
+    """Standard output and status of the program, of a `repair` that mends nothing standard error;
+    no status where it gives no answer.
 
     An alarm takes less time than a timeout of `run`, and most of a case is the start of the
     program.
@@ -102,12 +105,14 @@ def asked(program: str, words: list[str], folder: str) -> Answer:
             stdin=subprocess.DEVNULL,
             check=False,
             stdout=subprocess.PIPE,
-            stderr=subprocess.DEVNULL,
+            stderr=subprocess.PIPE,
         )
     except Silent:
         return b"no answer", None
     finally:
         signal.alarm(0)
+    if "repair" in words and done.returncode == 1:
+        return done.stdout + done.stderr, 1
     return done.stdout, done.returncode
 
 
@@ -126,6 +131,9 @@ def sort_of(told: Answer) -> str:
             for part in text.split(THEN)
         ]
         return "no " + b"; then ".join(b", ".join(kinds) for kinds in found).decode()
+    if text.startswith(b'{"answer":'):
+        value = json.loads(text)
+        return " ".join(["json", value["answer"], value.get("name", "")])
     fault = FAULT.match(text)
     if status == 2 and fault:
         return "refused " + fault[1].decode()

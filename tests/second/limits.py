@@ -195,7 +195,13 @@ def in_words() -> Iterator[Asked]:
     yield "words", Case(files, ["check", "-w", "-b", "B"])
 
 
-QUICK = (corners, documents, mendings, in_words, *LIMITS, plans_at_limit)
+def in_json() -> Iterator[Asked]:
+    """The same as JSON."""
+    for _, case in in_words():
+        yield "json", Case(case.files, ["check", "--json", *case.words[2:]])
+
+
+QUICK = (corners, documents, mendings, in_words, in_json, *LIMITS, plans_at_limit)
 
 
 def limits(quick: bool) -> Iterator[tuple[str, str, Case]]:

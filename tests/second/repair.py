@@ -11,6 +11,10 @@ from reading import Files, Found
 from request import FILE_LIMIT, Request, prepared
 
 JUDGEMENTS = 64
+NOTHING = b"no lines mend this; mkcheck check -w says what to do\n"
+TOO_LONG = b"with the lines that mend this the makefile would have more than 16777216 bytes\n"
+CYCLE = b"no lines mend this, since each of these names needs the next one:"
+AGAIN = b"these lines change commands: append them, and record again\n"
 SIDE_LIMIT = 2000
 
 
@@ -57,6 +61,31 @@ def maker(subject: Subject, file: bytes) -> bytes:
     return subject.writers[file][0]
 
 
+def unreached(subject: Subject) -> list[bytes]:
+    """The targets that have commands and that the goals don't reach, each once."""
+    targets = [
+        target
+        for rule in subject.rules.makefile.rules
+        if not rule.default and rule.commands is not None
+        for target in rule.targets
+        if target not in subject.graph.nodes
+    ]
+    return list(dict.fromkeys(targets))
+
+
+def makers(subject: Subject, file: bytes) -> list[bytes]:
+    """The targets that the goals don't reach and whose recipes may make a file."""
+    outside = unreached(subject)
+    if file in outside:
+        return [file]
+    return [target for target in outside if file in subject.writes(target)]
+
+
+def writes_its_own(subject: Subject, writer: bytes, name: bytes) -> bool:
+    """Whether a recipe that writes a name has it as a direct prerequisite."""
+    return name in subject.node(writer).prerequisites
+
+
 def is_needed(subject: Subject, target: bytes) -> bool:
     """Whether a recipe that isn't phony has the target as a direct prerequisite."""
     return any(
@@ -78,9 +107,12 @@ def word_of(subject: Subject, finding: Finding) -> Word | None:
         stays = is_needed(subject, first) or is_inferred(subject, first)
         word = None if stays else Word(first, None)
     elif kind == b"loose":
-        word = Word(first, finding[2])
+        stays = writes_its_own(subject, finding[2], first)
+        word = None if stays else Word(first, finding[2])
     elif kind in (b"race", b"stale"):
         word = Word(first, maker(subject, finding[-1]))
+    elif kind == b"unknown" and len(makers(subject, finding[2])) == 1:
+        word = Word(first, makers(subject, finding[2])[0])
     if word is None or not all(name is None or is_make_name(name) for name in word):
         return None
     return word
@@ -169,21 +201,27 @@ def first_cycle(subject: Subject) -> list[bytes] | None:
 
 
 def repaired(request: Request, files: Files) -> tuple[bytes, int]:
-    """What is printed, and the status."""
+    """What is printed, on standard error where the status is 1, and the status."""
     subject, name = judged(request, files)
     findings = subject.findings()
     if not findings:
         return b"", 0
     words = words_of(subject, findings)
     if words is None:
-        return printed(findings), 1
+        return printed(findings) + NOTHING, 1
     cycle = first_cycle(subject)
     if cycle:
-        return printed(findings) + b" ".join([b"cycle"] + cycle) + b"\n", 1
+        return printed(findings) + b" ".join([CYCLE] + cycle) + b"\n", 1
     lines, reason = mended(request, files, name, words)
     if reason is None:
         return b"\n" + b"".join(lines), 0
-    return printed(findings) + b"".join(b"tried " + line for line in lines) + reason, 1
+    if not lines:
+        return printed(findings) + TOO_LONG, 1
+    tried = b"".join(b"tried " + line for line in lines)
+    said = b"with these lines mkcheck check says:\n" + reason
+    if any(line.startswith(b"no commands ") for line in reason.splitlines()):
+        said += AGAIN
+    return printed(findings) + tried + said, 1
 
 
 def mended(

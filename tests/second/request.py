@@ -54,6 +54,7 @@ class Request:
         self.command = arguments[0]
         self.values: dict[str, bytes] = {}
         self.flags: set[str] = set()
+        self.in_json = False
         self.words: list[bytes] = []
         self.tell(arguments[1:])
         if any(letter not in self.values for letter in self.NEEDED[self.command]):
@@ -63,6 +64,9 @@ class Request:
         if not finding:
             raise Usage
         self.finding = finding
+        if self.in_json:
+            self.values.pop("e", None)
+            self.flags -= {"c", "w"}
         self.in_words = "w" in self.flags and "e" not in self.values
         self.operands = [word for word in self.words if b"=" in word]
         self.goals = [word for word in self.words if b"=" not in word]
@@ -75,6 +79,8 @@ class Request:
                 break
             if word == "-" or not word.startswith("-"):
                 self.words.append(os.fsencode(word))
+            elif word == "--json" and self.command == "check":
+                self.in_json = True
             elif word[1:] in list(self.FLAGS[self.command]):
                 self.flags.add(word[1:])
             elif word[1:] in list(self.VALUES[self.command]):

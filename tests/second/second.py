@@ -6,6 +6,7 @@ from __future__ import annotations
 import sys
 from collections.abc import Sequence
 
+from answers import refusal_value, shown, verdict_value
 from evidence import plan_of_finding
 from judge import Subject
 from lines import Refused
@@ -32,6 +33,9 @@ def answer(request: Request, files: Files) -> tuple[bytes, int]:
     if request.command == "verify":
         subject.verify(file_of(files, request.values["k"]))
         return subject.counts() + b"\n", 0
+    if request.in_json:
+        value = verdict_value(subject)
+        return shown(value), 0 if value["answer"] == "yes" else 1
     if "e" in request.values and subject.findings():
         return plan_of_finding(subject, book, request.finding), 1
     return verdict(subject, request)
@@ -58,6 +62,8 @@ def answered(arguments: Sequence[str], files: Files) -> tuple[bytes, int]:
     try:
         return answer(request, files)
     except Refused as fault:
+        if request.in_json:
+            return shown(refusal_value(fault)), 2
         if request.in_words:
             return in_words(fault) + b"\n" + line_of(fault, files), 2
         return fault.line() + b"\n", 2

@@ -9,7 +9,7 @@ from typing import NamedTuple, TypeVar
 from judge import Finding, Subject
 from lines import Refused
 from reading import Files, Makefile
-from repair import cut, lines_between, word_of
+from repair import cut, lines_between, makers, word_of, writes_its_own
 
 PAGE = Path(__file__).resolve().parents[2] / "docs" / "REFERENCE.md"
 FAULT = re.compile(rb"^\| (\d+) \| `([\w:]+)` \| (.*) \|$", re.MULTILINE)
@@ -39,7 +39,8 @@ class Group:
     """Findings of one kind that differ in their names alone, each of which has the same files.
 
     The kind is the word of the findings. `beside` has two more names: those of two writers, or what
-    is made and from what, or the recipe that writes the files where that is what the names lack.
+    is made and from what, or the recipe that writes the files where that is what the names lack, or
+    the first two of several targets that may make files of unknown origin.
     """
 
     def __init__(
@@ -81,6 +82,13 @@ def told_of(subject: Subject, finding: Finding) -> tuple[Alike, bytes, bytes]:
     writer = b""
     if kind in (b"race", b"stale") and needed is not None and needed != file:
         writer = needed
+    if kind == b"unknown" and needed is not None:
+        writer = needed
+    if kind == b"loose" and writes_its_own(subject, file, name):
+        return Alike(kind, False, (b"own", b"")), name, file
+    if kind == b"unknown" and len(makers(subject, file)) > 1:
+        first, second = makers(subject, file)[:2]
+        return Alike(kind, False, (first, second)), name, file
     return Alike(kind, word is not None, (writer, b"")), name, file
 
 
@@ -176,6 +184,16 @@ def of_own(group: Group, names: bytes, files: bytes) -> bytes:
 
 
 def of_unknown(group: Group, names: bytes, files: bytes) -> bytes:
+    if group.has_lines:
+        return b"%s %s %s, which the recipe of %s makes, but %s depend on %s, so %s" % (
+            names,
+            group.one(b"reads", b"read"),
+            files,
+            group.first,
+            group.one(b"doesn't", b"don't"),
+            group.first,
+            b"these goals don't run that recipe",
+        )
     return b"%s %s, which %s" % (
         recipes(group, names, b"reads", b"read"),
         files,
@@ -252,6 +270,29 @@ def one_recipe(group: Group) -> bytes:
     )
 
 
+def of_loose_name(group: Group) -> bytes:
+    """What to do about names that recipes write which have them as prerequisites."""
+    if not group.first:
+        return group.each(RENAME, RENAME_ALL)
+    return b"give %s %s of the prerequisites of %s: to depend on that would close a cycle" % (
+        shown(group.names),
+        group.one(b"a rule of its own, or take it out", b"rules of their own, or take them out"),
+        shown(group.files),
+    )
+
+
+def of_unknown_origin(group: Group) -> bytes:
+    """What to do about files that no recipe which the goals reach writes."""
+    if group.first:
+        return (
+            b"the recipes of %s and %s were recorded to write %s, and these goals reach neither: "
+            b"write the one that is meant as a prerequisite"
+            % (group.first, group.second, group.each(b"it", b"them"))
+        )
+    told = group.each((b"it", b"it never changes"), (b"them", b"they never change"))
+    return b"take %s into the project and record again, or record with --fixed if %s" % told
+
+
 def advice(group: Group) -> bytes:
     """What to do where no lines mend it."""
     told = {
@@ -270,11 +311,15 @@ def advice(group: Group) -> bytes:
         ),
         b"writers": b"let each recipe write files of its own, and check a target such as clean by "
         b"itself" + (one_recipe(group) if group.second in group.names else b""),
-        b"given": b"let the recipe write %s out of the sources, -include and .PHONY"
-        % group.each(b"another file, or take this one", b"other files, or take these"),
+        b"given": b"let the recipe write %s out of the sources, -include and .PHONY; if %s headers, "
+        b"as cc -MMD writes them, see mkcheck explain given"
+        % group.each(
+            (b"another file, or take this one", b"it lists"),
+            (b"other files, or take these", b"they list"),
+        ),
         b"own": b"split the recipe in two, or make each file anew from other files alone",
-        b"unknown": b"take %s into the project and record again, or record with --fixed if %s"
-        % group.each((b"it", b"it never changes"), (b"them", b"they never change")),
+        b"unknown": of_unknown_origin(group),
+        b"loose": of_loose_name(group),
         b"selection": b"write a rule with commands for %s, or make %s a target of the recipe that "
         b"writes it" % (group.first, group.second),
     }
@@ -317,17 +362,29 @@ def groups_text(subject: Subject, findings: list[Finding]) -> bytes:
     return b"".join(group_text(subject.rules.makefile, group) for group in groups)
 
 
-def in_sentences(subject: Subject, findings: list[Finding]) -> bytes:
-    """The text of the findings, and behind others than races and stale reads that of these."""
-    text = groups_text(subject, findings)
-    if all(finding[0] in (b"race", b"stale") for finding in findings):
-        return text
+def hides(findings: list[Finding]) -> bool:
+    """Whether findings hide races and stale reads."""
+    return any(finding[0] not in (b"race", b"stale") for finding in findings)
+
+
+def seen_later(subject: Subject, findings: list[Finding]) -> list[Finding]:
+    """The races and stale reads that findings hide, without those that mending these may settle."""
+    if not hides(findings):
+        return []
     phony = [
         finding[1]
         for finding in findings
         if finding[0] == b"target" and word_of(subject, finding) is not None
     ]
-    hidden = subject.hidden(findings, phony)
+    return subject.hidden(findings, phony)
+
+
+def in_sentences(subject: Subject, findings: list[Finding]) -> bytes:
+    """The text of the findings, and behind others than races and stale reads that of these."""
+    text = groups_text(subject, findings)
+    if not hides(findings):
+        return text
+    hidden = seen_later(subject, findings)
     return text + (THEN + groups_text(subject, hidden) if hidden else MORE)
 
 
@@ -345,16 +402,20 @@ def faults() -> dict[int, dict[bytes, bytes]]:
 FAULTS = faults()
 
 
+def name_of(fault: Refused) -> bytes:
+    """The name of a fault: its own, or that of the first one with its number."""
+    return next(iter(FAULTS[fault.number])) if fault.name is None else fault.name.encode()
+
+
 def in_words(fault: Refused) -> bytes:
     """The text of a fault: its place, its name and number, its other words, its sentence."""
-    named = FAULTS[fault.number]
-    name = next(iter(named)) if fault.name is None else fault.name.encode()
+    name = name_of(fault)
     head = b"" if fault.where is None else fault.where + b": "
     head += b"%s (%d): " % (name, fault.number)
     words = fault.words + ([] if fault.about is None else [fault.about])
     if words:
         head += b" ".join(words) + b": "
-    return head + named[name]
+    return head + FAULTS[fault.number][name]
 
 
 def line_of(fault: Refused, files: Files) -> bytes:

@@ -17,7 +17,7 @@ use Rattle.mk_core_text.specs.declared.verdict.Verdict.TheVariants.{No}
 use Rattle.mk_repair.specs.Word.{Word}
 use Rattle.mk_core_repair.specs.Amending.{book_names, looked_for, makefile_name, names_known}
 use Rattle.mk_core_repair.specs.Known.{IsReadFault}
-use Rattle.mk_core_repair.specs.Outcome.{Outcome, outcome_of, untried}
+use Rattle.mk_core_repair.specs.Outcome.{Outcome, outcome_of, too_long}
 use Rattle.mk_core_repair.specs.RepairAnswer.{AnswersRepair, IsFirstOf}
 use Rattle.mk_core_repair.specs.Rounds.{AfterFirst, Rounds, max_rounds}
 
@@ -63,7 +63,7 @@ known_names files request read known table own k t o = k ∙ (t ∙ ap (λ (n : 
 
 -- after a no with words and without a cycle the rounds begin
 pub after_words : (names : List (List ℕ)) (files : Told) (request : Request) (verdict : Verdict) (words : Option (List Word)) (path : Option (List (List ℕ))) (found : List Finding) (given : List Word) (outcome : Outcome)
-    → verdict ≡ No found → words ≡ Some given → path ≡ None → Rounds max_rounds names files request found given untried outcome → AfterFirst names files request verdict words path outcome
+    → verdict ≡ No found → words ≡ Some given → path ≡ None → Rounds max_rounds names files request found given too_long outcome → AfterFirst names files request verdict words path outcome
 after_words names files request verdict words path found given outcome v w p h =
     subst (λ (x : Verdict). AfterFirst names files request x words path outcome) (sym v)
     (subst (λ (x : Option (List Word)). AfterFirst names files request (No found) x path outcome) (sym w)

@@ -21,7 +21,7 @@ use Rattle.mk_core_repair.specs.declared.outcome.Why.TheVariants as whys
 use Rattle.mk_core_repair.specs.declared.surveying.First.{First}
 use Rattle.mk_core_repair.specs.declared.surveying.Survey.{Survey}
 use Rattle.mk_core_repair.specs.Amending.{added_text, amended, book_names, looked_for, makefile_name, makefile_text, names_known}
-use Rattle.mk_core_repair.specs.Outcome.{Outcome, Reason, right, mended, unmended, untried, cycle, tried}
+use Rattle.mk_core_repair.specs.Outcome.{Outcome, Reason, right, mended, unmended, untried, too_long, cycle, tried}
 use Rattle.mk_core_repair.specs.RepairAnswer.{AnswersRepair, CannotBeMended, IsAccepted, IsCycle, IsFirstOf, Mends, Suffices}
 use Rattle.mk_core_repair.specs.Rounds.{AfterFirst, AfterKnown, AfterRound, AfterVerdict, IsRound, Onward, Rounds, first_unknown, max_rounds, more_words}
 use Rattle.mk_core_repair.specs.Views.{IsYesVerdict}
@@ -99,6 +99,7 @@ module _ (right_law : YesIsRight) (law : OnlyNamedFilesCount) (files : Told) (re
 -- the reason is no cycle
 abbrev IsNoCycle : Reason → Type 0
 IsNoCycle untried = Unit {0}
+IsNoCycle too_long = Unit {0}
 IsNoCycle (tried lines after) = Unit {0}
 IsNoCycle (cycle path) = ⊥
 
@@ -142,7 +143,7 @@ module _ (names : List (List ℕ)) (files : Told) (request : Request) (found : L
   first_cycle (Yes certificate recipes reads) words o e = absurd cc
   first_cycle (No others) None o e = absurd (other_reason others untried tt e)
   first_cycle (No others) (Some words) (Some p) e = tt
-  first_cycle (No others) (Some words) None r = absurd (rounds_no_cycle max_rounds others words untried tt r)
+  first_cycle (No others) (Some words) None r = absurd (rounds_no_cycle max_rounds others words too_long tt r)
 
 -- ---- only a yes is right as it is
 
@@ -175,7 +176,7 @@ module _ (names : List (List ℕ)) (files : Told) (request : Request) where
   first_right (Yes certificate recipes reads) words o e = tt
   first_right (No others) None o e = absurd cc
   first_right (No others) (Some words) (Some path) e = absurd cc
-  first_right (No others) (Some words) None r = absurd (rounds_not_right max_rounds others words untried r)
+  first_right (No others) (Some words) None r = absurd (rounds_not_right max_rounds others words too_long r)
 
 -- ---- the whole answer
 
@@ -187,7 +188,7 @@ module _ (right_law : YesIsRight) (law : OnlyNamedFilesCount) (files : Told) (re
     first_mends text (No found) None o e = absurd cc
     first_mends text (No found) (Some words) (Some path) e = absurd cc
     first_mends text (No found) (Some words) None r =
-        rounds_suffice right_law law files request (names_known files request first.survey.files) (λ name e. book_known files request first.survey.files name e) found text max_rounds words untried r
+        rounds_suffice right_law law files request (names_known files request first.survey.files) (λ name e. book_known files request first.survey.files name e) found text max_rounds words too_long r
 
   pub repair_suffices : (answer : Result Repair Fault) → AnswersRepair files request answer → Suffices files request answer
   repair_suffices (Ok (repairs.Mended text)) (first, is, after) = first_mends first is text.items first.survey.verdict first.survey.words first.cycle after
@@ -202,6 +203,7 @@ repair_finds_cycle law files request (Ok (repairs.Unmended found (whys.Cycle pat
     cycle_cannot_be_mended law files request first is
     (first_cycle (names_known files request first.survey.files) files request found path first.survey.verdict first.survey.words first.cycle after)
 repair_finds_cycle law files request (Ok (repairs.Unmended found whys.Untried)) a k = absurd k
+repair_finds_cycle law files request (Ok (repairs.Unmended found whys.TooLong)) a k = absurd k
 repair_finds_cycle law files request (Ok (repairs.Unmended found (whys.Tried lines after))) a k = absurd k
 repair_finds_cycle law files request (Ok repairs.Right) a k = absurd k
 repair_finds_cycle law files request (Ok (repairs.Mended text)) a k = absurd k

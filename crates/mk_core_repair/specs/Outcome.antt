@@ -8,11 +8,12 @@ use Rattle.mk_core_repair.specs.declared.outcome.Repair.TheVariants as repairs
 use Rattle.mk_core_repair.specs.declared.outcome.Why.{Why}
 use Rattle.mk_core_repair.specs.declared.outcome.Why.TheVariants as whys
 
--- Why nothing mends a makefile: no lines were tried, since a finding gives no word or the makefile
--- would be too long; or these names form a cycle; or these lines were tried last, and `check` then
--- has these findings or this fault.
+-- Why nothing mends a makefile: a finding gives no word; or the makefile would be too long with the
+-- lines; or these names form a cycle; or these lines were tried last, and `check` then has these
+-- findings or this fault.
 pub data Reason : Type 0 where
   untried : Reason
+  too_long : Reason
   cycle : (names : List (List ℕ)) → Reason
   tried : (lines : List ℕ) → Result (List Finding) Fault → Reason
 
@@ -25,6 +26,7 @@ pub data Outcome : Type 0 where
 -- The reason that the code gives.
 abbrev pub reason_of : Why → Reason
 reason_of whys.Untried = untried
+reason_of whys.TooLong = too_long
 reason_of (whys.Cycle names) = cycle names
 reason_of (whys.Tried lines after) = tried (string_bytes lines) after
 

@@ -1,15 +1,18 @@
 -- The printed text of what comes of mending a makefile.
-use Rattle.std.specs.Prelude.{ℕ, ◌==◌, Bool, true, List, [], ◌∷◌, ◌++◌, codes, Result, Ok, Err, if◌then◌else◌}
-use Rattle.std.specs.List.{flat_map}
+use Rattle.std.specs.Prelude.{ℕ, ◌==◌, Bool, true, false, List, [], ◌∷◌, ◌++◌, codes, Result, Ok, Err, if◌then◌else◌}
+use Rattle.std.specs.List.{flat_map, list_any}
 use Rattle.mk_find.specs.declared.finding.Finding.{Finding}
+use Rattle.mk_find.specs.declared.finding.Finding.TheVariants.{OtherCommands}
 use Rattle.mk_core_text.specs.FaultText.{fault_text}
 use Rattle.mk_core_text.specs.VerdictText.{findings_text}
 use Rattle.mk_core_text.specs.declared.fault.Fault.{Fault}
-use Rattle.mk_core_repair.specs.Outcome.{Outcome, Reason, right, mended, unmended, untried, cycle, tried}
+use Rattle.mk_core_repair.specs.Outcome.{Outcome, Reason, right, mended, unmended, untried, too_long, cycle, tried}
 
--- `cycle` and the names, each after a space, with a newline.
+-- That the names form a cycle, each after a space, with a newline.
 abbrev pub cycle_line : List (List ℕ) → List ℕ
-cycle_line names = codes "cycle" ++ (flat_map (λ name. 32 ∷ name) names ++ codes "\n")
+cycle_line names =
+    codes "no lines mend this, since each of these names needs the next one:" ++
+    (flat_map (λ name. 32 ∷ name) names ++ codes "\n")
 
 -- What stands before the text where a line begins.
 abbrev pub lead : Bool → List ℕ
@@ -25,16 +28,38 @@ abbrev pub checked_text : Result (List Finding) Fault → List ℕ
 checked_text (Ok found) = findings_text found
 checked_text (Err fault) = fault_text fault ++ codes "\n"
 
--- The text of why nothing mends a makefile: the cycle, or the lines that were tried and then what
--- `check` prints with them.
-abbrev pub reason_text : Reason → List ℕ
-reason_text untried = []
-reason_text (cycle names) = cycle_line names
-reason_text (tried text after) = with_tried true text ++ checked_text after
+-- The finding is of commands that aren't the recorded ones.
+abbrev pub is_other_commands : Finding → Bool
+is_other_commands (OtherCommands recipe) = true
+is_other_commands found = false
 
--- What `mkcheck repair` prints: nothing for a makefile that is right; the text that mends it; or
--- its findings, and why nothing mends it.
+-- What to do where lines change commands.
+abbrev pub record_again : Result (List Finding) Fault → List ℕ
+record_again (Ok found) =
+    if list_any is_other_commands found
+    then codes "these lines change commands: append them, and record again\n" else []
+record_again (Err fault) = []
+
+-- The text of why nothing mends a makefile: that no lines are known, or that it would be too long
+-- with them; the cycle; or the lines that were tried, and then what `check` prints with them.
+abbrev pub reason_text : Reason → List ℕ
+reason_text untried = codes "no lines mend this; mkcheck check -w says what to do\n"
+reason_text too_long =
+    codes "with the lines that mend this the makefile would have more than 16777216 bytes\n"
+reason_text (cycle names) = cycle_line names
+reason_text (tried text after) =
+    with_tried true text ++ (codes "with these lines mkcheck check says:\n" ++
+    (checked_text after ++ record_again after))
+
+-- What `mkcheck repair` prints on standard output: the text that mends the makefile; else nothing.
 abbrev pub outcome_text : Outcome → List ℕ
 outcome_text right = []
 outcome_text (mended text) = text
-outcome_text (unmended found reason) = findings_text found ++ reason_text reason
+outcome_text (unmended found reason) = []
+
+-- What it prints on standard error: for a makefile that isn't mended its findings, and why nothing
+-- mends it.
+abbrev pub outcome_message : Outcome → List ℕ
+outcome_message right = []
+outcome_message (mended text) = []
+outcome_message (unmended found reason) = findings_text found ++ reason_text reason

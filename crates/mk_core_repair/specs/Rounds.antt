@@ -15,7 +15,7 @@ use Rattle.mk_repair.specs.Lines.{lines_text}
 use Rattle.mk_repair.specs.Word.{Word, with_word}
 use Rattle.mk_core_repair.specs.declared.surveying.Survey.{Survey}
 use Rattle.mk_core_repair.specs.Amending.{added_text, amended_among, is_too_long, IsCutTo}
-use Rattle.mk_core_repair.specs.Outcome.{Outcome, Reason, right, mended, unmended, untried, cycle, tried}
+use Rattle.mk_core_repair.specs.Outcome.{Outcome, Reason, right, mended, unmended, untried, too_long, cycle, tried}
 use Rattle.mk_core_repair.specs.Survey.{GivesSurvey}
 
 -- The words with the new ones; none if none of these is new, or a finding gives no word.
@@ -99,4 +99,4 @@ AfterFirst names files request (No found) None path outcome = outcome ≡ unmend
 AfterFirst names files request (No found) (Some words) (Some path) outcome =
     outcome ≡ unmended found (cycle path)
 AfterFirst names files request (No found) (Some words) None outcome =
-    Rounds max_rounds names files request found words untried outcome
+    Rounds max_rounds names files request found words too_long outcome

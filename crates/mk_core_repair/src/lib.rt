@@ -13,5 +13,5 @@ mod rounds;
 mod surveying;
 
 pub use outcome::{Repair, Why};
-pub use rendering::repair_text;
+pub use rendering::{repair_message, repair_text};
 pub use repairing::repair;

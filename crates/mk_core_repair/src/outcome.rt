@@ -16,8 +16,10 @@ pub enum Repair {
 /// Why nothing known mends a makefile.
 #[derive(Debug, Drop)]
 pub enum Why {
-    /// No lines were tried: a finding gives no word, or the makefile would be too long.
+    /// No lines were tried: a finding gives no word.
     Untried,
+    /// No lines were tried: with them the makefile would be too long.
+    TooLong,
     /// Each of these names needs the next one, and the last one is the first. No added line helps.
     Cycle(Names),
     /// These lines were tried last; with them the makefile has these findings, or is refused.

@@ -1,13 +1,14 @@
 //! The printed text of what comes of mending a makefile.
 
-ghost use Rattle.std.specs.Prelude.{◌≡◌, ◌∷◌, ◌++◌, true, IfOk, OnOk};
-ghost use Rattle.std.specs.List.{flat_map};
+ghost use Rattle.std.specs.Prelude.{◌≡◌, ◌∷◌, ◌++◌, codes, true, IfOk, OnOk};
+ghost use Rattle.std.specs.List.{flat_map, list_any};
 ghost use Rattle.mk_core_repair.specs.Outcome.{outcome_of, reason_of};
-ghost use Rattle.mk_core_repair.specs.RepairText.{checked_text, cycle_line, lead, outcome_text, reason_text, with_tried};
+ghost use Rattle.mk_core_repair.specs.RepairText.{checked_text, cycle_line, is_other_commands, lead, outcome_message, outcome_text, reason_text, record_again, with_tried};
 
 use crate::outcome::{Repair, Why};
 use mk_core::{Fault, Findings, Name, fault_text};
 use mk_core_text::findings_text;
+use mk_find::Finding;
 use std::alloc::{AllocError, Global};
 
 /// Appends each name after a space. The only error is out of memory.
@@ -22,11 +23,11 @@ fn push_names(out: &mut Vec<u8>, names: &[Name]) -> Result<(), AllocError>
     Ok(())
 }
 
-/// Appends the names of a cycle on a line. The only error is out of memory.
+/// Appends that the names form a cycle, on a line. The only error is out of memory.
 fn push_cycle(out: &mut Vec<u8>, names: &[Name]) -> Result<(), AllocError>
     ensures { OnOk result (out.new.items ≡ out.old.items ++ cycle_line names.now) }
 {
-    out.extend_from_slice(b"cycle")?;
+    out.extend_from_slice(b"no lines mend this, since each of these names needs the next one:")?;
     push_names(out, names)?;
     out.push(b'\n')?;
     Ok(())
@@ -69,29 +70,90 @@ fn checked_text(alloc: Global, after: &Result<Findings, Fault>) -> Result<Vec<u8
     }
 }
 
+/// Whether the finding is of commands that aren't the recorded ones.
+fn is_other_commands(finding: &Finding) -> bool
+    ensures { result ≡ is_other_commands finding.now }
+{
+    matches!(finding, Finding::OtherCommands { .. })
+}
+
+/// Whether lines change commands, so that a record is of others.
+fn changes_commands(after: &[Finding]) -> bool
+    ensures { result ≡ list_any is_other_commands after.now }
+{
+    after.iter().any(|finding| is_other_commands(finding))
+}
+
+/// What to do where lines change commands; empty where they don't.
+fn record_again(after: &Result<Findings, Fault>) -> &'static str
+    ensures { result.now ≡ record_again after.now }
+{
+    match after {
+        Ok(found) => {
+            if changes_commands(found.as_slice()) {
+                "these lines change commands: append them, and record again\n"
+            } else {
+                ""
+            }
+        }
+        Err(_) => "",
+    }
+}
+
+/// Appends what `check` prints with the lines that were tried last. The only error is out of
+/// memory.
+fn push_after(
+    alloc: Global,
+    out: &mut Vec<u8>,
+    after: &Result<Findings, Fault>,
+) -> Result<(), AllocError>
+    ensures { OnOk result (out.new.items ≡ out.old.items ++
+        (codes "with these lines mkcheck check says:\n" ++
+        (checked_text after.now ++ record_again after.now))) }
+{
+    let checked = checked_text(alloc, after)?;
+    out.extend_from_slice(b"with these lines mkcheck check says:\n")?;
+    out.extend_from_slice(&checked)?;
+    out.extend_from_slice(record_again(after).as_bytes())
+}
+
 /// Appends why nothing mends a makefile. The only error is out of memory.
 fn push_reason(alloc: Global, out: &mut Vec<u8>, why: &Why) -> Result<(), AllocError>
     ensures { OnOk result (out.new.items ≡ out.old.items ++ reason_text (reason_of why.now)) }
 {
     match why {
-        Why::Untried => Ok(()),
+        Why::Untried => {
+            out.extend_from_slice(b"no lines mend this; mkcheck check -w says what to do\n")
+        }
+        Why::TooLong => out.extend_from_slice(
+            b"with the lines that mend this the makefile would have more than 16777216 bytes\n",
+        ),
         Why::Cycle(names) => push_cycle(out, names.as_slice()),
         Why::Tried(text, after) => {
             push_tried(out, text.as_str())?;
-            let after = checked_text(alloc, after)?;
-            out.extend_from_slice(&after)
+            push_after(alloc, out, after)
         }
     }
 }
 
-/// What `mkcheck repair` prints: nothing for a makefile that is right; the text that mends it; or
-/// its findings, and then why nothing mends it. The only error is out of memory.
+/// What `mkcheck repair` prints on standard output: the text that mends the makefile; nothing where
+/// it is right, or nothing mends it. The only error is out of memory.
 pub fn repair_text(alloc: Global, repair: &Repair) -> Result<Vec<u8>, AllocError>
     ensures { IfOk result (λ text. text.items ≡ outcome_text (outcome_of repair.now)) }
 {
     match repair {
-        Repair::Right => Ok(Vec::new(alloc)),
         Repair::Mended(text) => Vec::from_slice(alloc, text),
+        Repair::Right | Repair::Unmended(..) => Ok(Vec::new(alloc)),
+    }
+}
+
+/// What `mkcheck repair` prints on standard error: for a makefile that isn't mended its findings,
+/// and then why nothing mends it. The only error is out of memory.
+pub fn repair_message(alloc: Global, repair: &Repair) -> Result<Vec<u8>, AllocError>
+    ensures { IfOk result (λ text. text.items ≡ outcome_message (outcome_of repair.now)) }
+{
+    match repair {
+        Repair::Right | Repair::Mended(_) => Ok(Vec::new(alloc)),
         Repair::Unmended(found, why) => {
             let mut out = findings_text(alloc, found.as_slice())?;
             push_reason(alloc, &mut out, why)?;

@@ -10,7 +10,7 @@ ghost use Rattle.mk_core.specs.Steps.{is_out_of_memory};
 ghost use Rattle.mk_core_text.specs.declared.fault.Fault.TheVariants.{Memory};
 ghost use Rattle.mk_core_repair.specs.Amending.{names_known};
 ghost use Rattle.mk_core_repair.specs.Known.{IsReadFault};
-ghost use Rattle.mk_core_repair.specs.Outcome.{outcome_of, untried};
+ghost use Rattle.mk_core_repair.specs.Outcome.{outcome_of, too_long};
 ghost use Rattle.mk_core_repair.specs.RepairAnswer.{AnswersRepair, CannotBeMended, IsCycle, Suffices};
 ghost use Rattle.mk_core_repair.specs.Rounds.{AfterFirst, Rounds, max_rounds};
 ghost use Rattle.mk_core_repair.specs.Survey.{GivesFirst};
@@ -56,7 +56,7 @@ fn mend<F: Files>(
     ensures answer { IfOk result (λ end. IfFits (F.fits files.new)
         (λ told. (first : List finding.Finding) →
         Rounds max_rounds (names_known told request.now names.now) told request.now first words
-        untried (end_outcome first end))) }
+        too_long (end_outcome first end))) }
     ensures fault { IfErr result (λ fault. IfFits (F.fits files.new)
         (λ told. IsReadFault (names_known told request.now names.now) fault)) }
     ensures memory { IfErr result (λ fault. is_out_of_memory fault ≡ true → fault ≡ Memory) }

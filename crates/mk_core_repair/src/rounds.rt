@@ -9,7 +9,7 @@ ghost use Rattle.mk_core_text.specs.declared.fault.Fault.TheVariants.{Memory};
 ghost use Rattle.mk_core_repair.specs.declared.surveying.Survey as value;
 ghost use Rattle.mk_core_repair.specs.Amending.{max_makefile};
 ghost use Rattle.mk_core_repair.specs.Known.{IsBase};
-ghost use Rattle.mk_core_repair.specs.Outcome.{untried};
+ghost use Rattle.mk_core_repair.specs.Outcome.{too_long};
 ghost use Rattle.mk_core_repair.specs.Rounds.{IsRound, Rounds, first_unknown, max_rounds, more_words};
 ghost use Rattle.mk_core_repair.specs.Views.{HasMore, IsFound, end_outcome};
 
@@ -177,12 +177,12 @@ pub fn rounds(
 ) -> Result<End, Fault>
     ensures answer { IfOk result (λ end. (told : Told) →
         IsBase told request.now own.now known.now → (first : List finding.Finding) →
-        Rounds max_rounds known.now.names told request.now first words untried
+        Rounds max_rounds known.now.names told request.now first words too_long
         (end_outcome first end)) }
     ensures memory { IfErr result (λ fault. fault ≡ Memory) }
 {
     let mut words = words;
-    let mut why = Why::Untried;
+    let mut why = Why::TooLong;
     for _done in 0..MAX_ROUNDS {
         let lines = lines_text(alloc, &words)?;
         let added = added_text(alloc, lines.as_str())?;

@@ -26,7 +26,7 @@ use Rattle.mk_core_repair.specs.declared.outcome.Repair.{Repair}
 use Rattle.mk_core_repair.specs.declared.surveying.First.{First}
 use Rattle.mk_core_repair.specs.declared.surveying.Survey.{Survey}
 use Rattle.mk_core_repair.specs.Amending.{added_text, amended_among, makefile_name, makefile_text, names_known}
-use Rattle.mk_core_repair.specs.Outcome.{Outcome, Reason, unmended, untried, cycle, tried, outcome_of}
+use Rattle.mk_core_repair.specs.Outcome.{Outcome, Reason, unmended, too_long, cycle, tried, outcome_of}
 use Rattle.mk_core_repair.specs.RepairAnswer.{AnswersRepair, IsFirstOf}
 use Rattle.mk_core_repair.specs.Rounds.{AfterFirst, AfterKnown, AfterRound, AfterVerdict, IsRound, Onward, Rounds, first_unknown, max_rounds, more_words}
 use Rattle.mk_core_repair.specs.Survey.{GivesSurvey, IsCycleFor, IsFirst}
@@ -102,7 +102,7 @@ module _ (verdicts : VerdictIsOne) (selection : SelectionIsOne) (walks : WalkHas
         → AfterFirst names files request verdict words path one → AfterFirst names files request verdict words again other → one ≡ other
     first_one (Yes certificate recipes reads) words path again is it a b = a ∙ sym b
     first_one (No found) None path again is it a b = a ∙ sym b
-    first_one (No found) (Some words) None None is it a b = rounds_one names found one other s t max_rounds words untried a b
+    first_one (No found) (Some words) None None is it a b = rounds_one names found one other s t max_rounds words too_long a b
     first_one (No found) (Some words) (Some path) (Some again) is it a b =
         let same : Some path ≡ Some again = cycle_one walks (needs_graph x.graph (footprints x.setting)) (Some path) (Some again) is it in
         let paths : path ≡ again = cc in

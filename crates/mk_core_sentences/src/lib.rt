@@ -5,4 +5,4 @@ mod checking;
 mod refused_line;
 
 pub use checking::{InWords, check_in_words};
-pub use refused_line::line_of_fault;
+pub use refused_line::{FileLine, line_in_file, line_of_fault};

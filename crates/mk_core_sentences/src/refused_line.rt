@@ -21,9 +21,11 @@ const MAX_SHOWN: usize = 200;
 
 /// A line of a file. Its model is a place.
 #[derive(Debug, Drop)]
-struct FileLine<'a> {
-    file: &'a Name,
-    line: usize,
+pub struct FileLine<'a> {
+    /// The file.
+    pub file: &'a Name,
+    /// The number of the line, from 1.
+    pub line: usize,
 }
 
 impl<'a> Model for FileLine<'a> {
@@ -115,7 +117,7 @@ fn is_no_file(file: &Name) -> bool
 }
 
 /// The line of a file that the fault names, if it names one.
-fn line_in_file(fault: &Fault) -> Option<FileLine<'_>>
+pub fn line_in_file(fault: &Fault) -> Option<FileLine<'_>>
     ensures { result ≡ in_file (place_of fault.now) }
 {
     match place_of(fault) {

@@ -7,3 +7,4 @@ pub mod NodeNames
 pub mod HeldRows
 pub mod CutPieces
 pub mod WordLines
+pub mod MakerLists

@@ -1,14 +1,17 @@
 -- The words that findings give.
 use Rattle.std.specs.Prelude.{ℕ, Bool, not, ◌&&◌, ◌||◌, List, [], ◌∷◌, map, Option, None, Some, option_and_then, option_map, if◌then◌else◌}
 use Rattle.std.specs.List.{flat_map}
-use Rattle.mk_lines.specs.Names.{has_name}
+use Rattle.mk_lines.specs.Names.{has_name, number_of}
 use Rattle.mk_graph.specs.declared.node.Node.{Node}
+use Rattle.mk_graph.specs.Graph.{prerequisites}
 use Rattle.mk_read.specs.Names.{is_make_name}
 use Rattle.mk_read.specs.Rules.{is_commanded}
+use Rattle.mk_subject.specs.FileInfo.{all_names}
 use Rattle.mk_subject.specs.Subject.{Subject, name_of}
 use Rattle.mk_find.specs.declared.finding.Finding.{Finding}
 use Rattle.mk_find.specs.declared.finding.Finding.TheVariants.{NoRecord, OtherCommands, VaryingCommands, NoTarget, TwoWriters, GivenWritten, OwnRead, UnknownRead, Loose, Race, Stale, Selection}
 use Rattle.mk_repair.specs.Word.{Word, needs, phony, with_word}
+use Rattle.mk_repair.specs.Makers.{makers_of, only_maker}
 use Rattle.mk_repair.specs.Provider.{provider}
 
 -- The names of a node's direct prerequisites where it has a recipe and isn't phony; else none.
@@ -27,19 +30,25 @@ abbrev pub stays_a_file : Subject → List ℕ → Bool
 stays_a_file x target =
     has_name (needed x) target || not (is_commanded x.makefile.rules target)
 
+-- The writer has the name as a direct prerequisite.
+abbrev pub needs_directly : Subject → (writer name : List ℕ) → Bool
+needs_directly x writer name =
+    has_name (map (name_of x) (prerequisites x.graph (number_of (all_names x) writer))) name
+
 -- The word for a finding, whatever its names are.
 abbrev pub word_for : Subject → Finding → Option Word
 word_for x (NoTarget target) = if stays_a_file x target then None else Some (phony target)
-word_for x (Loose target writer) = Some (needs target writer)
+word_for x (Loose target writer) =
+    if needs_directly x writer target then None else Some (needs target writer)
 word_for x (Race recipe writer file) = option_map (needs recipe) (provider x file)
 word_for x (Stale recipe file) = option_map (needs recipe) (provider x file)
+word_for x (UnknownRead recipe file) = option_map (needs recipe) (only_maker (makers_of x file))
 word_for x (NoRecord recipe) = None
 word_for x (OtherCommands recipe) = None
 word_for x (VaryingCommands recipe) = None
 word_for x (TwoWriters first second file) = None
 word_for x (GivenWritten recipe file) = None
 word_for x (OwnRead recipe file) = None
-word_for x (UnknownRead recipe file) = None
 word_for x (Selection name chosen) = None
 
 -- Whether a makefile can hold the names of a word.

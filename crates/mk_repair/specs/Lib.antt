@@ -1,7 +1,9 @@
 pub mod Word
 pub mod Words
 pub mod Provider
+pub mod Makers
 pub mod FindingWords
+pub mod Lookups
 pub mod Gathering
 pub mod Lines
 pub mod Rows

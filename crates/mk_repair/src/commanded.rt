@@ -8,7 +8,7 @@ ghost use Rattle.mk_read.specs.Rules.{gives_commands, is_commanded};
 use mk_read::{Makefile, Rule};
 
 /// Whether this name is among the names. Allocates nothing.
-fn has_name(names: &[String], name: &str) -> bool
+pub fn has_name(names: &[String], name: &str) -> bool
     ensures { result ≡ has_name (map string_bytes names.now) name.now }
 {
     for other in names {

@@ -59,7 +59,7 @@ fn push_lines(
 
 /// Appends the lines that give all of the targets all of the prerequisites. The only error is out
 /// of memory.
-fn push_lines_between(
+pub fn push_lines_between(
     alloc: Global,
     out: &mut String,
     targets: &[&str],

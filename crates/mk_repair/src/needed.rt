@@ -3,7 +3,7 @@
 ghost use Rattle.std.specs.Prelude.{◌≡◌, ◌&&◌, not, fold, map, IfOk, OnOk};
 ghost use Rattle.mk_lines.specs.Names.{HoldsNames, with_name};
 ghost use Rattle.mk_subject.specs.Subject.{name_of};
-ghost use Rattle.mk_repair.specs.FindingWords.{needed};
+ghost use Rattle.mk_repair.specs.FindingWords.{needed, needs_directly};
 
 use crate::node_name;
 use mk_graph::Node;
@@ -16,6 +16,19 @@ fn makes_a_file(node: &Node) -> bool
     ensures { result ≡ (node.now.recipe && not node.now.phony) }
 {
     node.recipe && !node.phony
+}
+
+/// Whether the writer has the name as a direct prerequisite. Allocates nothing.
+pub fn needs_directly(subject: &Subject<'_>, writer: &str, name: &str) -> bool
+    ensures { result ≡ needs_directly subject.now writer.now name.now }
+{
+    let number = subject.names().number_of(writer);
+    for other in subject.graph().prerequisites(number) {
+        if name == node_name::name_of(subject, *other) {
+            return true;
+        }
+    }
+    false
 }
 
 /// Adds the names of nodes. The only error is out of memory.

@@ -1,10 +1,11 @@
 -- What to do about a group that no line of the makefile mends.
 use Rattle.std.specs.Prelude.{ℕ, List, [], ◌++◌, codes, if◌then◌else◌}
+use Rattle.std.specs.Str.{bytes_eq}
 use Rattle.mk_lines.specs.Names.{has_name}
 use Rattle.mk_sentences.specs.Topics.{Topic}
-use Rattle.mk_sentences.specs.Phrases.{by}
+use Rattle.mk_sentences.specs.Phrases.{by, shown}
 use Rattle.mk_sentences.specs.declared.topic.Kind.{Kind}
-use Rattle.mk_sentences.specs.declared.topic.Kind.TheVariants.{NoRecord, OtherCommands, VaryingCommands, NoTarget, TwoWriters, GivenWritten, OwnRead, UnknownRead, Loose, Race, OutputRace, Stale, OutputStale, Selection}
+use Rattle.mk_sentences.specs.declared.topic.Kind.TheVariants.{NoRecord, OtherCommands, VaryingCommands, NoTarget, TwoWriters, GivenWritten, OwnRead, UnknownRead, UnreachedRead, Loose, OwnPrerequisite, Race, OutputRace, Stale, OutputStale, Selection}
 
 -- Files whose names a makefile can't hold.
 abbrev pub rename : List (List ℕ) → List ℕ
@@ -29,10 +30,18 @@ keep_one first second who =
 abbrev pub write_another : List (List ℕ) → List ℕ
 write_another what =
     by what
-    (codes "let the recipe write another file, or take this one out of the sources, " ++
-    codes "-include and .PHONY")
-    (codes "let the recipe write other files, or take these out of the sources, " ++
-    codes "-include and .PHONY")
+    (codes "let the recipe write another file, or take this one out of the sources, -include " ++
+    codes "and .PHONY; if it lists headers, as cc -MMD writes them, see mkcheck explain given")
+    (codes "let the recipe write other files, or take these out of the sources, -include " ++
+    codes "and .PHONY; if they list headers, as cc -MMD writes them, see mkcheck explain given")
+
+-- A file that the recipe which writes it has as a prerequisite.
+abbrev pub split_writer : (who what : List (List ℕ)) → List ℕ
+split_writer who what =
+    codes "give " ++ (shown who ++
+    (by who (codes " a rule of its own, or take it out of the prerequisites of ")
+    (codes " rules of their own, or take them out of the prerequisites of ") ++
+    (shown what ++ codes ": to depend on that would close a cycle")))
 
 -- A file of unknown origin.
 abbrev pub take_in : List (List ℕ) → List ℕ
@@ -41,6 +50,18 @@ take_in what =
     (codes "take it into the project and record again, or record with --fixed if it never changes")
     (codes "take them into the project and record again, " ++
     codes "or record with --fixed if they never change")
+
+-- A file that two targets may make which the goals don't reach.
+abbrev pub choose_maker : (first second : List ℕ) → List (List ℕ) → List ℕ
+choose_maker first second what =
+    codes "the recipes of " ++ (first ++ (codes " and " ++ (second ++
+    (by what (codes " were recorded to write it") (codes " were recorded to write them") ++
+    codes ", and these goals reach neither: write the one that is meant as a prerequisite"))))
+
+-- A file of unknown origin, by the second of two targets that may make it.
+abbrev pub find_maker : (first second : List ℕ) → List (List ℕ) → List ℕ
+find_maker first second what =
+    if bytes_eq second [] then take_in what else choose_maker first second what
 
 -- A name that an inference rule makes from another file.
 abbrev pub write_rule : (name chosen : List ℕ) → List ℕ
@@ -70,8 +91,10 @@ advice_of TwoWriters first second who what = keep_one first second who
 advice_of GivenWritten first second who what = write_another what
 advice_of OwnRead first second who what =
     codes "split the recipe in two, or make each file anew from other files alone"
-advice_of UnknownRead first second who what = take_in what
+advice_of UnknownRead first second who what = find_maker first second what
+advice_of UnreachedRead first second who what = rename what
 advice_of Loose first second who what = rename what
+advice_of OwnPrerequisite first second who what = split_writer who what
 advice_of Race first second who what = rename what
 advice_of OutputRace first second who what = rename what
 advice_of Stale first second who what = rename what

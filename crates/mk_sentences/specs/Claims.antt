@@ -4,7 +4,8 @@ use Rattle.std.specs.Str.{bytes_eq}
 use Rattle.mk_subject.specs.Subject.{Subject}
 use Rattle.mk_find.specs.declared.finding.Finding.{Finding}
 use Rattle.mk_find.specs.declared.finding.Finding.TheVariants as finding
-use Rattle.mk_repair.specs.FindingWords.{word_of}
+use Rattle.mk_repair.specs.FindingWords.{needs_directly, word_of}
+use Rattle.mk_repair.specs.Makers.{Makers, makers_of, no_maker, one_maker, two_makers}
 use Rattle.mk_repair.specs.Word.{Word, needs, phony}
 use Rattle.mk_sentences.specs.Topics.{Topic, topic_view}
 use Rattle.mk_sentences.specs.declared.topic.Kind.{Kind}
@@ -55,6 +56,30 @@ read_claim direct indirect recipe file (Some (needs target prerequisite)) =
       what = file;
     })
 
+-- The claim that a recipe reads an unknown file that no line lets it need, by what may make the
+-- file: where there are two targets, these are names of the topic.
+abbrev pub unmade_claim : (recipe file : List ℕ) → Makers → Claim
+unmade_claim recipe file no_maker = about kind.UnknownRead false recipe file
+unmade_claim recipe file (one_maker name) = about kind.UnknownRead false recipe file
+unmade_claim recipe file (two_makers first second) =
+    between kind.UnknownRead first second recipe file
+
+-- The claim that a recipe reads an unknown file, by the word that the finding gives and what may
+-- make the file. A prerequisite that a line adds is a name of the topic.
+abbrev pub unknown_claim : (recipe file : List ℕ) → Option Word → Makers → Claim
+unknown_claim recipe file None makers = unmade_claim recipe file makers
+unknown_claim recipe file (Some (phony target)) makers = unmade_claim recipe file makers
+unknown_claim recipe file (Some (needs target prerequisite)) makers = record {
+  topic = record {
+    kind = kind.UnreachedRead;
+    has_line = true;
+    first = prerequisite;
+    second = [];
+  };
+  who = recipe;
+  what = file;
+}
+
 -- The claim of a finding.
 abbrev pub claim_of : Subject → Finding → Claim
 claim_of x (finding.NoRecord recipe) = about kind.NoRecord false recipe []
@@ -66,9 +91,11 @@ claim_of x (finding.TwoWriters first second file) =
     between kind.TwoWriters first second file []
 claim_of x (finding.GivenWritten recipe file) = about kind.GivenWritten false recipe file
 claim_of x (finding.OwnRead recipe file) = about kind.OwnRead false recipe file
-claim_of x (finding.UnknownRead recipe file) = about kind.UnknownRead false recipe file
+claim_of x (finding.UnknownRead recipe file) =
+    unknown_claim recipe file (word_of x (finding.UnknownRead recipe file)) (makers_of x file)
 claim_of x (finding.Loose name writer) =
-    about kind.Loose (is_repaired x (finding.Loose name writer)) name writer
+    if needs_directly x writer name then about kind.OwnPrerequisite false name writer
+    else about kind.Loose (is_repaired x (finding.Loose name writer)) name writer
 claim_of x (finding.Race recipe writer file) =
     read_claim kind.Race kind.OutputRace recipe file (word_of x (finding.Race recipe writer file))
 claim_of x (finding.Stale recipe file) =

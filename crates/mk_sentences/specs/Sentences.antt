@@ -3,7 +3,7 @@ use Rattle.std.specs.Prelude.{ℕ, List, ◌++◌, codes}
 use Rattle.mk_sentences.specs.Topics.{Topic}
 use Rattle.mk_sentences.specs.Phrases.{by, shown}
 use Rattle.mk_sentences.specs.declared.topic.Kind.{Kind}
-use Rattle.mk_sentences.specs.declared.topic.Kind.TheVariants.{NoRecord, OtherCommands, VaryingCommands, NoTarget, TwoWriters, GivenWritten, OwnRead, UnknownRead, Loose, Race, OutputRace, Stale, OutputStale, Selection}
+use Rattle.mk_sentences.specs.declared.topic.Kind.TheVariants.{NoRecord, OtherCommands, VaryingCommands, NoTarget, TwoWriters, GivenWritten, OwnRead, UnknownRead, UnreachedRead, Loose, OwnPrerequisite, Race, OutputRace, Stale, OutputStale, Selection}
 
 -- These recipes have no record.
 abbrev pub no_record : List (List ℕ) → List ℕ
@@ -71,6 +71,17 @@ unknown_read who what =
     (codes ", which is neither a source nor written by a recipe: nothing says when it changes")
     (codes ", which are neither sources nor written by recipes: nothing says when they change")))
 
+-- These recipes read these files.
+unfoldable pub reads : (who what : List (List ℕ)) → List ℕ
+reads who what = shown who ++ (by who (codes " reads ") (codes " read ") ++ shown what)
+
+-- These recipes read these files, which the recipe of `maker` makes, and the goals don't reach it.
+abbrev pub unreached_read : (maker : List ℕ) → (who what : List (List ℕ)) → List ℕ
+unreached_read maker who what =
+    reads who what ++ (codes ", which the recipe of " ++ (maker ++ (codes " makes, but " ++
+    (by who (codes "doesn't depend on ") (codes "don't depend on ") ++ (maker ++
+    codes ", so these goals don't run that recipe")))))
+
 -- These names don't wait for the recipes that write their files.
 abbrev pub loose : (who what : List (List ℕ)) → List ℕ
 loose who what =
@@ -79,10 +90,6 @@ loose who what =
     (by what (codes ", whose recipe writes ") (codes ", whose recipes write ") ++
     by who (codes "it: make may take it as done while it is being written")
     (codes "them: make may take them as done while they are being written"))))
-
--- These recipes read these files.
-unfoldable pub reads : (who what : List (List ℕ)) → List ℕ
-reads who what = shown who ++ (by who (codes " reads ") (codes " read ") ++ shown what)
 
 -- These recipes may begin before these files are written.
 abbrev pub race : (who what : List (List ℕ)) → List ℕ
@@ -134,7 +141,9 @@ sentence_of TwoWriters first second who what = two_writers first second who
 sentence_of GivenWritten first second who what = given_written who what
 sentence_of OwnRead first second who what = own_read who what
 sentence_of UnknownRead first second who what = unknown_read who what
+sentence_of UnreachedRead first second who what = unreached_read first who what
 sentence_of Loose first second who what = loose who what
+sentence_of OwnPrerequisite first second who what = loose who what
 sentence_of Race first second who what = race who what
 sentence_of OutputRace first second who what = output_race first who what
 sentence_of Stale first second who what = stale who what

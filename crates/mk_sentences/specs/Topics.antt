@@ -2,7 +2,7 @@
 use Rattle.std.specs.Prelude.{ℕ, ◌==◌, Bool, ◌&&◌, not, List, codes, if◌then◌else◌}
 use Rattle.std.specs.Str.{bytes_eq}
 use Rattle.mk_sentences.specs.declared.topic.Kind.{Kind}
-use Rattle.mk_sentences.specs.declared.topic.Kind.TheVariants.{NoRecord, OtherCommands, VaryingCommands, NoTarget, TwoWriters, GivenWritten, OwnRead, UnknownRead, Loose, Race, OutputRace, Stale, OutputStale, Selection}
+use Rattle.mk_sentences.specs.declared.topic.Kind.TheVariants.{NoRecord, OtherCommands, VaryingCommands, NoTarget, TwoWriters, GivenWritten, OwnRead, UnknownRead, UnreachedRead, Loose, OwnPrerequisite, Race, OutputRace, Stale, OutputStale, Selection}
 use Rattle.mk_sentences.specs.declared.topic.Topic as borrowed
 
 -- What the findings of a group have in common: their kind; whether a line of the makefile mends
@@ -38,6 +38,8 @@ kind_number OutputRace = 11
 kind_number Stale = 12
 kind_number OutputStale = 13
 kind_number Selection = 14
+kind_number UnreachedRead = 15
+kind_number OwnPrerequisite = 16
 
 -- Whether two Booleans are equal.
 abbrev pub same_bool : Bool → Bool → Bool
@@ -59,7 +61,9 @@ kind_word TwoWriters = codes "writers"
 kind_word GivenWritten = codes "given"
 kind_word OwnRead = codes "own"
 kind_word UnknownRead = codes "unknown"
+kind_word UnreachedRead = codes "unknown"
 kind_word Loose = codes "loose"
+kind_word OwnPrerequisite = codes "loose"
 kind_word Race = codes "race"
 kind_word OutputRace = codes "race"
 kind_word Stale = codes "stale"

@@ -3,7 +3,7 @@ use Rattle.std.specs.Prelude.{ℕ, Bool, true, false, List, [], map, not, filter
 use Rattle.mk_lines.specs.Names.{has_name}
 use Rattle.mk_sentences.specs.Claims.{Claim}
 use Rattle.mk_sentences.specs.declared.topic.Kind.{Kind}
-use Rattle.mk_sentences.specs.declared.topic.Kind.TheVariants.{NoRecord, NoTarget, TwoWriters, GivenWritten, OwnRead, UnknownRead, Loose, Stale, OutputStale}
+use Rattle.mk_sentences.specs.declared.topic.Kind.TheVariants.{NoRecord, NoTarget, TwoWriters, GivenWritten, OwnRead, UnknownRead, UnreachedRead, Loose, OwnPrerequisite, Stale, OutputStale}
 
 -- Of the two names of a claim of this kind, the file that mending it may change; empty if there is
 -- none.
@@ -12,9 +12,11 @@ file_about_of NoRecord who what = who
 file_about_of NoTarget who what = who
 file_about_of TwoWriters who what = who
 file_about_of Loose who what = who
+file_about_of OwnPrerequisite who what = who
 file_about_of GivenWritten who what = what
 file_about_of OwnRead who what = what
 file_about_of UnknownRead who what = what
+file_about_of UnreachedRead who what = what
 file_about_of kind who what = []
 
 -- The file that mending the claim may change.

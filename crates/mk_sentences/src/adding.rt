@@ -3,13 +3,13 @@
 ghost use Rattle.std.specs.Prelude.{◌≡◌, ◌++◌, OnOk};
 ghost use Rattle.std.specs.List.{flat_map};
 ghost use Rattle.std.specs.String.{string_bytes};
-ghost use Rattle.mk_repair.specs.Lines.{lines_between};
+ghost use Rattle.mk_repair.specs.Lines.{line_text, lines_between};
 ghost use Rattle.mk_repair.specs.Rows.{names_view};
 ghost use Rattle.mk_sentences.specs.Topics.{topic_view};
 ghost use Rattle.mk_sentences.specs.Adding.{added_lines, added_with, lines_of};
 
 use crate::topic::{Kind, Topic};
-use mk_repair::pieces_of;
+use mk_repair::{pieces_of, push_lines_between};
 use std::alloc::{AllocError, Global};
 
 /// Appends a line to add with these targets and prerequisites.
@@ -81,9 +81,30 @@ pub fn push_added_lines(
 {
     match topic.kind {
         Kind::NoTarget => push_added_between(alloc, out, &[".PHONY"], who),
-        Kind::OutputRace | Kind::OutputStale => {
+        Kind::OutputRace | Kind::OutputStale | Kind::UnreachedRead => {
             push_added_between(alloc, out, who, &[topic.first])
         }
         _ => push_added_between(alloc, out, who, what),
+    }
+}
+
+/// Appends the lines that mend a group, as a makefile has them. The only error is out of memory.
+pub fn push_lines(
+    alloc: Global,
+    out: &mut String,
+    topic: &Topic<'_>,
+    who: &[&str],
+    what: &[&str],
+) -> Result<(), AllocError>
+    ensures { OnOk result (string_bytes out.new ≡ string_bytes out.old ++
+        flat_map line_text (lines_of (topic_view topic.now).kind (topic_view topic.now).first
+        (names_view who.now) (names_view what.now))) }
+{
+    match topic.kind {
+        Kind::NoTarget => push_lines_between(alloc, out, &[".PHONY"], who),
+        Kind::OutputRace | Kind::OutputStale | Kind::UnreachedRead => {
+            push_lines_between(alloc, out, who, &[topic.first])
+        }
+        _ => push_lines_between(alloc, out, who, what),
     }
 }

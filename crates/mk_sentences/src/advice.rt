@@ -5,11 +5,11 @@ ghost use Rattle.std.specs.String.{string_bytes};
 ghost use Rattle.mk_lines.specs.Names.{has_name};
 ghost use Rattle.mk_repair.specs.Rows.{names_view};
 ghost use Rattle.mk_sentences.specs.Topics.{topic_view};
-ghost use Rattle.mk_sentences.specs.Advice.{advice, keep_first, keep_one, rename, take_in, write_another, write_rule};
+ghost use Rattle.mk_sentences.specs.Advice.{advice, choose_maker, find_maker, keep_first, keep_one, rename, split_writer, take_in, write_another, write_rule};
 
-use crate::phrases::by;
+use crate::phrases::{by, shown};
 use crate::topic::{Kind, Topic};
-use std::alloc::AllocError;
+use std::alloc::{AllocError, Global};
 
 /// Appends what to do about files whose names a makefile can't hold.
 fn push_rename(out: &mut String, what: &[&str]) -> Result<(), AllocError>
@@ -73,10 +73,34 @@ fn push_write_another(out: &mut String, what: &[&str]) -> Result<(), AllocError>
 {
     out.push_str(by(
         what,
-        "let the recipe write another file, or take this one out of the sources, -include and \
-         .PHONY",
-        "let the recipe write other files, or take these out of the sources, -include and .PHONY",
+        "let the recipe write another file, or take this one out of the sources, -include \
+         and .PHONY; if it lists headers, as cc -MMD writes them, see mkcheck explain given",
+        "let the recipe write other files, or take these out of the sources, -include \
+         and .PHONY; if they list headers, as cc -MMD writes them, see mkcheck explain given",
     ))
+}
+
+/// Appends what to do about a file that the recipe which writes it has as a prerequisite.
+fn push_split_writer(
+    alloc: Global,
+    out: &mut String,
+    who: &[&str],
+    what: &[&str],
+) -> Result<(), AllocError>
+    ensures { OnOk result (string_bytes out.new ≡
+        string_bytes out.old ++ split_writer (names_view who.now) (names_view what.now)) }
+{
+    let names = shown(alloc, who)?;
+    let rules = by(
+        who,
+        " a rule of its own, or take it out of the prerequisites of ",
+        " rules of their own, or take them out of the prerequisites of ",
+    );
+    let writers = shown(alloc, what)?;
+    write!(
+        out,
+        "give {names}{rules}{writers}: to depend on that would close a cycle"
+    )
 }
 
 /// Appends what to do about a file of unknown origin.
@@ -89,6 +113,45 @@ fn push_take_in(out: &mut String, what: &[&str]) -> Result<(), AllocError>
         "take it into the project and record again, or record with --fixed if it never changes",
         "take them into the project and record again, or record with --fixed if they never change",
     ))
+}
+
+/// Appends what to do about a file that two targets may make which the goals don't reach.
+fn push_choose_maker(
+    out: &mut String,
+    first: &str,
+    second: &str,
+    what: &[&str],
+) -> Result<(), AllocError>
+    ensures { OnOk result (string_bytes out.new ≡
+        string_bytes out.old ++ choose_maker first.now second.now (names_view what.now)) }
+{
+    let recorded = by(
+        what,
+        " were recorded to write it",
+        " were recorded to write them",
+    );
+    write!(
+        out,
+        "the recipes of {first} and {second}{recorded}, \
+         and these goals reach neither: write the one that is meant as a prerequisite"
+    )
+}
+
+/// Appends what to do about a file of unknown origin, by the second of two targets that may make
+/// it; empty without them.
+fn push_find_maker(
+    out: &mut String,
+    first: &str,
+    second: &str,
+    what: &[&str],
+) -> Result<(), AllocError>
+    ensures { OnOk result (string_bytes out.new ≡
+        string_bytes out.old ++ find_maker first.now second.now (names_view what.now)) }
+{
+    if second == "" {
+        return push_take_in(out, what);
+    }
+    push_choose_maker(out, first, second, what)
 }
 
 /// Appends what to do about a name that an inference rule makes from another file.
@@ -106,6 +169,7 @@ fn push_write_rule(out: &mut String, name: &str, chosen: &str) -> Result<(), All
 /// Appends what to do about a group that no line of the makefile mends, without a newline. The only
 /// error is out of memory.
 pub fn push_advice(
+    alloc: Global,
     out: &mut String,
     topic: &Topic<'_>,
     who: &[&str],
@@ -137,8 +201,10 @@ pub fn push_advice(
         Kind::OwnRead => out.push_str(
             "split the recipe in two, or make each file anew from other files alone",
         ),
-        Kind::UnknownRead => push_take_in(out, what),
+        Kind::UnknownRead => push_find_maker(out, topic.first, topic.second, what),
+        Kind::UnreachedRead => push_rename(out, what),
         Kind::Loose => push_rename(out, what),
+        Kind::OwnPrerequisite => push_split_writer(alloc, out, who, what),
         Kind::Race => push_rename(out, what),
         Kind::OutputRace => push_rename(out, what),
         Kind::Stale => push_rename(out, what),

@@ -1,15 +1,14 @@
 //! What each finding says, as groups gather it.
 
 ghost use Rattle.std.specs.Prelude.{◌≡◌, is_some, map, option_map, IfOk};
-ghost use Rattle.mk_lines.specs.Names.{HoldsNames};
-ghost use Rattle.mk_repair.specs.FindingWords.{needed, word_of};
+ghost use Rattle.mk_repair.specs.FindingWords.{word_of};
+ghost use Rattle.mk_repair.specs.Lookups.{AreLookups, makers_view};
 ghost use Rattle.mk_repair.specs.Words.{word_view};
-ghost use Rattle.mk_sentences.specs.Claims.{about, between, claim_of, claim_view, is_repaired, read_claim};
+ghost use Rattle.mk_sentences.specs.Claims.{about, between, claim_of, claim_view, is_repaired, read_claim, unknown_claim, unmade_claim};
 
 use crate::topic::{Kind, Topic};
 use mk_find::Finding;
-use mk_lines::BorrowedNames;
-use mk_repair::{Word, needed_names, word_of};
+use mk_repair::{Lookups, Makers, Word, lookups_of, makers_of, needs_directly, word_of};
 use mk_subject::Subject;
 use std::alloc::{AllocError, Global};
 
@@ -37,12 +36,12 @@ fn about<'a>(kind: Kind, has_line: bool, who: &'a str, what: &'a str) -> Claim<'
     Claim { topic, who, what }
 }
 
-/// Whether a line of the makefile mends a finding. The set is as for `word_of`.
-fn is_repaired(subject: &Subject<'_>, names: &BorrowedNames<'_>, finding: &Finding) -> bool
-    requires { HoldsNames names.now (needed subject.now) }
+/// Whether a line of the makefile mends a finding. The lookups are those of the subject.
+fn is_repaired(subject: &Subject<'_>, lookups: &Lookups<'_>, finding: &Finding) -> bool
+    requires { AreLookups subject.now lookups.now }
     ensures { result ≡ is_repaired subject.now finding.now }
 {
-    match word_of(subject, names, finding) {
+    match word_of(subject, lookups, finding) {
         Some(_) => true,
         None => false,
     }
@@ -100,14 +99,49 @@ fn between<'a>(
     Claim { topic, who, what }
 }
 
-/// The claim of a finding. The set has the names that recipes need which aren't phony. Allocates
-/// nothing.
-fn claim_of<'a>(
-    subject: &'a Subject<'_>,
-    names: &BorrowedNames<'_>,
-    finding: &'a Finding,
+/// The claim that a recipe reads an unknown file that no line lets it need, by what may make it.
+fn unmade_claim<'a>(recipe: &'a str, file: &'a str, makers: Makers<'a>) -> Claim<'a>
+    ensures { claim_view result ≡
+        unmade_claim recipe.entry.now file.entry.now (makers_view makers.entry) }
+{
+    match makers {
+        Makers::None | Makers::One(_) => about(Kind::UnknownRead, false, recipe, file),
+        Makers::Two(first, second) => between(Kind::UnknownRead, first, second, recipe, file),
+    }
+}
+
+/// The claim that a recipe reads an unknown file, by the word that the finding gives and what may
+/// make the file.
+fn unknown_claim<'a>(
+    recipe: &'a str,
+    file: &'a str,
+    word: Option<Word<'a>>,
+    makers: Makers<'a>,
 ) -> Claim<'a>
-    requires { HoldsNames names.now (needed subject.now) }
+    ensures { claim_view result ≡ unknown_claim recipe.entry.now file.entry.now
+        (option_map word_view word.entry) (makers_view makers.entry) }
+{
+    match word {
+        Some(Word::Needs { prerequisite, .. }) => {
+            let topic = Topic {
+                kind: Kind::UnreachedRead,
+                has_line: true,
+                first: prerequisite,
+                second: "",
+            };
+            Claim {
+                topic,
+                who: recipe,
+                what: file,
+            }
+        }
+        Some(Word::Phony { .. }) | None => unmade_claim(recipe, file, makers),
+    }
+}
+
+/// The claim of a finding. The lookups are those of the subject. Allocates nothing.
+fn claim_of<'a>(subject: &'a Subject<'_>, lookups: &Lookups<'a>, finding: &'a Finding) -> Claim<'a>
+    requires { AreLookups subject.now lookups.now }
     ensures { claim_view result ≡ claim_of subject.entry.now finding.entry.now }
 {
     match finding {
@@ -117,7 +151,7 @@ fn claim_of<'a>(
             about(Kind::VaryingCommands, false, recipe.as_str(), "")
         }
         Finding::NoTarget { recipe } => {
-            let has_line = is_repaired(subject, names, finding);
+            let has_line = is_repaired(subject, lookups, finding);
             about(Kind::NoTarget, has_line, recipe.as_str(), "")
         }
         Finding::TwoWriters {
@@ -138,14 +172,19 @@ fn claim_of<'a>(
             about(Kind::OwnRead, false, recipe.as_str(), file.as_str())
         }
         Finding::UnknownRead { recipe, file } => {
-            about(Kind::UnknownRead, false, recipe.as_str(), file.as_str())
+            let word = word_of(subject, lookups, finding);
+            let makers = makers_of(subject, lookups, file.as_str());
+            unknown_claim(recipe.as_str(), file.as_str(), word, makers)
         }
         Finding::Loose { name, writer } => {
-            let has_line = is_repaired(subject, names, finding);
+            if needs_directly(subject, writer.as_str(), name.as_str()) {
+                return about(Kind::OwnPrerequisite, false, name.as_str(), writer.as_str());
+            }
+            let has_line = is_repaired(subject, lookups, finding);
             about(Kind::Loose, has_line, name.as_str(), writer.as_str())
         }
         Finding::Race { recipe, file, .. } => {
-            let word = word_of(subject, names, finding);
+            let word = word_of(subject, lookups, finding);
             read_claim(
                 Kind::Race,
                 Kind::OutputRace,
@@ -155,7 +194,7 @@ fn claim_of<'a>(
             )
         }
         Finding::Stale { recipe, file } => {
-            let word = word_of(subject, names, finding);
+            let word = word_of(subject, lookups, finding);
             read_claim(
                 Kind::Stale,
                 Kind::OutputStale,
@@ -174,8 +213,8 @@ fn claim_of<'a>(
     }
 }
 
-/// The claims of the findings, in the same order. Takes time linear in the graph and the findings.
-/// The only error is out of memory.
+/// The claims of the findings, in the same order. Takes the time of `words_of`. The only error is out
+/// of memory.
 pub fn claims_of<'a>(
     alloc: Global,
     subject: &'a Subject<'_>,
@@ -184,10 +223,10 @@ pub fn claims_of<'a>(
     ensures { IfOk result (λ claims. map claim_view claims.items ≡
         map (claim_of subject.entry.now) findings.entry.now) }
 {
-    let names = needed_names(alloc, subject)?;
+    let lookups = lookups_of(alloc, subject)?;
     let mut claims = Vec::with_capacity(alloc, findings.len())?;
     for finding in findings {
-        claims.push(claim_of(subject, &names, finding))?;
+        claims.push(claim_of(subject, &lookups, finding))?;
     }
     Ok(claims)
 }

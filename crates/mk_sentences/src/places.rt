@@ -110,7 +110,7 @@ impl<'m> Places<'m> {
 
     /// The rule line at which a name is shown: the first one that gives it commands; without one,
     /// the first one that has it as a target. Rule lines of the default text don't count.
-    fn rule(&self, name: &str) -> Option<&Rule>
+    pub fn rule(&self, name: &str) -> Option<&Rule>
         ensures { option_copied result ≡ rule_shown self.now name.now }
     {
         if let Some(rule) = self.commanded.get(name) {

@@ -17,11 +17,11 @@ use crate::adding::push_added_lines;
 use crate::advice::push_advice;
 use crate::claim::{Claim, claims_of};
 use crate::grouping::{Groups, Rows, groups_of, rows_of};
+use crate::left_claims::untouched;
 use crate::listing::{push_left_out, who_are};
 use crate::places::{Places, push_head};
 use crate::sentence::push_sentence;
 use crate::topic::{Kind, Topic, kind_word};
-use crate::untouched::untouched;
 use mk_find::Finding;
 use mk_read::Makefile;
 use mk_subject::Subject;
@@ -39,7 +39,7 @@ fn first_name<'a>(names: &[&'a str]) -> &'a str
 
 /// The name at whose line a group is shown: the first of two writers, else the first name of the
 /// group.
-fn shown_name<'a>(topic: &Topic<'a>, who: &[&'a str]) -> &'a str
+pub fn shown_name<'a>(topic: &Topic<'a>, who: &[&'a str]) -> &'a str
     ensures { result.now ≡ shown_name (topic_view topic.now) (names_view who.now) }
 {
     match topic.kind {
@@ -60,7 +60,7 @@ fn push_to_do(
         (topic_view topic.now) (names_view who.now) (names_view what.now)) }
 {
     out.push_str("  do: ")?;
-    push_advice(out, topic, who, what)?;
+    push_advice(alloc, out, topic, who, what)?;
     out.push_str("\n")?;
     push_left_out(alloc, out, who_are(topic.kind), who)?;
     push_left_out(alloc, out, "files", what)

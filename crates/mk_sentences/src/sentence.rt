@@ -4,7 +4,7 @@ ghost use Rattle.std.specs.Prelude.{◌≡◌, ◌++◌, IfOk, OnOk};
 ghost use Rattle.std.specs.String.{string_bytes};
 ghost use Rattle.mk_repair.specs.Rows.{names_view};
 ghost use Rattle.mk_sentences.specs.Topics.{topic_view};
-ghost use Rattle.mk_sentences.specs.Sentences.{given_written, loose, no_record, no_target, other_commands, output_race, output_stale, own_read, race, reads, recipes_of, selection, sentence, stale, stays_old, two_writers, unknown_read, varying_commands};
+ghost use Rattle.mk_sentences.specs.Sentences.{given_written, loose, no_record, no_target, other_commands, output_race, output_stale, own_read, race, reads, recipes_of, selection, sentence, stale, stays_old, two_writers, unknown_read, unreached_read, varying_commands};
 
 use crate::phrases::{by, shown};
 use crate::topic::{Kind, Topic};
@@ -205,6 +205,27 @@ fn reads(alloc: Global, who: &[&str], what: &[&str]) -> Result<String, AllocErro
     format!(in alloc; "{names}{read}{files}")
 }
 
+/// Appends the sentence on recipes that read files which the recipe of `maker` makes, where the
+/// goals don't reach that.
+fn push_unreached_read(
+    alloc: Global,
+    out: &mut String,
+    maker: &str,
+    who: &[&str],
+    what: &[&str],
+) -> Result<(), AllocError>
+    ensures { OnOk result (string_bytes out.new ≡ string_bytes out.old ++
+        unreached_read maker.now (names_view who.now) (names_view what.now)) }
+{
+    let reads = reads(alloc, who, what)?;
+    let lack = by(who, "doesn't depend on ", "don't depend on ");
+    write!(
+        out,
+        "{reads}, which the recipe of {maker} makes, but {lack}{maker}, so these goals don't run \
+         that recipe"
+    )
+}
+
 /// Appends the sentence on recipes that may begin before files are written.
 fn push_race(alloc: Global, out: &mut String, who: &[&str], what: &[&str]) -> Result<(), AllocError>
     ensures { OnOk result (string_bytes out.new ≡
@@ -329,7 +350,9 @@ pub fn push_sentence(
         Kind::GivenWritten => push_given_written(alloc, out, who, what),
         Kind::OwnRead => push_own_read(alloc, out, who, what),
         Kind::UnknownRead => push_unknown_read(alloc, out, who, what),
+        Kind::UnreachedRead => push_unreached_read(alloc, out, topic.first, who, what),
         Kind::Loose => push_loose(alloc, out, who, what),
+        Kind::OwnPrerequisite => push_loose(alloc, out, who, what),
         Kind::Race => push_race(alloc, out, who, what),
         Kind::OutputRace => push_output_race(alloc, out, topic.first, who, what),
         Kind::Stale => push_stale(alloc, out, who, what),

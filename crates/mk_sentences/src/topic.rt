@@ -23,8 +23,12 @@ pub enum Kind {
     OwnRead,
     /// Recipes that read files of unknown origin.
     UnknownRead,
+    /// Recipes that read files which a recipe makes that the goals don't reach.
+    UnreachedRead,
     /// Names without a recipe that don't wait for the recipe that writes their file.
     Loose,
+    /// The same; the recipe that writes a file has it as a prerequisite.
+    OwnPrerequisite,
     /// Recipes that may begin before a file is written that they read.
     Race,
     /// The same; what is missing is the recipe that writes the file.
@@ -43,10 +47,10 @@ pub struct Topic<'a> {
     pub kind: Kind,
     /// Whether a line of the makefile mends them.
     pub has_line: bool,
-    /// The recipe that writes the files, the first of two writers, or the name that is made from
-    /// another file; else empty.
+    /// The recipe that writes the files, the first of two writers or of two targets that may make
+    /// the files, or the name that is made from another file; else empty.
     pub first: &'a str,
-    /// The second of two writers, or the other file; else empty.
+    /// The second of two writers or of two such targets, or the other file; else empty.
     pub second: &'a str,
 }
 
@@ -63,7 +67,9 @@ pub fn kind_word(kind: Kind) -> &'static str
         Kind::GivenWritten => "given",
         Kind::OwnRead => "own",
         Kind::UnknownRead => "unknown",
+        Kind::UnreachedRead => "unknown",
         Kind::Loose => "loose",
+        Kind::OwnPrerequisite => "loose",
         Kind::Race => "race",
         Kind::OutputRace => "race",
         Kind::Stale => "stale",

@@ -1,6 +1,5 @@
 -- The outcome of a run.
 use Rattle.std.specs.Prelude.{ℕ, List}
-use Rattle.std.specs.String.{string_bytes}
 use Rattle.mkcheck_host.specs.declared.outcome.Outcome.{Outcome}
 
 -- What goes to standard output and to standard error, and the exit status.
@@ -12,4 +11,4 @@ pub record Written : Type 0 where
 -- What an `Outcome` of the code stands for.
 abbrev pub written : Outcome → Written
 written outcome =
-    record { out = outcome.out.items; err = string_bytes outcome.err; status = outcome.status }
+    record { out = outcome.out.items; err = outcome.err.items; status = outcome.status }

@@ -123,13 +123,7 @@ pub fn end<O: Write, E: Write>(
         Ends streams (to_write ran.now) result }
 {
     match ran {
-        Ok(outcome) => send(
-            out,
-            err,
-            &outcome.out,
-            outcome.err.as_bytes(),
-            outcome.status,
-        ),
+        Ok(outcome) => send(out, err, &outcome.out, &outcome.err, outcome.status),
         Err(stop) => send(out, err, b"", stop.line().as_bytes(), stop.status()),
     }
 }

@@ -46,6 +46,11 @@ evidence_option =
       parser = Some (Unsigned 1 18446744073709551615);
     }
 
+-- `--json` of `check`, any number of times.
+abbrev pub in_json_option : Rule
+in_json_option =
+    record (new_rule (codes "json")) { long = Some (codes "json"); action = Some Count }
+
 -- `-k CERT`, exactly once.
 abbrev pub certificate_option : Rule
 certificate_option =
@@ -64,10 +69,6 @@ words_argument =
       value_names = 1;
     }
 
--- `[WHAT]`
-abbrev pub what_argument : Rule
-what_argument = record (new_rule (codes "what")) { value_names = 1 }
-
 -- The subcommand with this name and these options and arguments.
 abbrev pub subcommand : List ℕ → List Rule → App
 subcommand name rules = fold with_rule (new_app name) rules
@@ -78,12 +79,12 @@ graph_command =
     subcommand (codes "graph")
     (makefile_option ∷ no_defaults_option ∷ book_option ∷ commands_option ∷ words_argument ∷ [])
 
--- `check [-f F] [-r] -b BOOK [-c] [-w] [-e N] [WORD..]`
+-- `check [-f F] [-r] -b BOOK [-c] [-w] [-e N] [--json] [WORD..]`
 abbrev pub check_command : App
 check_command =
     subcommand (codes "check")
     (makefile_option ∷ no_defaults_option ∷ needed_book_option ∷ only_certificate_option ∷
-    in_words_option ∷ evidence_option ∷ words_argument ∷ [])
+    in_words_option ∷ evidence_option ∷ in_json_option ∷ words_argument ∷ [])
 
 -- `verify [-f F] [-r] -b BOOK -k CERT [WORD..]`
 abbrev pub verify_command : App
@@ -104,9 +105,9 @@ simulate_command =
     subcommand (codes "simulate")
     (makefile_option ∷ no_defaults_option ∷ needed_book_option ∷ plan_option ∷ words_argument ∷ [])
 
--- `explain [WHAT]`
+-- `explain [WORD..]`
 abbrev pub explain_command : App
-explain_command = subcommand (codes "explain") (what_argument ∷ [])
+explain_command = subcommand (codes "explain") (words_argument ∷ [])
 
 -- The program `mkcheck`, which has a version.
 abbrev pub named_program : App

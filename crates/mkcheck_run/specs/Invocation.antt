@@ -9,7 +9,7 @@ use Rattle.mk_core.specs.declared.request.Request.{Request}
 use Rattle.mk_core.specs.Ready.{macros_for}
 use Rattle.mk_core.specs.Words.{goals_of, operands_of}
 use Rattle.mkcheck_run.specs.declared.invocation.Invocation.{Invocation}
-use Rattle.mkcheck_run.specs.declared.invocation.Invocation.TheVariants.{Graph, Check, CheckInWords, Repair, Explain, Verify, Simulate}
+use Rattle.mkcheck_run.specs.declared.invocation.Invocation.TheVariants.{Graph, Check, CheckInWords, CheckInJson, Repair, Explain, Verify, Simulate}
 use Rattle.mkcheck_run.specs.CommandLine.{command_line}
 
 -- The kinds of fault that the command line finds in the words; none where it accepts them.
@@ -69,14 +69,20 @@ abbrev pub checking : Request → (in_words only_certificate : Bool) → Option 
 checking request true only_certificate None = CheckInWords request only_certificate
 checking request in_words only_certificate evidence = Check request only_certificate evidence
 
+-- The command `check` with this request and these values. With `--json` the options that say how a
+-- verdict is printed change nothing.
+abbrev pub check_by : Request → List Row → Invocation
+check_by request rows =
+    if is_set (codes "json") rows then CheckInJson request
+    else checking request (is_set (codes "in-words") rows)
+    (is_set (codes "only-certificate") rows) (number_at (codes "evidence") rows)
+
 -- The command for the subcommand with this name and these values.
 abbrev pub invocation_by : Text → List Row → Invocation
 invocation_by name rows =
-    if bytes_eq name (codes "check")
-    then checking (requested rows) (is_set (codes "in-words") rows)
-    (is_set (codes "only-certificate") rows) (number_at (codes "evidence") rows) else
+    if bytes_eq name (codes "check") then check_by (requested rows) rows else
     (if bytes_eq name (codes "repair") then Repair (requested rows) else
-    (if bytes_eq name (codes "explain") then Explain (first_of (codes "what") rows) else
+    (if bytes_eq name (codes "explain") then Explain (requested rows).goals else
     (if bytes_eq name (codes "verify")
     then Verify (requested rows) (needed (codes "certificate") rows) else
     (if bytes_eq name (codes "simulate")
@@ -98,6 +104,7 @@ abbrev pub request_in : Invocation → Request
 request_in (Graph request) = request
 request_in (Check request only_certificate evidence) = request
 request_in (CheckInWords request only_certificate) = request
+request_in (CheckInJson request) = request
 request_in (Repair request) = request
 request_in (Explain what) = requested []
 request_in (Verify request certificate) = request

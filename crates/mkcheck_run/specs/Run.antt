@@ -1,5 +1,6 @@
 -- The outcome of a run.
 use Rattle.std.specs.Prelude.{◌≡◌, ◌⊎◌, ℕ, Bool, false, List, [], ◌∷◌, ◌++◌, codes, Option, None, Some, Result, Ok, Err, if◌then◌else◌}
+use Rattle.std.specs.Option.{option_or}
 use Rattle.clap.specs.Words.{IsAmong, Kinds}
 use Rattle.clap.specs.declared.error.ErrorKind.{ErrorKind}
 use Rattle.clap.specs.declared.error.ErrorKind.TheVariants.{DisplayHelp, DisplayVersion, OutOfMemory}
@@ -18,6 +19,10 @@ use Rattle.mk_core.specs.Steps.{is_out_of_memory, seen}
 use Rattle.mk_core_text.specs.VerdictText.{verdict_text}
 use Rattle.mk_core.specs.VerifyAnswer.{AnswersVerify}
 use Rattle.mk_explain.specs.Explain.{explained, overview_text}
+use Rattle.mk_core_json.specs.AnswerValue.{refusal_value}
+use Rattle.mk_core_json.specs.declared.checking.InJson.{InJson}
+use Rattle.mk_core_json.specs.declared.checking.InJson.TheVariants as json
+use Rattle.mk_core_json.specs.InJsonAnswer.{AnswersInJson}
 use Rattle.mk_core_sentences.specs.declared.checking.InWords.{InWords}
 use Rattle.mk_core_sentences.specs.declared.checking.InWords.TheVariants as words
 use Rattle.mk_core_sentences.specs.InWordsAnswer.{AnswersInWords}
@@ -26,7 +31,7 @@ use Rattle.mk_read.specs.declared.fault.Place.{Place}
 use Rattle.mk_core_repair.specs.declared.outcome.Repair.{Repair as Repaired}
 use Rattle.mk_core_repair.specs.Outcome.{Outcome, right, mended, unmended, outcome_of}
 use Rattle.mk_core_repair.specs.RepairAnswer.{AnswersRepair, Mends}
-use Rattle.mk_core_repair.specs.RepairText.{outcome_text}
+use Rattle.mk_core_repair.specs.RepairText.{outcome_message, outcome_text}
 use Rattle.mk_core_evidence.specs.declared.showing.Evidence.{Evidence}
 use Rattle.mk_core_evidence.specs.declared.showing.Evidence.TheVariants.{Plan, NoPlan}
 use Rattle.mk_core_text.specs.declared.verdict.Verdict.{Verdict}
@@ -35,17 +40,23 @@ use Rattle.mk_core.specs.Files.{IfFits, Told}
 use Rattle.mk_cert_text.specs.Writing.{value_of}
 use Rattle.serde_json.specs.Written.{compact_text}
 use Rattle.mkcheck_run.specs.declared.invocation.Invocation.{Invocation}
-use Rattle.mkcheck_run.specs.declared.invocation.Invocation.TheVariants.{Graph, Check, CheckInWords, Repair, Explain, Verify, Simulate}
+use Rattle.mkcheck_run.specs.declared.invocation.Invocation.TheVariants.{Graph, Check, CheckInWords, CheckInJson, Repair, Explain, Verify, Simulate}
 use Rattle.mkcheck_host.specs.Outcome.{Written}
 
--- The response to a command: a text for standard output, and the exit status.
+-- The response to a command: a text for standard output, one for standard error, and the exit
+-- status.
 pub record Response : Type 0 where
   pub text : List ℕ
+  pub err : List ℕ
   pub status : ℕ
 
 -- The response with this text and status 0: for a graph, and for a certificate that is accepted.
 abbrev pub text_response : List ℕ → Response
-text_response text = record { text = text; status = 0 }
+text_response text = record { text = text; err = []; status = 0 }
+
+-- The response with this text and this status, and nothing for standard error.
+abbrev pub printed_response : List ℕ → ℕ → Response
+printed_response text status = record { text = text; err = []; status = status }
 
 -- The response with a verdict: a yes has status 0, and is its certificate alone on a line where
 -- only that is asked for; a no has status 1.
@@ -53,11 +64,11 @@ abbrev pub verdict_response : Bool → Verdict → Response
 verdict_response only_certificate (Yes certificate recipes reads) =
     text_response (if only_certificate then compact_text (value_of certificate) ++ 10 ∷ []
     else verdict_text (Yes certificate recipes reads))
-verdict_response only_certificate (No found) = record { text = verdict_text (No found); status = 1 }
+verdict_response only_certificate (No found) = printed_response (verdict_text (No found)) 1
 
 -- The response with a plan that shows a finding: status 1.
 abbrev pub plan_response : List ℕ → Response
-plan_response plan = record { text = plan; status = 1 }
+plan_response plan = printed_response plan 1
 
 -- The response where a plan alone is asked for and there is none: a yes as usual, for a no `no
 -- plan` and status 1.
@@ -74,7 +85,12 @@ evidence_response only_certificate (NoPlan verdict) = response_without_plan only
 -- The response with a verdict in words: a yes as without words; a no has status 1.
 abbrev pub words_response : Bool → InWords → Response
 words_response only_certificate (words.Yes verdict) = verdict_response only_certificate verdict
-words_response only_certificate (words.No text) = record { text = text.items; status = 1 }
+words_response only_certificate (words.No text) = printed_response text.items 1
+
+-- The response with a verdict as JSON: a yes has status 0, a no status 1.
+abbrev pub json_response : InJson → Response
+json_response (json.Yes text) = text_response text.items
+json_response (json.No text) = printed_response text.items 1
 
 -- The status of what comes of mending: 1 where nothing known mends the makefile, else 0.
 abbrev pub repair_status : Outcome → ℕ
@@ -82,33 +98,40 @@ repair_status right = 0
 repair_status (mended text) = 0
 repair_status (unmended found reason) = 1
 
--- The response with what comes of mending.
+-- The response with what comes of mending: the lines go to standard output; why there are none goes
+-- to standard error.
 abbrev pub repair_response : Repaired → Response
 repair_response found =
     record {
       text = outcome_text (outcome_of found);
+      err = outcome_message (outcome_of found);
       status = repair_status (outcome_of found);
     }
 
 -- The response with the run of a plan: status 2 where a line was refused, else 0.
 abbrev pub run_response : Simulation → Response
-run_response run = record { text = run.text; status = if run.refused then 2 else 0 }
+run_response run = printed_response run.text (if run.refused then 2 else 0)
 
--- What is printed where nothing is called so.
-abbrev pub unknown_text : List ℕ → List ℕ
-unknown_text what =
-    codes "no finding and no fault is called " ++ (what ++
-    codes "; mkcheck explain lists all of them\n")
+-- The explanation of the first of the words that has one.
+abbrev pub first_explained : List (List ℕ) → Option (List ℕ)
+first_explained [] = None
+first_explained (word ∷ words) = option_or (explained word) (first_explained words)
 
--- The response with the explanation of what is called so, or with status 2 where nothing is.
-abbrev pub explained_response : List ℕ → Option (List ℕ) → Response
-explained_response what (Some text) = text_response text
-explained_response what None = record { text = unknown_text what; status = 2 }
+-- What standard error gets where none of the words is explained.
+abbrev pub unknown_text : List ℕ
+unknown_text =
+    codes "error: none of these words is explained; mkcheck explain lists those that are\n"
 
--- The response to `explain`: an explanation, or without a name the overview.
-abbrev pub explain_response : Option (List ℕ) → Response
-explain_response None = text_response overview_text
-explain_response (Some what) = explained_response what (explained what)
+-- The response with an explanation, or without one with status 2.
+abbrev pub explained_response : Option (List ℕ) → Response
+explained_response (Some text) = text_response text
+explained_response None = record { text = []; err = unknown_text; status = 2 }
+
+-- The response to `explain`: the explanation of the first of the words that has one; without words
+-- the overview.
+abbrev pub explain_response : List (List ℕ) → Response
+explain_response [] = text_response overview_text
+explain_response (word ∷ words) = explained_response (first_explained (word ∷ words))
 
 -- The response to `check`: the verdict as it is shown, or the fault.
 abbrev pub ShowsVerdict : Told → Request → (Verdict → Response) → Result Response Fault → Type 0
@@ -140,6 +163,9 @@ AnswersInvocation files (CheckInWords request only_certificate) answer =
     (found : Result InWords Fault) ×
     Answers files request AnswersInWords found ×
     (answer ≡ seen (words_response only_certificate) found)
+AnswersInvocation files (CheckInJson request) answer =
+    (found : Result InJson Fault) ×
+    Answers files request AnswersInJson found × (answer ≡ seen json_response found)
 AnswersInvocation files (Repair request) answer =
     (found : Result Repaired Fault) ×
     AnswersRepair files request found × (answer ≡ seen repair_response found)
@@ -158,13 +184,15 @@ AnswersInvocation files (Simulate request plan) answer =
 abbrev pub Promises : Told → Invocation → List ℕ → Type 0
 Promises files (Check request only_certificate evidence) text = IsRightFor files request
 Promises files (CheckInWords request only_certificate) text = IsRightFor files request
+Promises files (CheckInJson request) text = IsRightFor files request
 Promises files (Repair request) text = Mends files request text
 Promises files (Verify request certificate) text = IsRightFor files request
 Promises files asked text = Unit {0}
 
--- The text of a fault, as this command prints it: with `-w` in words.
+-- The text of a fault, as this command prints it: with `-w` in words, with `--json` as JSON.
 abbrev pub refusal_text : Invocation → Fault → List ℕ
 refusal_text (CheckInWords request only_certificate) fault = fault_words fault
+refusal_text (CheckInJson request) fault = compact_text (refusal_value fault)
 refusal_text asked fault = fault_text fault
 
 -- The line of a file that is printed after the refusal by this fault: with `-w` alone.
@@ -172,14 +200,14 @@ abbrev pub line_shown : Invocation → Fault → Option Place
 line_shown (CheckInWords request only_certificate) fault = line_place request fault
 line_shown asked fault = None
 
--- The response to the command is written to standard output, with its status; a fault as a refusal
--- on a line, with status 2, and with `-w` its line of a file, which is read for that, after it. Out
--- of memory isn't written here. The names whose reads failed grew by at most that file, where it
--- can't be read again.
+-- The response to the command is written to both streams, with its status; a fault as a refusal on
+-- a line of standard output, with status 2, and with `-w` its line of a file, which is read for
+-- that, after it. Out of memory isn't written here. The names whose reads failed grew by at most
+-- that file, where it can't be read again.
 abbrev pub Shows : (Told → Type 0) → (old new : List (List ℕ)) → Invocation →
     Result Response Fault → Written → Type 0
 Shows fits old new asked (Ok shown) w =
-    (new ≡ old) × (w ≡ record { out = shown.text; err = []; status = shown.status })
+    (new ≡ old) × (w ≡ record { out = shown.text; err = shown.err; status = shown.status })
 Shows fits old new asked (Err fault) w =
     (is_out_of_memory fault ≡ false) ×
     (line : List ℕ) × FindsLine fits old new (line_shown asked fault) line ×

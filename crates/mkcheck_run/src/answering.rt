@@ -1,37 +1,42 @@
 //! Carries out a command.
 
 ghost use Rattle.std.specs.Prelude.{◌≡◌, ◌∷◌, ◌++◌, [], None, Some, IfErr, IfOk, OnErr};
+ghost use Rattle.std.specs.Option.{option_map};
+ghost use Rattle.std.specs.String.{string_bytes};
 ghost use Rattle.mk_core.specs.Files.{IfFits, Keeps, Told};
 ghost use Rattle.mk_core_text.specs.declared.fault.Fault.TheVariants.{Memory};
-ghost use Rattle.mk_explain.specs.Explain.{explained};
 ghost use Rattle.mk_core.specs.Answer.{NotesFailure};
 ghost use Rattle.mk_core.specs.Ready.{macros_for};
 ghost use Rattle.mk_core.specs.Right.{IsRightFor};
 ghost use Rattle.mk_cert_text.specs.Writing.{value_of};
 ghost use Rattle.serde_json.specs.Written.{compact_text};
 ghost use Rattle.mkcheck_run.specs.Invocation.{request_in};
-ghost use Rattle.mkcheck_run.specs.Run.{AnswersInvocation, Promises, evidence_response, plan_response, repair_response, explain_response, explained_response, run_response, text_response, verdict_response, words_response, response_without_plan};
-ghost use Rattle.mkcheck_run.specs.declared.invocation.Invocation.TheVariants.{Check, CheckInWords, Explain, Repair as Mend};
+ghost use Rattle.mkcheck_run.specs.Run.{AnswersInvocation, Promises, evidence_response, plan_response, repair_response, explain_response, explained_response, first_explained, printed_response, json_response, run_response, text_response, verdict_response, words_response, response_without_plan};
+ghost use Rattle.mkcheck_run.specs.declared.invocation.Invocation.TheVariants.{Check, CheckInJson, CheckInWords, Explain, Repair as Mend};
 
 use crate::invocation::Invocation;
 use crate::running::{DONE, NO, REFUSED};
 use mk_cert_text::{Certificate, certificate_text};
 use mk_core::{
-    Fault, Files, Name, Request, Simulation, Verdict, check, drop_or_leak, graph_text, render,
-    simulate_text, verify_text,
+    Fault, Files, Name, Names, Request, Simulation, Verdict, check, drop_or_leak, graph_text,
+    render, simulate_text, verify_text,
 };
 use mk_core_evidence::{Evidence, evidence_or_verdict};
-use mk_core_repair::{Repair, repair, repair_text};
+use mk_core_json::{InJson, check_in_json};
+use mk_core_repair::{Repair, repair, repair_message, repair_text};
 use mk_core_sentences::{InWords, check_in_words};
 use mk_explain::{explain, overview};
 use std::alloc::{AllocError, Global};
 use std::marker::Model;
 
-/// The response to a command: a text for standard output, and the exit status.
+/// The response to a command: a text for standard output, one for standard error, and the exit
+/// status.
 #[derive(Debug, Drop)]
 pub struct Response {
-    /// The text.
+    /// The text for standard output.
     pub text: Vec<u8>,
+    /// The text for standard error.
+    pub err: Vec<u8>,
     /// The exit status: 0 for yes or done, 1 for no, 2 for a refusal.
     pub status: u8,
 }
@@ -41,14 +46,29 @@ impl Model for Response {
 
     ghost Value = { value.Response };
 
-    ghost view = { λ s. record { text = s.text.items; status = s.status } };
+    ghost view = { λ s. record {
+      text = s.text.items;
+      err = s.err.items;
+      status = s.status;
+    } };
 }
 
 // The response with this text and status 0: for a graph, and for a certificate that is accepted.
-fn text_response(text: Vec<u8>) -> Response
+fn text_response(alloc: Global, text: Vec<u8>) -> Response
     ensures { result ≡ text_response text.items }
 {
-    Response { text, status: DONE }
+    printed_response(alloc, text, DONE)
+}
+
+// The response with this text and this status, and nothing for standard error.
+fn printed_response(alloc: Global, text: Vec<u8>, status: u8) -> Response
+    ensures { result ≡ printed_response text.items status }
+{
+    Response {
+        text,
+        err: Vec::new(alloc),
+        status,
+    }
 }
 
 // The certificate on one line.
@@ -71,24 +91,18 @@ fn verdict_response(
 {
     match verdict {
         Verdict::Yes { certificate, .. } if only_certificate => {
-            Ok(text_response(certificate_line(alloc, certificate)?))
+            Ok(text_response(alloc, certificate_line(alloc, certificate)?))
         }
-        Verdict::Yes { .. } => Ok(text_response(render(alloc, verdict)?)),
-        Verdict::No(_) => Ok(Response {
-            text: render(alloc, verdict)?,
-            status: NO,
-        }),
+        Verdict::Yes { .. } => Ok(text_response(alloc, render(alloc, verdict)?)),
+        Verdict::No(_) => Ok(printed_response(alloc, render(alloc, verdict)?, NO)),
     }
 }
 
 // The response with a plan that shows a finding: status 1.
-fn plan_response(plan: Vec<u8>) -> Response
+fn plan_response(alloc: Global, plan: Vec<u8>) -> Response
     ensures { result ≡ plan_response plan.items }
 {
-    Response {
-        text: plan,
-        status: NO,
-    }
+    printed_response(alloc, plan, NO)
 }
 
 // The response with a verdict where a plan alone was asked for and there is none: a yes as usual,
@@ -102,19 +116,16 @@ fn response_without_plan(
 {
     match verdict {
         Verdict::Yes { .. } => verdict_response(alloc, verdict, only_certificate),
-        Verdict::No(_) => Ok(plan_response(Vec::from_slice(alloc, b"no plan\n")?)),
+        Verdict::No(_) => Ok(plan_response(alloc, Vec::from_slice(alloc, b"no plan\n")?)),
     }
 }
 
 // The response with the run of a plan: status 2 where a line was refused.
-fn run_response(run: Simulation) -> Response
+fn run_response(alloc: Global, run: Simulation) -> Response
     ensures { result ≡ run_response run }
 {
     let status = if run.refused { REFUSED } else { DONE };
-    Response {
-        text: run.text,
-        status,
-    }
+    printed_response(alloc, run.text, status)
 }
 
 // Carries out `check` without `-e`.
@@ -147,7 +158,7 @@ fn evidence_response(
     ensures { IfOk result (λ shown. shown ≡ evidence_response only_certificate evidence) }
 {
     match evidence {
-        Evidence::Plan(plan) => Ok(plan_response(plan)),
+        Evidence::Plan(plan) => Ok(plan_response(alloc, plan)),
         Evidence::NoPlan(verdict) => response_without_plan(alloc, &verdict, only_certificate),
     }
 }
@@ -184,7 +195,7 @@ fn words_response(
 {
     match found {
         InWords::Yes(verdict) => verdict_response(alloc, &verdict, only_certificate),
-        InWords::No(text) => Ok(Response { text, status: NO }),
+        InWords::No(text) => Ok(printed_response(alloc, text, NO)),
     }
 }
 
@@ -208,40 +219,80 @@ fn answer_in_words<F: Files>(
     Ok(shown)
 }
 
-// The response with the explanation of what is called so, or with status 2 where nothing is.
-fn explained_response(alloc: Global, what: &str) -> Result<Response, AllocError>
-    ensures { IfOk result (λ shown. shown ≡ explained_response what.now (explained what.now)) }
+// The response with a verdict as JSON.
+fn json_response(alloc: Global, found: InJson) -> Response
+    ensures { result ≡ json_response found }
 {
-    match explain(alloc, what)? {
-        Some(text) => Ok(text_response(text.into_bytes())),
-        None => {
-            let text = format!(in alloc;
-                "no finding and no fault is called {what}; mkcheck explain lists all of them\n"
-            )?;
-            Ok(Response {
-                text: text.into_bytes(),
-                status: REFUSED,
-            })
+    match found {
+        InJson::Yes(text) => text_response(alloc, text),
+        InJson::No(text) => printed_response(alloc, text, NO),
+    }
+}
+
+// Carries out `check --json`.
+fn answer_in_json<F: Files>(
+    alloc: Global,
+    files: &mut F,
+    request: &Request,
+) -> Result<Response, Fault>
+    ensures keeps { Keeps (F.fits files.old) (F.fits files.new) }
+    ensures answer { IfFits (F.fits files.new)
+        (λ told. AnswersInvocation told (CheckInJson request.now) result) }
+    ensures right { IfFits (F.fits files.new)
+        (λ told. IfOk result (λ shown. shown.status ≡ 0 → IsRightFor told request.now)) }
+    ensures noted { NotesFailure (F.failed files.old) (F.failed files.new) result }
+    ensures untouched { OnErr (macros_for request.now) (files.new ≡ files.old) }
+{
+    let found = check_in_json(alloc, files, request)?;
+    Ok(json_response(alloc, found))
+}
+
+// The explanation of the first of the words that has one.
+fn first_explained(alloc: Global, words: &[Name]) -> Result<Option<String>, AllocError>
+    ensures { IfOk result (λ told. option_map string_bytes told ≡ first_explained words.now) }
+{
+    for word in words {
+        if let Some(text) = explain(alloc, word.as_str())? {
+            return Ok(Some(text));
         }
+    }
+    Ok(None)
+}
+
+// The response with the explanation of the first of the words that has one, or with status 2 where
+// none has.
+fn explained_response(alloc: Global, words: &[Name]) -> Result<Response, AllocError>
+    ensures { IfOk result (λ shown. shown ≡ explained_response (first_explained words.now)) }
+{
+    match first_explained(alloc, words)? {
+        Some(text) => Ok(text_response(alloc, text.into_bytes())),
+        None => Ok(Response {
+            text: Vec::new(alloc),
+            err: Vec::from_slice(
+                alloc,
+                b"error: none of these words is explained; mkcheck explain lists those that are\n",
+            )?,
+            status: REFUSED,
+        }),
     }
 }
 
 // The response to `explain`.
-fn explain_response(alloc: Global, what: &Option<Name>) -> Result<Response, AllocError>
-    ensures { IfOk result (λ shown. shown ≡ explain_response what.now) }
+fn explain_response(alloc: Global, words: &[Name]) -> Result<Response, AllocError>
+    ensures { IfOk result (λ shown. shown ≡ explain_response words.now) }
 {
-    match what {
-        Some(what) => explained_response(alloc, what.as_str()),
-        None => Ok(text_response(overview(alloc)?.into_bytes())),
+    match words {
+        [] => Ok(text_response(alloc, overview(alloc)?.into_bytes())),
+        [_, ..] => explained_response(alloc, words),
     }
 }
 
 // Carries out `explain`. The only error is out of memory.
-fn answer_explain(alloc: Global, what: &Option<Name>) -> Result<Response, Fault>
-    ensures answer { (told : Told) → AnswersInvocation told (Explain what.now) result }
+fn answer_explain(alloc: Global, words: &Names) -> Result<Response, Fault>
+    ensures answer { (told : Told) → AnswersInvocation told (Explain words.now) result }
     ensures memory { IfErr result (λ fault. fault ≡ Memory) }
 {
-    let shown = explain_response(alloc, what)?;
+    let shown = explain_response(alloc, words.as_slice())?;
     Ok(shown)
 }
 
@@ -250,11 +301,12 @@ fn repair_response(alloc: Global, found: &Repair) -> Result<Response, AllocError
     ensures { IfOk result (λ shown. shown ≡ repair_response found.now) }
 {
     let text = repair_text(alloc, found)?;
+    let err = repair_message(alloc, found)?;
     let status = match found {
         Repair::Right | Repair::Mended(_) => DONE,
         Repair::Unmended(..) => NO,
     };
-    Ok(Response { text, status })
+    Ok(Response { text, err, status })
 }
 
 // Carries out `repair`.
@@ -293,7 +345,7 @@ pub fn answer<F: Files>(alloc: Global, files: &mut F, asked: &Invocation) -> Res
     match asked {
         Invocation::Graph(request) => {
             let text = graph_text(alloc, files, request)?;
-            Ok(text_response(text))
+            Ok(text_response(alloc, text))
         }
         Invocation::Check {
             request,
@@ -309,18 +361,19 @@ pub fn answer<F: Files>(alloc: Global, files: &mut F, asked: &Invocation) -> Res
             request,
             only_certificate,
         } => answer_in_words(alloc, files, request, *only_certificate),
+        Invocation::CheckInJson(request) => answer_in_json(alloc, files, request),
         Invocation::Repair(request) => answer_repair(alloc, files, request),
-        Invocation::Explain(what) => answer_explain(alloc, what),
+        Invocation::Explain(words) => answer_explain(alloc, words),
         Invocation::Verify {
             request,
             certificate,
         } => {
             let text = verify_text(alloc, files, request, certificate.as_str())?;
-            Ok(text_response(text))
+            Ok(text_response(alloc, text))
         }
         Invocation::Simulate { request, plan } => {
             let run = simulate_text(alloc, files, request, plan.as_str())?;
-            Ok(run_response(run))
+            Ok(run_response(alloc, run))
         }
     }
 }

@@ -3,7 +3,7 @@
 ghost use Rattle.std.specs.Prelude.{◌≡◌, ◌∷◌, [], IfOk, codes, false, fold};
 ghost use Rattle.clap.specs.Words.{app_of, new_app, rule_of, with_rule};
 ghost use Rattle.clap.specs.declared.builder.command.Command.TheViews.{out-Command as fields_of};
-ghost use Rattle.mkcheck_run.specs.CommandLine.{book_option, certificate_option, check_command, command_line, commands_option, evidence_option, explain_command, graph_command, in_words_option, makefile_option, named_program, needed_book_option, no_defaults_option, only_certificate_option, plan_option, program, repair_command, simulate_command, verify_command, what_argument, with_subcommands, words_argument};
+ghost use Rattle.mkcheck_run.specs.CommandLine.{book_option, certificate_option, check_command, command_line, commands_option, evidence_option, explain_command, graph_command, in_json_option, in_words_option, makefile_option, named_program, needed_book_option, no_defaults_option, only_certificate_option, plan_option, program, repair_command, simulate_command, verify_command, with_subcommands, words_argument};
 
 use clap::{Arg, ArgAction, Command, value_parser};
 use std::alloc::{AllocError, Global};
@@ -105,6 +105,16 @@ fn in_words_option<'a>(alloc: Global) -> Arg<'a>
         .help("Prints findings and faults in words, each at its line, with what to do")
 }
 
+fn in_json_option<'a>(alloc: Global) -> Arg<'a>
+    ensures rule { rule_of result ≡ in_json_option }
+    ensures local { result.global ≡ false }
+{
+    Arg::new(alloc, "json")
+        .long("json")
+        .action(ArgAction::Count)
+        .help("Prints the answer as one JSON value; then -c, -w and -e change nothing")
+}
+
 fn evidence_option<'a>(alloc: Global) -> Arg<'a>
     ensures rule { rule_of result ≡ evidence_option }
     ensures local { result.global ≡ false }
@@ -151,13 +161,17 @@ fn commands_option<'a>(alloc: Global) -> Arg<'a>
         .help("Prints the commands of each target behind its line, expanded")
 }
 
-fn what_argument<'a>(alloc: Global) -> Arg<'a>
-    ensures rule { rule_of result ≡ what_argument }
+fn explained_argument<'a>(alloc: Global) -> Arg<'a>
+    ensures rule { rule_of result ≡ words_argument }
     ensures local { result.global ≡ false }
 {
-    Arg::new(alloc, "what").value_name("WHAT").help(
-        "The first word of a finding, or a fault's number or name; without it all are listed",
-    )
+    Arg::new(alloc, "words")
+        .num_args(0..)
+        .value_name("WORD")
+        .help(
+            "A finding or a fault as it is printed, such as no stale a.o h.h or refused 41; \
+            without it all are listed",
+        )
 }
 
 fn words_argument<'a>(alloc: Global) -> Arg<'a>
@@ -189,7 +203,7 @@ fn named_check<'a>(alloc: Global) -> Command<'a>
 {
     Command::new(alloc, "check")
         .about("Says yes where parallel and incremental makes build right, else no and why")
-        .override_usage("mkcheck check [-f F] [-r] -b BOOK [-c] [-w] [-e N] [WORD]...")
+        .override_usage("mkcheck check [-f F] [-r] -b BOOK [-c] [-w] [-e N] [--json] [WORD]...")
         .after_help(BEHIND_CHECK)
 }
 
@@ -232,7 +246,7 @@ fn named_explain<'a>(alloc: Global) -> Command<'a>
 {
     Command::new(alloc, "explain")
         .about("Says what a finding or a fault means, when it comes and what to do")
-        .override_usage("mkcheck explain [WHAT]")
+        .override_usage("mkcheck explain [WORD]...")
         .after_help(BEHIND_EXPLAIN)
 }
 
@@ -258,17 +272,18 @@ fn graph_command<'a>(alloc: Global) -> Result<Command<'a>, AllocError>
         .arg(words_argument(alloc))
 }
 
-// Adds the options that say how a verdict is printed, `-c`, `-w` and `-e`.
+// Adds the options that say how a verdict is printed, `-c`, `-w`, `-e` and `--json`.
 fn with_showing<'a>(alloc: Global, command: Command<'a>) -> Result<Command<'a>, AllocError>
     requires { (fields_of command).has_globals ≡ false }
     ensures app { IfOk result (λ c. app_of c ≡ fold with_rule (app_of command.entry)
-        (only_certificate_option ∷ in_words_option ∷ evidence_option ∷ [])) }
+        (only_certificate_option ∷ in_words_option ∷ evidence_option ∷ in_json_option ∷ [])) }
     ensures local { IfOk result (λ c. (fields_of c).has_globals ≡ false) }
 {
     command
         .arg(only_certificate_option(alloc))?
         .arg(in_words_option(alloc))?
-        .arg(evidence_option(alloc))
+        .arg(evidence_option(alloc))?
+        .arg(in_json_option(alloc))
 }
 
 fn check_command<'a>(alloc: Global) -> Result<Command<'a>, AllocError>
@@ -312,7 +327,7 @@ fn explain_command<'a>(alloc: Global) -> Result<Command<'a>, AllocError>
     ensures app { IfOk result (λ c. app_of c ≡ explain_command) }
     ensures local { IfOk result (λ c. (fields_of c).has_globals ≡ false) }
 {
-    named_explain(alloc).arg(what_argument(alloc))
+    named_explain(alloc).arg(explained_argument(alloc))
 }
 
 fn named_program<'a>(alloc: Global) -> Command<'a>
@@ -361,10 +376,10 @@ fn with_telling<'a>(alloc: Global, command: Command<'a>) -> Result<Command<'a>, 
 }
 
 /// The command line of the program, which reads the words after the program's name: `graph [-f F]
-/// [-r] [-b BOOK] [-c] [WORD..]`, `check [-f F] [-r] -b BOOK [-c] [-w] [-e N] [WORD..]`, `repair
-/// [-f F] [-r] -b BOOK [WORD..]`, `verify [-f F] [-r] -b BOOK -k CERT [WORD..]`, `simulate [-f F]
-/// [-r] -b BOOK -p PLAN [WORD..]`, `explain [WHAT]`, `--help` and `--version`. The only error is
-/// out of memory.
+/// [-r] [-b BOOK] [-c] [WORD..]`, `check [-f F] [-r] -b BOOK [-c] [-w] [-e N] [--json] [WORD..]`,
+/// `repair [-f F] [-r] -b BOOK [WORD..]`, `verify [-f F] [-r] -b BOOK -k CERT [WORD..]`, `simulate
+/// [-f F] [-r] -b BOOK -p PLAN [WORD..]`, `explain [WORD..]`, `--help` and `--version`. The only
+/// error is out of memory.
 pub fn command_line<'a>(alloc: Global) -> Result<Command<'a>, AllocError>
     ensures app { IfOk result (λ c. app_of c ≡ command_line) }
     ensures local { IfOk result (λ c. (fields_of c).has_globals ≡ false) }

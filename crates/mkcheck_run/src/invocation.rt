@@ -3,7 +3,7 @@
 ghost use Rattle.std.specs.Prelude.{◌≡◌, [], codes, unwrap_or, IfOk};
 ghost use Rattle.clap.specs.Words.{all_of, first_of, found_of, rows_of};
 ghost use Rattle.mk_core.specs.Words.{goals_of, operands_of};
-ghost use Rattle.mkcheck_run.specs.Invocation.{checking, invocation_by, needed, number_at, requested};
+ghost use Rattle.mkcheck_run.specs.Invocation.{check_by, checking, invocation_by, needed, number_at, requested};
 
 use clap::ArgMatches;
 use mk_core::{Name, Names, Operands, Request, split_words};
@@ -30,6 +30,8 @@ pub enum Invocation {
         /// Whether a yes prints only the certificate.
         only_certificate: bool,
     },
+    /// `check --json`: prints the verdict on the build of the goals, or the fault, as JSON.
+    CheckInJson(Request),
     /// `repair`: prints the lines that mend the makefile, or why nothing does.
     Repair(Request),
     /// `verify`: says whether the certificate in this file shows that the build is right.
@@ -39,8 +41,9 @@ pub enum Invocation {
         /// The file of the certificate.
         certificate: Name,
     },
-    /// `explain`: says what a finding or a fault means; without a name it lists all.
-    Explain(Option<Name>),
+    /// `explain`: says what the first of the words that is explained means; without words it lists
+    /// all.
+    Explain(Names),
     /// `simulate`: runs the plan in this file.
     Simulate {
         /// The makefile, the goals and the footprints.
@@ -132,6 +135,21 @@ fn checking(
     }
 }
 
+// The command `check` with this request and these matches.
+fn check_by(request: Request, matches: &ArgMatches<'_>) -> Invocation
+    ensures { result ≡ check_by request (rows_of (found_of matches.now)) }
+{
+    if matches.get_count("json") > 0 {
+        return Invocation::CheckInJson(request);
+    }
+    checking(
+        request,
+        matches.get_count("in-words") > 0,
+        matches.get_count("only-certificate") > 0,
+        number_at(matches, "evidence"),
+    )
+}
+
 /// The command for the subcommand with this name and these matches. The only error is out of
 /// memory.
 pub fn invocation_by(
@@ -144,14 +162,9 @@ pub fn invocation_by(
 {
     let request = requested(alloc, matches)?;
     match name {
-        "check" => Ok(checking(
-            request,
-            matches.get_count("in-words") > 0,
-            matches.get_count("only-certificate") > 0,
-            number_at(matches, "evidence"),
-        )),
+        "check" => Ok(check_by(request, matches)),
         "repair" => Ok(Invocation::Repair(request)),
-        "explain" => Ok(Invocation::Explain(named(alloc, matches, "what")?)),
+        "explain" => Ok(Invocation::Explain(request.goals)),
         "verify" => Ok(Invocation::Verify {
             request,
             certificate: needed(alloc, matches, "certificate")?,

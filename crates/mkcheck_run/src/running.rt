@@ -38,6 +38,7 @@ fn refusal_text(alloc: Global, asked: &Invocation, fault: &Fault) -> Result<Vec<
 {
     match asked {
         Invocation::CheckInWords { .. } => fault_words(alloc, fault),
+        Invocation::CheckInJson(_) => mk_core_json::refusal_text(alloc, fault),
         _ => fault_text(alloc, fault),
     }
 }
@@ -82,7 +83,7 @@ fn refused<F: Files>(
     out.extend_from_slice(&line)?;
     Ok(Outcome {
         out,
-        err: String::new(alloc),
+        err: Vec::new(alloc),
         status: REFUSED,
     })
 }
@@ -102,7 +103,7 @@ fn shown<F: Files>(
     match answer {
         Ok(shown) => Ok(Outcome {
             out: shown.text,
-            err: String::new(alloc),
+            err: shown.err,
             status: shown.status,
         }),
         Err(fault) => refused(alloc, files, asked, &fault),
@@ -118,12 +119,12 @@ fn explained(alloc: Global, error: &Error) -> Result<Outcome, AllocError>
         ErrorKind::OutOfMemory => Err(AllocError),
         ErrorKind::DisplayHelp | ErrorKind::DisplayVersion => Ok(Outcome {
             out: error.to_string(alloc)?.into_bytes(),
-            err: String::new(alloc),
+            err: Vec::new(alloc),
             status: DONE,
         }),
         _ => Ok(Outcome {
             out: Vec::new(alloc),
-            err: error.to_string(alloc)?,
+            err: error.to_string(alloc)?.into_bytes(),
             status: FAULT,
         }),
     }

@@ -58,6 +58,18 @@ fn explains(rt: HostRuntime) -> Result<(), Fail> {
 }
 
 #[test]
+fn explains_other_words(rt: HostRuntime) -> Result<(), Fail> {
+    for what in ["yes", "way", "cycle", "tried"] {
+        let told = explain(rt.alloc(), what)?;
+        assert!(rt;
+            told.is_some_and(|told| told.as_str().starts_with(what)),
+            "of {what}"
+        );
+    }
+    Ok(())
+}
+
+#[test]
 fn names_faults(rt: HostRuntime) -> Result<(), Fail> {
     assert!(rt; fault_name(31).is_some_and(|name| name == "TwoRecipes"));
     assert!(rt; fault_name(32).is_some_and(|name| name == "IncludeMissing"));

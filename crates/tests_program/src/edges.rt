@@ -222,7 +222,7 @@ fn to_memory(alloc: Global) -> Sink<Vec<u8>> {
 fn outcome(alloc: Global, status: u8) -> Result<Outcome, AllocError> {
     Ok(Outcome {
         out: Vec::from_slice(alloc, b"out")?,
-        err: String::from_str(alloc, "err")?,
+        err: Vec::from_slice(alloc, b"err")?,
         status,
     })
 }

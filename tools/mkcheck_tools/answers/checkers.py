@@ -65,6 +65,14 @@ class Checker:
 
     def run(self, *words: str) -> Reply:
         """Runs mkcheck by these words. What is no reply to them is a fault."""
+        reply, said = self.reply_and_errors(*words)
+        if reply.status == REFUSED and not reply.output:
+            raise Fault(f"{self.program} {words[0]}: {said.split(chr(10))[0] or 'no answer'}")
+        return reply
+
+    def reply_and_errors(self, *words: str) -> tuple[Reply, str]:
+        """Runs mkcheck by these words: its reply, which is empty where it refuses them, and what it
+        said on standard error."""
         command = self.place.words([self.program, *words])
         try:
             done = subprocess.run(
@@ -90,11 +98,9 @@ class Checker:
             raise Fault(f"{self.program} {words[0]} was stopped by {name}; try it by itself")
         if done.returncode == NO_MEMORY:
             raise Fault(f"{self.program} {words[0]} ran out of memory; give it more")
-        if done.returncode == REFUSED and not done.stdout:
-            raise Fault(f"{self.program} {words[0]}: {said.split(chr(10))[0] or 'no answer'}")
         if done.returncode not in (0, NO, REFUSED):
             raise Fault(f"{self.program} isn't mkcheck: its status is {done.returncode}")
-        return Reply(done.returncode, done.stdout)
+        return Reply(done.returncode, done.stdout), said
 
     def ask(self, command: str, *more: str) -> Reply:
         """Asks a command about the build."""
@@ -107,7 +113,7 @@ class Checker:
 
     def explain(self, what: str) -> str:
         """What a finding or a fault means; nothing where mkcheck doesn't know it."""
-        reply = self.run("explain", what)
+        reply, _ = self.reply_and_errors("explain", what)
         return reply.text.rstrip("\n") if reply.status == 0 else ""
 
     def explained(self, kind: str) -> tuple[str, str]:

@@ -1,7 +1,7 @@
 use Rattle.std.proofs.Common.{◌∙◌, ℕ, List, ◌∷◌, ◌++◌, inl, refl, ap, subst}
 use Rattle.std.proofs.lemmas.Result.{IfOk-weaker, err_from_is_err_and}
 use Rattle.mk_core_repair.specs.Amending.{book_names, looked_for}
-use Rattle.mk_core_repair.specs.Outcome.{untried}
+use Rattle.mk_core_repair.specs.Outcome.{too_long}
 use Rattle.mk_core_repair.specs.Rounds.{Rounds, max_rounds}
 use Rattle.mk_core_repair.specs.Views.{end_outcome}
 use Rattle.mk_core_repair.proofs.Answered.{known_names}
@@ -31,4 +31,4 @@ returns-clause-answer g c =
     let names = known_names told request c.args.names.now known.names _ c.as_str.result.now c.in_ok-known.ensures.names c.in_ok-names.ensures (c.as_str.ensures ∙ name) in
     let others = looked_for request.makefile ++ (c.args.names.now ++ book_names request.book) in
     let base = c.in_ok-own-2.ensures told others name (c.in_ok-known.ensures.names ∙ (c.in_ok-names.ensures ∙ ap (λ (n : List ℕ). n ∷ others) c.as_str.ensures)) (c.in_ok-known.ensures.cut told fits) in
-    subst (λ (l : List (List ℕ)). Rounds max_rounds l told request first c.args.words untried (end_outcome first end)) names (h told base first)) c.rounds.ensures.answer
+    subst (λ (l : List (List ℕ)). Rounds max_rounds l told request first c.args.words too_long (end_outcome first end)) names (h told base first)) c.rounds.ensures.answer

@@ -2,7 +2,7 @@ use Rattle.std.proofs.Common.{◌-◌, List}
 use Rattle.mk_find.specs.declared.finding.Finding.{Finding}
 use Rattle.mk_read.specs.Files.{Told}
 use Rattle.mk_core_repair.specs.Known.{IsBase}
-use Rattle.mk_core_repair.specs.Outcome.{Outcome, reason_of, untried}
+use Rattle.mk_core_repair.specs.Outcome.{Outcome, reason_of, too_long}
 use Rattle.mk_core_repair.specs.Rounds.{Rounds, max_rounds}
 use Rattle.mk_core_repair.proofs.rounds.rounds.Given as goal
 
@@ -11,4 +11,4 @@ abbrev pub invariant-loop-done : goal.invariant-loop-done
 invariant-loop-done l =
     (told : Told) → IsBase told l.request l.own l.known → (first : List Finding) (outcome : Outcome)
     → Rounds (max_rounds - l._done) l.known.names told l.request first l.words (reason_of l.why) outcome
-    → Rounds max_rounds l.known.names told l.request first l.fn.words untried outcome
+    → Rounds max_rounds l.known.names told l.request first l.fn.words too_long outcome

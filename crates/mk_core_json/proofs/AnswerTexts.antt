@@ -1,0 +1,41 @@
+-- The texts of answers by their parts.
+use Rattle.std.proofs.Common.{◌≡◌, ℕ, List, ◌++◌, false, codes, refl, sym, ap, ◌∙◌, append_assoc}
+use Rattle.std.specs.Prelude.{Option, None, Some}
+use Rattle.std.specs.Fmt.{decimal, digits}
+use Rattle.serde_json.specs.Written.{compact_text, has_float}
+use Rattle.serde_json.proofs.OnLiterals.{serde_json_on_literals}
+use Rattle.mk_cert_text.specs.Certificate.{Certificate}
+use Rattle.mk_cert_text.specs.Writing.{value_of}
+use Rattle.mk_read.specs.declared.fault.Place.{Place}
+use Rattle.mk_core_sentences.specs.RefusedLine.{in_file, place_of}
+use Rattle.mk_core_text.specs.declared.fault.Fault.{Fault}
+use Rattle.mk_core_json.specs.AnswerValue.{place_value, refusal_value, yes_value}
+
+-- the answer yes
+yes_parts : (c : Certificate) (recipes reads : ℕ) → compact_text (yes_value c recipes reads)
+    ≡ codes "{\"answer\":\"yes\",\"certificate\":" ++ (compact_text (value_of c) ++ (codes ",\"format\":1,\"reads\":" ++ (decimal reads ++ (codes ",\"recipes\":" ++ (decimal recipes ++ codes "}")))))
+unfolding serde_json_on_literals digits
+yes_parts c recipes reads = refl
+
+regroup_yes : (a b c d e f g : List ℕ) → (((((a ++ b) ++ c) ++ d) ++ e) ++ f) ++ g ≡ a ++ (b ++ (c ++ (d ++ (e ++ (f ++ g)))))
+regroup_yes a b c d e f g = simp append_assoc
+
+pub yes_joined : (c : Certificate) (recipes reads : ℕ) (s t u v w x y : List ℕ) → s ≡ codes "{\"answer\":\"yes\",\"certificate\":" → t ≡ s ++ compact_text (value_of c) → u ≡ t ++ codes ",\"format\":1,\"reads\":"
+    → v ≡ u ++ decimal reads → w ≡ v ++ codes ",\"recipes\":" → x ≡ w ++ decimal recipes → y ≡ x ++ codes "}" → y ≡ compact_text (yes_value c recipes reads)
+yes_joined c recipes reads s t u v w x y e f g h i j k =
+    let begin = codes "{\"answer\":\"yes\",\"certificate\":" in
+    let written = compact_text (value_of c) in
+    let middle = codes ",\"format\":1,\"reads\":" in
+    let key = codes ",\"recipes\":" in
+    let end : List ℕ = codes "}" in
+    let so_far : y ≡ (((((begin ++ written) ++ middle) ++ decimal reads) ++ key) ++ decimal recipes) ++ end =
+    k ∙ ap (λ (l : List ℕ). l ++ end) (j ∙ ap (λ (l : List ℕ). l ++ decimal recipes) (i ∙ ap (λ (l : List ℕ). l ++ key) (h ∙ ap (λ (l : List ℕ). l ++ decimal reads) (g ∙ ap (λ (l : List ℕ). l ++ middle) (f ∙ ap (λ (l : List ℕ). l ++ written) e))))) in
+    so_far ∙ (regroup_yes begin written middle (decimal reads) key (decimal recipes) end ∙ sym (yes_parts c recipes reads))
+
+-- no refusal has a float
+pub place_has_no_float : (place : Option Place) → has_float (place_value place) ≡ false
+place_has_no_float None = refl
+place_has_no_float (Some place) = refl
+
+pub refusal_has_no_float : (fault : Fault) → has_float (refusal_value fault) ≡ false
+refusal_has_no_float fault = rw (place_has_no_float (in_file (place_of fault))) refl

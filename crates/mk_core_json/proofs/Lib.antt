@@ -1,0 +1,3 @@
+mod AnswerTexts
+mod NoTexts
+mod YesInJson

@@ -1,0 +1,45 @@
+-- The JSON values of a yes and of refusals.
+use Rattle.std.specs.Prelude.{ℕ, List, [], ◌∷◌, ◌++◌, codes, Option, None, Some}
+use Rattle.std.specs.Str.Lossy.{utf8_lossy}
+use Rattle.serde_json.specs.Data.{Data, null, number, string, unsigned}
+use Rattle.serde_json.specs.Written.{compact_text}
+use Rattle.mk_cert_text.specs.Certificate.{Certificate}
+use Rattle.mk_cert_text.specs.Writing.{value_of}
+use Rattle.mk_json.specs.Kinds.{object_of}
+use Rattle.mk_read.specs.declared.fault.Place.{Place}
+use Rattle.mk_core_text.specs.FaultText.{fault_text, fault_words}
+use Rattle.mk_core_text.specs.declared.fault.Fault.{Fault}
+use Rattle.mk_core_sentences.specs.RefusedLine.{in_file, place_of}
+use Rattle.mk_core_json.specs.FaultNames.{fault_name}
+
+-- What is printed of an answer: its value without spaces, and a newline.
+abbrev pub answer_text : Data → List ℕ
+answer_text value = compact_text value ++ 10 ∷ []
+
+-- The answer yes: the certificate, and how many recipes were judged and how many files they read.
+abbrev pub yes_value : Certificate → (recipes reads : ℕ) → Data
+yes_value certificate recipes reads =
+    object_of ((codes "answer", string (codes "yes")) ∷
+    (codes "certificate", value_of certificate) ∷
+    (codes "format", number (unsigned 1)) ∷
+    (codes "reads", number (unsigned reads)) ∷
+    (codes "recipes", number (unsigned recipes)) ∷ [])
+
+-- The line of a file, or null.
+abbrev pub place_value : Option Place → Data
+place_value None = null
+place_value (Some place) =
+    object_of ((codes "file", string place.file) ∷
+    (codes "line", number (unsigned place.line)) ∷ [])
+
+-- The answer of a refusal: the fault's name, its number, the line of a file that it names, and its
+-- text in words and with numbers, in which U+FFFD stands for bytes that aren't UTF-8.
+abbrev pub refusal_value : Fault → Data
+refusal_value fault =
+    object_of ((codes "answer", string (codes "refused")) ∷
+    (codes "format", number (unsigned 1)) ∷
+    (codes "name", string ((fault_name fault).1)) ∷
+    (codes "number", number (unsigned ((fault_name fault).0))) ∷
+    (codes "place", place_value (in_file (place_of fault))) ∷
+    (codes "sentence", string (utf8_lossy (fault_words fault))) ∷
+    (codes "text", string (utf8_lossy (fault_text fault))) ∷ [])

@@ -1,0 +1,251 @@
+//! Writes groups of findings as JSON.
+
+ghost use Rattle.std.specs.Prelude.{◌≡◌, ◌++◌, [], false, map, IfOk, OnOk};
+ghost use Rattle.std.specs.List.{flat_map};
+ghost use Rattle.std.specs.Option.{option_map};
+ghost use Rattle.std.specs.String.{string_bytes};
+ghost use Rattle.serde_json.specs.View.{items_of, view};
+ghost use Rattle.serde_json.specs.Written.{compact_text, items_text};
+ghost use Rattle.mk_cert_text.specs.Writing.{names_value};
+ghost use Rattle.mk_repair.specs.Gathering.{gathered};
+ghost use Rattle.mk_repair.specs.Lines.{line_text};
+ghost use Rattle.mk_repair.specs.Rows.{names_view};
+ghost use Rattle.mk_sentences.specs.Adding.{lines_of};
+ghost use Rattle.mk_sentences.specs.Advice.{advice};
+ghost use Rattle.mk_sentences.specs.Claims.{claim_view};
+ghost use Rattle.mk_sentences.specs.Grouping.{group_key_eq, group_of, group_pair, groups};
+ghost use Rattle.mk_sentences.specs.Places.{rule_shown};
+ghost use Rattle.mk_sentences.specs.Sentences.{sentence};
+ghost use Rattle.mk_sentences.specs.Tables.{groups_view, rows_view};
+ghost use Rattle.mk_sentences.specs.Topics.{topic_view};
+ghost use Rattle.mk_core_json.specs.AnswerValue.{place_value};
+ghost use Rattle.mk_core_json.specs.GroupValue.{added_value, files_of, group_value, targets_of, to_do_value};
+
+use crate::writing::{push_comma, push_value};
+use mk_read::Makefile;
+use mk_sentences::{
+    Claim, Groups, Kind, Places, Rows, Topic, groups_of, kind_word, push_advice, push_lines,
+    push_sentence, rows_of, shown_name,
+};
+use serde_json::{Value, json};
+use std::alloc::{AllocError, Global};
+
+/// Makes the JSON value of names.
+fn names_value(alloc: Global, names: &[&str]) -> Result<Value, AllocError>
+    ensures { IfOk result (λ value. view value ≡ names_value (names_view names.now)) }
+{
+    let mut texts = Vec::with_capacity(alloc, names.len())?;
+    for name in names {
+        texts.push(Value::try_from_str(alloc, *name)?)?;
+    }
+    Ok(Value::Array(texts))
+}
+
+/// Makes the JSON value of the targets that a group is about.
+fn targets_value(alloc: Global, topic: &Topic<'_>, who: &[&str]) -> Result<Value, AllocError>
+    ensures { IfOk result (λ value. view value ≡ names_value
+        (targets_of (topic_view topic.now).kind (topic_view topic.now).first
+        (topic_view topic.now).second (names_view who.now))) }
+{
+    match topic.kind {
+        Kind::TwoWriters => names_value(alloc, &[topic.first, topic.second]),
+        _ => names_value(alloc, who),
+    }
+}
+
+/// Makes the JSON value of the files that a group is about.
+fn files_value(
+    alloc: Global,
+    topic: &Topic<'_>,
+    who: &[&str],
+    what: &[&str],
+) -> Result<Value, AllocError>
+    ensures { IfOk result (λ value. view value ≡ names_value
+        (files_of (topic_view topic.now).kind (names_view who.now) (names_view what.now))) }
+{
+    match topic.kind {
+        Kind::TwoWriters | Kind::Loose | Kind::OwnPrerequisite => names_value(alloc, who),
+        Kind::NoRecord | Kind::OtherCommands | Kind::VaryingCommands | Kind::NoTarget => {
+            names_value(alloc, &[])
+        }
+        _ => names_value(alloc, what),
+    }
+}
+
+/// Makes the JSON value of the lines that mend a group.
+fn added_value(
+    alloc: Global,
+    topic: &Topic<'_>,
+    who: &[&str],
+    what: &[&str],
+) -> Result<Value, AllocError>
+    ensures { IfOk result (λ value. view value ≡ added_value (record {
+      topic = topic_view topic.now;
+      what = names_view what.now;
+      who = names_view who.now;
+    })) }
+{
+    if !topic.has_line {
+        return Ok(Value::Null);
+    }
+    let mut text = String::new(alloc);
+    push_lines(alloc, &mut text, topic, who, what)?;
+    Ok(Value::String(text))
+}
+
+/// Makes the JSON value of what to do about a group that no line mends.
+fn to_do_value(
+    alloc: Global,
+    topic: &Topic<'_>,
+    who: &[&str],
+    what: &[&str],
+) -> Result<Value, AllocError>
+    ensures { IfOk result (λ value. view value ≡ to_do_value (record {
+      topic = topic_view topic.now;
+      what = names_view what.now;
+      who = names_view who.now;
+    })) }
+{
+    if topic.has_line {
+        return Ok(Value::Null);
+    }
+    let mut text = String::new(alloc);
+    push_advice(alloc, &mut text, topic, who, what)?;
+    Ok(Value::String(text))
+}
+
+/// Makes the JSON value of the rule line at which a name is shown.
+fn shown_value(alloc: Global, places: &Places<'_>, name: &str) -> Result<Value, AllocError>
+    ensures { IfOk result (λ value. view value ≡ place_value
+        (option_map (λ rule. rule.place) (rule_shown places.now name.now))) }
+{
+    let Some(rule) = places.rule(name) else {
+        return Ok(Value::Null);
+    };
+    let file = rule.place.file.as_str();
+    let line = rule.place.line;
+    json!(in alloc; {
+        "file": file,
+        "line": line
+    })
+}
+
+/// The sentence of a group.
+fn sentence_of(
+    alloc: Global,
+    topic: &Topic<'_>,
+    who: &[&str],
+    what: &[&str],
+) -> Result<String, AllocError>
+    ensures { IfOk result (λ text. string_bytes text ≡
+        sentence (topic_view topic.now) (names_view who.now) (names_view what.now)) }
+{
+    let mut text = String::new(alloc);
+    push_sentence(alloc, &mut text, topic, who, what)?;
+    Ok(text)
+}
+
+/// Makes the JSON value of a group.
+fn group_value(
+    alloc: Global,
+    places: &Places<'_>,
+    topic: &Topic<'_>,
+    who: &[&str],
+    what: &[&str],
+) -> Result<Value, AllocError>
+    ensures { IfOk result (λ value. view value ≡ group_value places.now (record {
+      topic = topic_view topic.now;
+      what = names_view what.now;
+      who = names_view who.now;
+    })) }
+{
+    let added = added_value(alloc, topic, who, what)?;
+    let to_do = to_do_value(alloc, topic, who, what)?;
+    let files = files_value(alloc, topic, who, what)?;
+    let place = shown_value(alloc, places, shown_name(topic, who))?;
+    let sentence = sentence_of(alloc, topic, who, what)?;
+    let targets = targets_value(alloc, topic, who)?;
+    json!(in alloc; {
+        "add": added,
+        "do": to_do,
+        "files": files,
+        "kind": kind_word(topic.kind),
+        "place": place,
+        "sentence": sentence.as_str(),
+        "targets": targets
+    })
+}
+
+/// Appends the text of a group.
+fn push_group(
+    alloc: Global,
+    out: &mut String,
+    places: &Places<'_>,
+    topic: &Topic<'_>,
+    who: &[&str],
+    what: &[&str],
+) -> Result<(), AllocError>
+    ensures { OnOk result (string_bytes out.new ≡ string_bytes out.old ++ compact_text
+        (group_value places.now (record {
+          topic = topic_view topic.now;
+          what = names_view what.now;
+          who = names_view who.now;
+        }))) }
+{
+    let value = group_value(alloc, places, topic, who, what)?;
+    push_value(alloc, out, &value)
+}
+
+/// Appends the text of each group, separated by commas, and the closing bracket.
+fn push_groups(
+    alloc: Global,
+    out: &mut String,
+    places: &Places<'_>,
+    groups: &Groups<'_>,
+) -> Result<(), AllocError>
+    ensures { OnOk result (string_bytes out.new ≡ string_bytes out.old ++ items_text false
+        (items_of (map (group_value places.now)
+        (map group_of (groups_view groups.now.entries))))) }
+{
+    let mut later = false;
+    for place in 0..groups.len() {
+        let Some((key, who)) = groups.get_index(place) else {
+            continue;
+        };
+        push_comma(out, later)?;
+        push_group(alloc, out, places, &key.topic, who, key.what)?;
+        later = true;
+    }
+    out.push_str("]")
+}
+
+/// Appends the text of the groups of rows.
+fn push_rows(
+    alloc: Global,
+    out: &mut String,
+    makefile: &Makefile,
+    rows: &Rows<'_>,
+) -> Result<(), AllocError>
+    ensures { OnOk result (string_bytes out.new ≡ string_bytes out.old ++ items_text false
+        (items_of (map (group_value makefile.now) (map group_of
+        (gathered group_key_eq (map group_pair (rows_view rows.now.entries))))))) }
+{
+    let groups = groups_of(alloc, rows)?;
+    let places = Places::new(alloc, makefile)?;
+    push_groups(alloc, out, &places, &groups)
+}
+
+/// Appends the texts of the groups of claims, separated by commas, and the closing bracket. The
+/// only error is out of memory.
+pub fn push_claims(
+    alloc: Global,
+    out: &mut String,
+    makefile: &Makefile,
+    claims: &[Claim<'_>],
+) -> Result<(), AllocError>
+    ensures { OnOk result (string_bytes out.new ≡ string_bytes out.old ++ items_text false
+        (items_of (map (group_value makefile.now) (groups (map claim_view claims.now))))) }
+{
+    let rows = rows_of(alloc, claims)?;
+    push_rows(alloc, out, makefile, &rows)
+}

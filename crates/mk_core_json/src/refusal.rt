@@ -1,0 +1,80 @@
+//! Writes refusals as JSON.
+
+ghost use Rattle.std.specs.Prelude.{◌≡◌, ◌∷◌, ◌++◌, [], false, IfOk};
+ghost use Rattle.std.specs.String.{string_bytes};
+ghost use Rattle.std.specs.Str.Lossy.{utf8_lossy};
+ghost use Rattle.serde_json.specs.View.{view};
+ghost use Rattle.serde_json.specs.Written.{compact_text};
+ghost use Rattle.mk_core_text.specs.FaultText.{fault_text, fault_words};
+ghost use Rattle.mk_core_sentences.specs.RefusedLine.{in_file, place_of};
+ghost use Rattle.mk_core_json.specs.AnswerValue.{place_value, refusal_value};
+
+use crate::fault_name::fault_name;
+use crate::writing::push_value;
+use mk_core::{Fault, fault_text};
+use mk_core_sentences::line_in_file;
+use mk_core_text::fault_words;
+use serde_json::{Value, json};
+use std::alloc::{AllocError, Global};
+
+/// Makes the JSON value of the line of a file that the fault names.
+fn place_value(alloc: Global, fault: &Fault) -> Result<Value, AllocError>
+    ensures { IfOk result (λ value. view value ≡ place_value (in_file (place_of fault.now))) }
+{
+    match line_in_file(fault) {
+        Some(place) => {
+            let file = place.file.as_str();
+            let line = place.line;
+            json!(in alloc; {
+                "file": file,
+                "line": line
+            })
+        }
+        None => Ok(Value::Null),
+    }
+}
+
+/// The text of a fault in words; U+FFFD stands for bytes that aren't UTF-8.
+fn sentence_of(alloc: Global, fault: &Fault) -> Result<String, AllocError>
+    ensures { IfOk result (λ text. string_bytes text ≡ utf8_lossy (fault_words fault.now)) }
+{
+    let bytes = fault_words(alloc, fault)?;
+    String::from_utf8_lossy(alloc, &bytes)
+}
+
+/// The text of a fault with numbers; U+FFFD stands for bytes that aren't UTF-8.
+fn text_of(alloc: Global, fault: &Fault) -> Result<String, AllocError>
+    ensures { IfOk result (λ text. string_bytes text ≡ utf8_lossy (fault_text fault.now)) }
+{
+    let bytes = fault_text(alloc, fault)?;
+    String::from_utf8_lossy(alloc, &bytes)
+}
+
+/// Makes the JSON value of a refusal.
+fn refusal_value(alloc: Global, fault: &Fault) -> Result<Value, AllocError>
+    ensures { IfOk result (λ value. view value ≡ refusal_value fault.now) }
+{
+    let (number, name) = fault_name(fault);
+    let place = place_value(alloc, fault)?;
+    let sentence = sentence_of(alloc, fault)?;
+    let text = text_of(alloc, fault)?;
+    json!(in alloc; {
+        "answer": "refused",
+        "format": 1u32,
+        "name": name,
+        "number": number,
+        "place": place,
+        "sentence": sentence.as_str(),
+        "text": text.as_str()
+    })
+}
+
+/// What is printed for a refusal by this fault, without a newline. The only error is out of memory.
+pub fn refusal_text(alloc: Global, fault: &Fault) -> Result<Vec<u8>, AllocError>
+    ensures { IfOk result (λ text. text.items ≡ compact_text (refusal_value fault.now)) }
+{
+    let value = refusal_value(alloc, fault)?;
+    let mut text = String::new(alloc);
+    push_value(alloc, &mut text, &value)?;
+    Ok(text.into_bytes())
+}

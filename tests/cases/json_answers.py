@@ -1,0 +1,144 @@
+"""What is wrong about `check --json`: its answer must have the form of docs/answer.schema.json, and
+say what `check`, `check -c` and `check -w` say of the same files."""
+
+from __future__ import annotations
+
+import json
+import re
+from collections.abc import Iterator, Sequence
+from functools import cache
+from pathlib import Path
+from typing import Any, Protocol
+
+import jsonschema
+from case_file import Answer
+
+FLAGS = re.compile("-[crw]+")
+EVIDENCE = re.compile(r"-e\+?\d+")
+SEEN = "once these are mended, as far as can be seen now:"
+UNSEEN = "once these are mended, check again: races and stale reads may show"
+LEFT_OUT = re.compile(r"  (?:targets|files): ")
+SCHEMA = Path(__file__).resolve().parents[2] / "docs" / "answer.schema.json"
+
+
+class Asks(Protocol):
+    """Asks the program in the folder of a case."""
+
+    def __call__(self, words: Sequence[str]) -> Answer:
+        """The answer to these words."""
+
+
+@cache
+def form() -> Any:
+    """What tests a value against the schema of answers."""
+    return jsonschema.Draft7Validator(json.loads(SCHEMA.read_text()))
+
+
+def shown_otherwise(words: Sequence[str]) -> list[str]:
+    """The words of a command `check` without the options that say how the answer is shown."""
+    kept: list[str] = []
+    rest = iter(words[1:])
+    for word in rest:
+        if word == "-e":
+            next(rest, None)
+        elif FLAGS.fullmatch(word):
+            kept += ["-r"] * word.count("r")
+        elif word != "--json" and not EVIDENCE.fullmatch(word):
+            kept.append(word)
+    return kept
+
+
+def is_answer(answer: Answer) -> bool:
+    """Whether this is an answer, and no error of the command line or out of memory."""
+    return answer.status in (0, 1, 2) and not answer.errors
+
+
+def decoded(text: bytes) -> str:
+    """The text, with U+FFFD in place of bytes that are no UTF-8."""
+    return text.decode(errors="replace")
+
+
+def said_of_yes(value: dict[str, Any], plain: Answer, ask: Asks, rest: list[str]) -> list[str]:
+    """What is wrong about the answer yes."""
+    counts = plain.output.splitlines()[0].split()
+    written = json.loads(ask(["check", "-c", *rest]).output)
+    wanted = {"recipes": int(counts[1]), "reads": int(counts[3]), "certificate": written}
+    return [f"its {key} differ" for key, known in wanted.items() if value[key] != known]
+
+
+def group_lines(group: dict[str, Any], makefile: str) -> list[str]:
+    """A group as `check -w` prints it, without the names that its sentence leaves out."""
+    place = group["place"]
+    head = f"{place['file']}:{place['line']}" if place else makefile
+    done = [f"  do: {group['do']}"] if group["do"] else []
+    added = [f"  add: {line}" for line in (group["add"] or "").splitlines()]
+    return [f"{head}: {group['sentence']} [{group['kind']}]", *added, *done]
+
+
+def groups_lines(value: dict[str, Any], makefile: str) -> list[str]:
+    """The groups of a no as `check -w` prints them."""
+    lines = [line for group in value["groups"] for line in group_lines(group, makefile)]
+    if all(group["kind"] in ("race", "stale") for group in value["groups"]):
+        return lines
+    later = [line for group in value["later"] for line in group_lines(group, makefile)]
+    return [*lines, SEEN if later else UNSEEN, *later]
+
+
+def said_of_no(value: dict[str, Any], plain: Answer, told: Answer, rest: list[str]) -> list[str]:
+    """What is wrong about the answer no, by what `check` and `check -w` print."""
+    wanted = [
+        {"number": number, "text": line}
+        for number, line in enumerate(plain.output.decode().splitlines(), 1)
+    ]
+    makefile = rest[rest.index("-f") + 1] if "-f" in rest else "makefile"
+    lines = [line for line in told.output.decode().splitlines() if not LEFT_OUT.match(line)]
+    wrong = [] if value["findings"] == wanted else ["its findings are others"]
+    return wrong + ([] if groups_lines(value, makefile) == lines else ["its groups are others"])
+
+
+def said_of_refusal(value: dict[str, Any], plain: Answer, told: Answer) -> Iterator[str]:
+    """What is wrong about a refusal, by what `check` and `check -w` print."""
+    text = decoded(plain.output).removesuffix("\n")
+    sentence = decoded(told.output).split("\n", maxsplit=1)[0]
+    if value["text"] != text or value["number"] != int(text.split()[1]):
+        yield "its text or number is another"
+    if value["sentence"] != sentence or f"{value['name']} ({value['number']})" not in sentence:
+        yield "its sentence or name is another"
+    place = value["place"]
+    shown = place and f"{place['file']}:{place['line']}"
+    if shown and (text.split()[2] != shown or not sentence.startswith(f"{shown}: ")):
+        yield "its place is another"
+    if not place and told.output.count(b"\n") > 1:
+        yield "it has no place"
+
+
+def said_of(value: dict[str, Any], plain: Answer, ask: Asks, rest: list[str]) -> list[str]:
+    """What is wrong about a value that has the form of answers."""
+    if value["answer"] != {0: "yes", 1: "no", 2: "refused"}[plain.status]:
+        return ["it is another answer"]
+    if plain.status == 0:
+        return said_of_yes(value, plain, ask, rest)
+    if plain.status == 1:
+        return said_of_no(value, plain, ask(["check", "-w", *rest]), rest)
+    return list(said_of_refusal(value, plain, ask(["check", "-w", *rest])))
+
+
+def misspoken(ask: Asks, words: Sequence[str]) -> Iterator[str]:
+    """What is wrong about the answer as JSON to a command `check`."""
+    rest = shown_otherwise(words)
+    plain = ask(["check", *rest])
+    given = ask(["check", "--json", *rest])
+    if not is_answer(plain):
+        if given != plain:
+            yield "`--json` has other errors"
+        return
+    if given.status != plain.status or given.errors:
+        yield f"`--json` ends with status {given.status}"
+    text = given.output.decode()
+    if not text.endswith("\n") or text.count("\n") != 1:
+        yield "`--json` doesn't print one line"
+    value = json.loads(text)
+    wrong = [error.message for error in form().iter_errors(value)]
+    yield from (f"`--json` prints {text}{said}" for said in wrong)
+    if not wrong:
+        yield from (f"`--json` prints {text}{said}" for said in said_of(value, plain, ask, rest))

@@ -1,0 +1,112 @@
+"""`check --json`: the answer as a JSON value."""
+
+from __future__ import annotations
+
+import json
+
+from judge import Finding, Subject
+from lines import Refused
+from reading import Makefile
+from sentences import (
+    PSEUDO,
+    Group,
+    advice,
+    grouped,
+    in_words,
+    lines,
+    name_of,
+    place_of,
+    seen_later,
+    sentence,
+)
+
+# An object of JSON.
+Value = dict[str, object]
+
+
+def shown(value: Value) -> bytes:
+    """The text of a value, without spaces, with its keys in order, and a newline."""
+    text = json.dumps(value, ensure_ascii=False, separators=(",", ":"), sort_keys=True)
+    return text.encode("utf-8") + b"\n"
+
+
+def decoded(text: bytes) -> str:
+    """A text, with U+FFFD in place of what isn't UTF-8."""
+    return text.decode("utf-8", "replace")
+
+
+def rule_value(makefile: Makefile, name: bytes) -> Value | None:
+    """The rule line at which a name is shown, if there is one."""
+    file, _, line = place_of(makefile, name).rpartition(b":")
+    return {"file": file.decode("utf-8"), "line": int(line)} if file else None
+
+
+def group_value(makefile: Makefile, group: Group) -> Value:
+    """The value of a group of findings."""
+    writers = group.kind == b"writers"
+    targets = [group.first, group.second] if writers else group.names
+    named = writers or group.kind == b"loose"
+    files = group.names if named else [name for name in group.files if name]
+    added = b"".join(lines(group)) if group.has_lines else None
+    done = None if group.has_lines else advice(group)
+    return {
+        "add": added and added.decode("utf-8"),
+        "do": done and done.decode("utf-8"),
+        "files": [name.decode("utf-8") for name in files],
+        "kind": group.kind.decode("utf-8"),
+        "place": rule_value(makefile, group.first if writers else group.names[0]),
+        "sentence": sentence(group).decode("utf-8"),
+        "targets": [name.decode("utf-8") for name in targets],
+    }
+
+
+def groups_value(subject: Subject, findings: list[Finding]) -> list[Value]:
+    """The values of the groups of findings."""
+    makefile = subject.rules.makefile
+    return [group_value(makefile, group) for group in grouped(subject, findings)]
+
+
+def verdict_value(subject: Subject) -> Value:
+    """The value of a yes or a no."""
+    found = subject.findings()
+    if found:
+        texts = [b" ".join([b"no", *words]).decode("utf-8") for words in found]
+        findings = [{"number": at, "text": text} for at, text in enumerate(texts, 1)]
+        return {
+            "answer": "no",
+            "findings": findings,
+            "format": 1,
+            "groups": groups_value(subject, found),
+            "later": groups_value(subject, seen_later(subject, found)),
+        }
+    recipes, reads = subject.counts().split()[1::2]
+    return {
+        "answer": "yes",
+        "certificate": json.loads(subject.certificate()),
+        "format": 1,
+        "reads": int(reads),
+        "recipes": int(recipes),
+    }
+
+
+def place_of_fault(fault: Refused) -> Value | None:
+    """The line of a file that has the fault, if there is one."""
+    if fault.where is None:
+        return None
+    file, _, line = fault.where.rpartition(b":")
+    if file in PSEUDO:
+        return None
+    return {"file": file.decode("utf-8"), "line": int(line)}
+
+
+def refusal_value(fault: Refused) -> Value:
+    """The value of a refusal."""
+    return {
+        "answer": "refused",
+        "format": 1,
+        "name": name_of(fault).decode("utf-8"),
+        "number": fault.number,
+        "place": place_of_fault(fault),
+        "sentence": decoded(in_words(fault)),
+        "text": decoded(fault.line()),
+    }
