@@ -12,6 +12,7 @@ import signal
 import subprocess
 import sys
 import time
+import unittest
 
 from importer.make_folder import ENVIRONMENT, IMPORTER, Answer, MakeFolderTest, can_judge
 
@@ -255,6 +256,48 @@ class BuiltFolderTest(SecondImportTestCase):
         self.assertEqual(self.taken(), "2 of 3")
         self.make(self.folder)
         self.assertEqual(self.taken(), "0 of 3")
+
+
+@can_judge
+@unittest.skipUnless(shutil.which("ninja"), "no ninja")
+class NinjaTest(SecondImportTestCase):
+    """A build of ninja."""
+
+    MANIFEST = """rule gen
+  command = cat `cat $in` > $out && echo $out: `cat $in` > $out.d
+  depfile = $out.d
+  deps = gcc
+rule cat
+  command = cat $in > $out
+build a.o: gen a.c
+build b.o: cat b.c
+build prog: cat a.o b.o
+"""
+
+    def setUp(self) -> None:
+        super().setUp()
+        (self.folder / "Makefile").unlink()
+        self.write({"build.ninja": self.MANIFEST, "a.c": "h.h\n"})
+
+    def test_an_edit_and_a_dependency_file_that_changes(self) -> None:
+        self.assertEqual(self.first().status, 0)
+        self.assertEqual(self.taken(), "0 of 3")
+        self.write({"b.c": "other\n", "h.h": "other\n"})
+        self.assertEqual(self.taken(), "3 of 3")
+        self.write({"a.c": "other.h\n"})
+        self.anew("dependency files")
+
+    def test_another_manifest(self) -> None:
+        self.first()
+        self.write({"build.ninja": self.MANIFEST.replace("b.o: cat b.c", "b.o: cat b.c h.h")})
+        self.assertEqual(self.anew("build.ninja has changed, which the tool reads"), "2 of 3")
+
+    def test_an_edit_beside_restat(self) -> None:
+        manifest = self.MANIFEST.replace("rule cat\n", "rule cat\n  restat = 1\n")
+        self.write({"build.ninja": manifest})
+        self.first()
+        self.write({"b.c": "other\n"})
+        self.anew("a build line has `restat`")
 
 
 @can_judge

@@ -7,7 +7,8 @@ import os
 import re
 import unittest
 
-from mkcheck_tools.book.note_files import path_of_notes, read_notes
+from mkcheck_tools.book.note_files import read_notes
+from mkcheck_tools.book.paths import path_of_notes
 from mkcheck_tools.judge.notes import QUIET, Kind
 from mkcheck_tools.run import places
 from recorder.project import ROOT, ProjectTest, traced

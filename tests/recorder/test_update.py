@@ -539,6 +539,94 @@ class StateTest(UpdateTest):
 
 
 @traced
+class StampsTest(UpdateTest):
+    """Updates without a change, which look at stamps alone."""
+
+    def setUp(self) -> None:
+        super().setUp()
+        self.write({"makefile": "b: a\n\tcp a b; ls none* > l || true\na: s\n\tcp s a\n"})
+        self.write({"s": "1\n", "d/keep": ""})
+        self.state = Path(f"{self.updated}.state")
+        self.stamps = Path(f"{self.updated}.stamps")
+        self.assertEqual(self.count(self.update()), 2)
+        # Until then stamps of what was changed just now aren't relied on.
+        time.sleep(3)
+        self.assertEqual(self.count(self.update()), 0)
+
+    def looked_only(self, *words: str, environment: dict[str, str] | None = None) -> Outcome | None:
+        """An update that records nothing; what it gave, if it wrote no state."""
+        before = self.state.stat()
+        outcome = self.update(*words, environment=environment)
+        self.assertEqual(self.count(outcome), 0)
+        return outcome if self.state.stat().st_ino == before.st_ino else None
+
+    def test_nothing_is_written(self) -> None:
+        first = self.looked_only()
+        self.assertIsNotNone(first)
+        self.write({"s": "2\n"})
+        self.assertEqual(self.count(self.update()), 2)
+        self.assertIsNotNone(self.looked_only())
+
+    def test_a_file_of_the_same_size_and_time(self) -> None:
+        path = self.folder / "s"
+        status = path.stat()
+        self.write({"s": "2\n"})
+        os.utime(path, ns=(status.st_atime_ns, status.st_mtime_ns))
+        self.assertEqual(path.stat().st_mtime_ns, status.st_mtime_ns)
+        self.assertEqual(self.count(self.update()), 2)
+        self.assert_as_full()
+
+    def test_a_file_that_is_replaced(self) -> None:
+        other = self.scratch / "other"
+        other.write_text("2\n")
+        shutil.copystat(self.folder / "s", other)
+        other.replace(self.folder / "s")
+        self.assertEqual(self.count(self.update()), 2)
+
+    def test_what_is_the_same_under_another_stamp(self) -> None:
+        (self.folder / "s").touch()
+        self.assertIsNotNone(self.looked_only())
+
+    def test_other_names(self) -> None:
+        (self.folder / "d" / "new").touch()
+        self.assertIsNone(self.looked_only())
+        self.assertIsNotNone(self.looked_only())
+        (self.folder / "none1").touch()
+        self.assertEqual(self.count(self.update()), 1)
+
+    def test_other_words_and_variables(self) -> None:
+        self.assertIsNone(self.looked_only("a"))
+        self.assertEqual(self.update("a", environment={"OTHER": "1"}).status, 0)
+        self.assertIsNotNone(self.looked_only("a", environment={"OTHER": "1", "TERM": "other"}))
+        self.write({"makefile": "b: a\n\tcp a b\na: s\n\tcp s a # $(TERM)\n"})
+        self.update("b", environment={"TERM": "one"})
+        self.assertIsNotNone(self.looked_only("b", environment={"TERM": "one"}))
+        self.assertIsNone(self.looked_only("b", environment={"TERM": "other"}))
+
+    def test_texts_that_macros_name(self) -> None:
+        self.write({"makefile": "I = more\ninclude $(I)\nb: s\n\tcp s b\n", "more": "A = 1\n"})
+        self.update()
+        self.assertIsNone(self.looked_only())
+
+    def test_files_beside_the_footprints(self) -> None:
+        for path in (self.updated, Path(f"{self.updated}.notes"), self.stamps):
+            text = path.read_text()
+            path.write_text(text[:-1] + " \n")
+            self.assertIsNone(self.looked_only(), path)
+        self.stamps.unlink()
+        self.assertIsNone(self.looked_only())
+        self.assertIsNotNone(self.looked_only())
+
+    def test_warnings_come_again(self) -> None:
+        self.write({"makefile": "all: a b\na:\n\techo > x; echo > a\nb: a\n\trm x; echo > b\n"})
+        first = self.update("all")
+        second = self.looked_only("all")
+        assert second is not None
+        self.assertEqual(len(second.warnings()), 2)
+        self.assertEqual(second.warnings(), first.warnings())
+
+
+@traced
 class ReplayedTest(UpdateTest):
     """Updates with a replay."""
 

@@ -6,8 +6,9 @@ import json
 from pathlib import Path
 
 from mkcheck_tools.book.choices import Choice
-from mkcheck_tools.book.note_files import digest_of, path_of_notes, read_notes
-from mkcheck_tools.book.states import choice_of, path_of_state, read_choice, texts
+from mkcheck_tools.book.note_files import digest_of, read_notes
+from mkcheck_tools.book.paths import path_of_notes, path_of_state
+from mkcheck_tools.book.states import choice_of, read_choice, texts
 from mkcheck_tools.faults import Fault
 from mkcheck_tools.judge.notes import Kind
 from mkcheck_tools.run.folders import SYSTEM

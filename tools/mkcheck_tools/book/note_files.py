@@ -9,15 +9,11 @@ from dataclasses import asdict, dataclass
 from pathlib import Path
 
 from mkcheck_tools.book.choices import Choice
+from mkcheck_tools.book.paths import path_of_notes
 from mkcheck_tools.faults import Fault
 from mkcheck_tools.judge.notes import KINDS, Note
 
 FORMAT = 1
-
-
-def path_of_notes(book: str) -> str:
-    """Where the notes of footprints lie."""
-    return book + ".notes"
 
 
 def digest_of(book: bytes) -> str:

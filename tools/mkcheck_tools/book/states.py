@@ -83,16 +83,6 @@ class State:
         return {version.content for version in left if version is not None and version.kind == FILE}
 
 
-def path_of_state(book: str) -> str:
-    """Where the state of footprints lies."""
-    return book + ".state"
-
-
-def path_of_store(book: str) -> str:
-    """Where the files lie that recipes left."""
-    return book + ".state.d"
-
-
 def digest_of(text: str) -> str:
     """A digest of a text."""
     return hashlib.sha256(text.encode("utf-8", "surrogateescape")).hexdigest()

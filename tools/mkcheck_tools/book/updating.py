@@ -21,6 +21,8 @@ from importlib.resources import files
 from mkcheck_tools.answers.graphs import Recipe
 from mkcheck_tools.book import states
 from mkcheck_tools.book.choices import Choice
+from mkcheck_tools.book.paths import path_of_stamps, path_of_state, path_of_store
+from mkcheck_tools.book.premises import OF_SESSION
 from mkcheck_tools.book.states import Entry, State, Unusable
 from mkcheck_tools.faults import Fault
 from mkcheck_tools.judge.footprints import Footprint
@@ -34,14 +36,6 @@ from mkcheck_tools.run.places import Place
 from mkcheck_tools.trace import tracing
 from mkcheck_tools.trace.trees import Tree
 
-# Variables that tell of the terminal and the session, and nothing of the build.
-OF_SESSION = frozenset(
-    "_ OLDPWD PWD SHLVL TERM COLUMNS LINES WINDOWID DISPLAY WAYLAND_DISPLAY XAUTHORITY"
-    " SESSION_MANAGER COLORTERM TMUX TMUX_PANE STY WINDOW SSH_CLIENT SSH_CONNECTION SSH_TTY"
-    " SSH_AUTH_SOCK SSH_AGENT_PID GPG_AGENT_INFO LS_COLORS DBUS_SESSION_BUS_ADDRESS XDG_SESSION_ID"
-    " XDG_RUNTIME_DIR XDG_VTNR XDG_SEAT INVOCATION_ID JOURNAL_STREAM VTE_VERSION TERM_PROGRAM"
-    " TERM_PROGRAM_VERSION TERM_SESSION_ID MKCHECK".split()
-)
 SHOWN_AT_MOST = 3
 # Said of a footprint file that an update makes.
 FIRST_TIME = "isn't there yet: all recipes are recorded"
@@ -100,6 +94,8 @@ class Updating:
     refused: set[str] = field(default_factory=set)
     orders: Mapping[str, str] = field(default_factory=dict)
     warn: Warn = ignore
+    saved: State | None = None
+    """The state that is written."""
 
     def begin(self, world: World) -> None:
         """The copy is there now, for the first time or anew."""
@@ -112,7 +108,7 @@ class Updating:
 
     def store(self) -> Store:
         """What keeps the files that recipes left, beside the footprints."""
-        folder = states.path_of_store(self.book)
+        folder = path_of_store(self.book)
         try:
             if not os.path.isdir(folder):
                 os.mkdir(folder)
@@ -242,7 +238,8 @@ class Updating:
                 entry = self.entry_of(footprint, trials[target], [])
                 entries[target] = entry.unreplayed(trials[target])
         state = State(self.conditions.salted(secrets.token_hex(16)), self.choice, entries)
-        write_text(states.text_of(state), states.path_of_state(self.book))
+        write_text(states.text_of(state), path_of_state(self.book))
+        self.saved = state
         self.drop(state.digests())
 
     def entry_of(self, footprint: Footprint, trial: Trial, replayed: list[Note]) -> Entry:
@@ -253,7 +250,7 @@ class Updating:
 
     def drop(self, digests: Container[str]) -> None:
         """Removes what was kept and isn't needed any more."""
-        folder = states.path_of_store(self.book)
+        folder = path_of_store(self.book)
         with os.scandir(folder) as kept:
             for entry in kept:
                 if entry.name not in digests and states.DIGEST.match(entry.name):
@@ -263,7 +260,9 @@ class Updating:
         """Removes the state, which nothing asked for and nothing needs."""
         self.drop(frozenset())
         with contextlib.suppress(OSError):
-            os.rmdir(states.path_of_store(self.book))
+            os.unlink(path_of_stamps(self.book))
+        with contextlib.suppress(OSError):
+            os.rmdir(path_of_store(self.book))
 
 
 def drop_damaged(folder: str) -> None:
@@ -301,7 +300,7 @@ def version_of_strace() -> str:
 
 def believed(book: str, conditions: Conditions) -> State:
     """The state of footprints, where it can be believed. Raises Unusable."""
-    state = states.read(states.path_of_state(book))
+    state = states.read(path_of_state(book))
     then, now = state.conditions, conditions.salted(state.conditions.get("salt", ""))
     others = [name for name in sorted({*then, *now}) if then.get(name) != now.get(name)]
     if others:
@@ -310,7 +309,7 @@ def believed(book: str, conditions: Conditions) -> State:
             f"was written under other conditions ({', '.join(others[:SHOWN_AT_MOST])}{more})"
         )
     for digest in sorted(state.digests()):
-        path = RealPath(os.path.join(states.path_of_store(book), digest))
+        path = RealPath(os.path.join(path_of_store(book), digest))
         if not os.path.isfile(path) or digest_of(path) != digest:
             raise Unusable("misses a file that a recipe left")
     return state

@@ -10,8 +10,8 @@ from collections.abc import Callable, Iterable
 from pathlib import Path
 from typing import TypeVar
 
-from mkcheck_tools.book.note_files import path_of_notes
-from mkcheck_tools.book.states import DIGEST, path_of_state, path_of_store
+from mkcheck_tools.book.paths import path_of_notes, path_of_state, path_of_store
+from mkcheck_tools.book.states import DIGEST
 from mkcheck_tools.imports.judging import FIRST, write
 from mkcheck_tools.imports.kept import Kept, read_kept, text_of
 from mkcheck_tools.imports.request import Request

@@ -15,7 +15,8 @@ from mkcheck_tools.answers.graphs import read_graph
 from mkcheck_tools.answers.refusals import CYCLE, NO_RULE, numbered
 from mkcheck_tools.book.footprint_files import Footprints, Record, read_footprints
 from mkcheck_tools.book.formats import first
-from mkcheck_tools.book.note_files import Noted, path_of_notes, read_notes, text_of_notes
+from mkcheck_tools.book.note_files import Noted, read_notes, text_of_notes
+from mkcheck_tools.book.paths import path_of_notes
 from mkcheck_tools.book.states import State
 from mkcheck_tools.book.updating import FIRST_TIME
 from mkcheck_tools.faults import Fault

@@ -18,8 +18,8 @@ from typing import Generic
 
 from mkcheck_tools.answers.checkers import find_checker
 from mkcheck_tools.book.footprint_files import Footprints
-from mkcheck_tools.book.note_files import path_of_notes
-from mkcheck_tools.book.states import State, Unusable, path_of_state
+from mkcheck_tools.book.paths import path_of_notes, path_of_state
+from mkcheck_tools.book.states import State, Unusable
 from mkcheck_tools.book.states import read as read_state
 from mkcheck_tools.book.states import read_choice
 from mkcheck_tools.book.updating import Conditions

@@ -23,23 +23,11 @@ def warn_of_left_over(
     files, only those do that end like what recipes write there. Where there is no git, only those
     do that lie below it, end so, and are later than the makefile.
     """
-    written = {name for footprint in footprints for name in footprint.writes}
-    places = {os.path.dirname(name) for name in written}
-    read = dict.fromkeys(name for footprint in footprints for name in footprint.reads)
-    found = [
-        name
-        for name in read
-        if os.path.dirname(name) in places
-        and is_own(name)
-        and not is_of_versions(name)
-        and name not in written
-        and name not in graph.names
-        and os.path.isfile(os.path.join(folder, name))
-    ]
+    found = unnamed(folder, graph, footprints)
     if not found:
         return
     tracked, since = tracked_in(folder), stamp_of(folder, makefile)
-    endings = {kind_of(name) for name in written}
+    endings = {kind_of(name) for footprint in footprints for name in footprint.writes}
     if tracked is not None:
         found = [
             name
@@ -64,6 +52,24 @@ def warn_of_left_over(
             f" {'it' if one else 'them'} and record again"
         )
         warn(Note(readers[0].recipe.target, Kind.LEFT_OVER, text))
+
+
+def unnamed(folder: str, graph: Graph, footprints: Sequence[Footprint]) -> list[str]:
+    """The files that recipes read, that the graph doesn't name and no recipe writes, and that lie
+    in a folder in which recipes write."""
+    written = {name for footprint in footprints for name in footprint.writes}
+    places = {os.path.dirname(name) for name in written}
+    read = dict.fromkeys(name for footprint in footprints for name in footprint.reads)
+    return [
+        name
+        for name in read
+        if os.path.dirname(name) in places
+        and is_own(name)
+        and not is_of_versions(name)
+        and name not in written
+        and name not in graph.names
+        and os.path.isfile(os.path.join(folder, name))
+    ]
 
 
 def kind_of(name: str) -> tuple[str, str]:

@@ -5,33 +5,39 @@ their replay, the verdict on each, and the footprint file with its notes and its
 from __future__ import annotations
 
 import os
-import sys
+from collections.abc import Mapping
+from contextlib import AbstractContextManager, nullcontext
 from dataclasses import dataclass, replace
 
 from mkcheck_tools.book import formats
 from mkcheck_tools.book.books import make_book
 from mkcheck_tools.book.footprint_files import Footprints
-from mkcheck_tools.book.note_files import path_of_notes, text_of_notes
-from mkcheck_tools.book.states import Unusable, path_of_state
+from mkcheck_tools.book.note_files import text_of_notes
+from mkcheck_tools.book.paths import path_of_notes, path_of_state
+from mkcheck_tools.book.states import Unusable
 from mkcheck_tools.book.updating import FIRST_TIME, Conditions, Updating, believed
 from mkcheck_tools.faults import Failure, Fault, RecipeFault, failure_of, sentence_of
 from mkcheck_tools.gnu.unlooked import warn_of_unlooked
 from mkcheck_tools.judge.comparing import compare_again, compare_make
 from mkcheck_tools.judge.dates import dated, without_told
 from mkcheck_tools.judge.footprints import Footprint
-from mkcheck_tools.judge.late import with_met
+from mkcheck_tools.judge.late import Late, with_met
 from mkcheck_tools.judge.leftovers import warn_of_left_over
 from mkcheck_tools.judge.modules import warn_of_modules
 from mkcheck_tools.judge.notes import Kind, Note, Notes, Warn, ignore
 from mkcheck_tools.judge.verdicts import ReplayVerdict, judge
+from mkcheck_tools.record.answering import status_of, tell, tell_of_update
 from mkcheck_tools.record.building import Build, build_of, makefile_of, removes_on_error
+from mkcheck_tools.record.presuming import Beginning, keep_premises
 from mkcheck_tools.record.recording import Recorded, Workshop, record
 from mkcheck_tools.record.request import Request
+from mkcheck_tools.replay.early import Disturbed, Early, early_replays
 from mkcheck_tools.replay.meetings import meetings_of
-from mkcheck_tools.replay.replays import Replay, Replayed
+from mkcheck_tools.replay.replays import Replay, Replayed, processors
+from mkcheck_tools.replay.worlds import World
 from mkcheck_tools.run import places
 from mkcheck_tools.run.ending import write_text
-from mkcheck_tools.run.paths import RealPath, real_in, unbound
+from mkcheck_tools.run.paths import Name, RealPath, real_in, unbound
 from mkcheck_tools.run.places import Place
 from mkcheck_tools.run.stopping import Stopped, pass_over_signals
 from mkcheck_tools.trace import tracing
@@ -56,11 +62,6 @@ UNTESTED = (
 )
 
 
-def tell(text: str) -> None:
-    """Tells something on standard error."""
-    print(f"mkcheck-record: {text}", file=sys.stderr)
-
-
 def record_folder(request: Request, scratch: RealPath) -> int:
     """Records a folder, writes what was recorded, and gives the status.
 
@@ -68,16 +69,28 @@ def record_folder(request: Request, scratch: RealPath) -> int:
     """
     notes = Notes(tell)
     tracing.strace()
+    before = Beginning.of(request)
     build = build_of(request, scratch, notes.add)
     shop = workshop(request, build, scratch, notes.add)
-    recorded = recorded_by(shop, build, notes.add)
+    with early_replays_of(shop, build) as early:
+        status = recorded_and_written(shop, build, early, notes, before)
+    return status
+
+
+def recorded_and_written(
+    shop: Workshop, build: Build, early: Early | None, notes: Notes, before: Beginning | None
+) -> int:
+    """The same, where `early` starts replays while recipes are recorded, and `before` is what was
+    there when an update began."""
+    request = shop.request
+    recorded = recorded_by(shop, build, early, notes.add)
     verdict = ReplayVerdict()
     try:
         if recorded.stopped is not None:
             raise recorded.stopped
         warn_of_recorded(shop, build, recorded, notes.add)
         compared = compare(shop, recorded, notes.add)
-        replayed = replay(shop, build, recorded, notes.add)
+        replayed = replay(shop, build, recorded, early, notes.add)
         verdict = verdict_of(shop, build, recorded, replayed)
         if replayed.stopped is not None:
             raise replayed.stopped
@@ -85,7 +98,10 @@ def record_folder(request: Request, scratch: RealPath) -> int:
             notes.add(note)
         result = result_of(build, recorded, verdict, notes.add)
         result = replace(result, failures=[*recorded.failures, *compared, *result.failures])
-        return write(shop, recorded, verdict, result, notes)
+        status, kept = write(shop, recorded, verdict, result, notes)
+        if kept and before is not None and shop.updating is not None:
+            keep_premises(shop, build, recorded, shop.updating, before)
+        return status
     except BaseException as end:
         raise told_of_end(end, request, keep(shop, recorded, verdict, False))
 
@@ -153,13 +169,55 @@ def updating_of(
     return updating
 
 
-def recorded_by(shop: Workshop, build: Build, warn: Warn) -> Recorded:
+def early_replays_of(shop: Workshop, build: Build) -> AbstractContextManager[Early | None]:
+    """What starts replays while recipes are recorded, where that can be."""
+    request = shop.request
+    is_asked_for = request.replay and not (request.again or request.make)
+    if not is_asked_for or not shop.place.is_bound or processors() == 1:
+        return nullcontext()
+
+    def replay_early(world: World, writers: Mapping[Name, list[str]], early: Early) -> Replay:
+        replays = replay_of(shop, build, world, {}, writers)
+        return replace(
+            replays, targets=early.targets, memory=early.memory, _stopped=early.stopped
+        )
+
+    targets = frozenset(map(Name, shop.absent))
+    return early_replays(replay_early, targets, real_in(shop.scratch, "replays"))
+
+
+def replay_of(
+    shop: Workshop, build: Build, world: World, late: Late, writers: Mapping[Name, list[str]]
+) -> Replay:
+    """What replays the recipes of a world."""
+    return Replay(
+        world,
+        shop.place.seen,
+        real_in(shop.scratch, "replays"),
+        shop.environment,
+        shop.ancestors,
+        late,
+        writers,
+        build.graph.once,
+        failing=shop.failing,
+    )
+
+
+def recorded_by(shop: Workshop, build: Build, early: Early | None, warn: Warn) -> Recorded:
     """The recording of all recipes. It is repeated where recipes were kept that have to be
-    recorded, since others make other files now."""
+    recorded, since others make other files now; and without replays beside it where one of these
+    may have disturbed a recipe."""
     request, updating = shop.request, shop.updating
     follow = shop.follow if request.replay or updating is not None else None
     while True:
-        recorded = record(shop, build.graph.recipes, warn, follow)
+        if early is not None:
+            early.begin()
+        try:
+            recorded = record(shop, build.graph.recipes, warn, follow, early)
+        except Disturbed:
+            assert early is not None
+            early.is_off = True
+            continue
         is_done = recorded.stopped is not None or bool(recorded.failures) or not request.replay
         if is_done or updating is None or not updating.refuse(recorded.late):
             return recorded
@@ -203,7 +261,9 @@ def compare(shop: Workshop, recorded: Recorded, warn: Warn) -> list[Failure]:
     return failures
 
 
-def replay(shop: Workshop, build: Build, recorded: Recorded, warn: Warn) -> Replayed:
+def replay(
+    shop: Workshop, build: Build, recorded: Recorded, early: Early | None, warn: Warn
+) -> Replayed:
     """The replays of what was recorded; nothing where none is wanted."""
     world = recorded.world
     if world is None or not shop.request.replay:
@@ -211,19 +271,14 @@ def replay(shop: Workshop, build: Build, recorded: Recorded, warn: Warn) -> Repl
     if places.namespace() is None and shop.place.folder == shop.folder:
         warn(Note("", Kind.UNREPLAYED, UNREPLAYED))
         return Replayed([])
-    replays = Replay(
-        world,
-        shop.place.seen,
-        real_in(shop.scratch, "replays"),
-        shop.environment,
-        shop.ancestors,
-        recorded.late,
-        recorded.writers,
-        build.graph.once,
-        meetings_of(recorded.footprints, world.trials),
-        shop.failing,
-    )
-    return replays.run(world.trials)
+    meetings = meetings_of(recorded.footprints, world.trials)
+    replays = replay_of(shop, build, world, recorded.late, recorded.writers)
+    replays = replace(replays, meetings=meetings)
+    if early is None:
+        return replays.run(world.trials)
+    early.slots.release()
+    replays = replace(replays, memory=early.memory, _stopped=early.stopped)
+    return replays.run(world.trials, early.started, early.pool)
 
 
 def verdict_of(
@@ -318,9 +373,9 @@ def told_of_end(end: BaseException, request: Request, kept: bool) -> BaseExcepti
 
 def write(
     shop: Workshop, recorded: Recorded, verdict: ReplayVerdict, result: Result, notes: Notes
-) -> int:
+) -> tuple[int, bool]:
     """Writes the footprints, their notes and their state; tells what isn't there, and gives the
-    status."""
+    status, and whether the state is that of a whole recording."""
     request, updating = shop.request, shop.updating
     failed = {failure.target for failure in result.failures}
     found = notes.without(failed)
@@ -338,23 +393,12 @@ def write(
             pass_over_signals()
             updating.forget()
     if whole and request.update and updating is not None:
-        tell_of_update(len(recorded.footprints), updating)
+        count = len(recorded.footprints)
+        tell_of_update(count, len(updating.reused) + len(updating.resumed))
     if not whole:
         tell_failures(request, result, len(recorded.footprints) + len(recorded.failures), kept)
-        return RecipeFault.status
-    doubts = [note for note in found if note.is_doubt]
-    if request.strict and doubts:
-        count = "a doubt" if len(doubts) == 1 else f"{len(doubts)} doubts"
-        tell(f"--strict: there {'is' if len(doubts) == 1 else 'are'} {count}, told above")
-        return RecipeFault.status
-    return 0
-
-
-def tell_of_update(recipes: int, updating: Updating) -> None:
-    """Tells how many recipes of all an update recorded."""
-    kept = len(updating.reused) + len(updating.resumed)
-    more = ", the others hadn't changed" if kept else ""
-    tell(f"{recipes - kept} of {recipes} recipes were recorded{more}")
+        return RecipeFault.status, False
+    return status_of(request, found), kept
 
 
 def tell_failures(request: Request, result: Result, recipes: int, kept: bool) -> None:

@@ -12,12 +12,12 @@ from pathlib import Path
 
 from mkcheck_tools import VERSION
 from mkcheck_tools.book.choices import Choice
-from mkcheck_tools.book.earlier import choice_before
-from mkcheck_tools.book.states import path_of_state
+from mkcheck_tools.book import premises
+from mkcheck_tools.book.paths import path_of_state
+from mkcheck_tools.book.premises import Premises
 from mkcheck_tools.faults import Fault
-from mkcheck_tools.record.pipeline import record_folder, tell
+from mkcheck_tools.record.answering import tell, unchanged
 from mkcheck_tools.record.request import Request
-from mkcheck_tools.run import places
 from mkcheck_tools.run.ending import ended
 from mkcheck_tools.run.folders import prefix_of, scratch_folder
 from mkcheck_tools.run.paths import resolved
@@ -94,7 +94,7 @@ def words_of(arguments: list[str]) -> argparse.Namespace:
     return asked
 
 
-def request_of(asked: argparse.Namespace) -> Request:
+def request_of(asked: argparse.Namespace, before: Premises | None) -> Request:
     """The recording that is asked for. An update takes what isn't given from the one before."""
     folder = resolved(asked.C)
     if not os.path.isdir(folder) or folder == "/":
@@ -113,7 +113,7 @@ def request_of(asked: argparse.Namespace) -> Request:
     )
     output = asked.update or asked.o
     refuse_other_file(output, asked.update is not None)
-    choice = given.over(choice_before(os.path.realpath(output))) if asked.update else given
+    choice = given.over(choice_of(os.path.realpath(output), before)) if asked.update else given
     taken = [word for word in choice.given() if word not in given.given()]
     if taken:
         tell(f"as before: {shlex.join(choice.given())}")
@@ -128,6 +128,15 @@ def request_of(asked: argparse.Namespace) -> Request:
         asked.make,
         asked.strict,
     )
+
+
+def choice_of(book: str, before: Premises | None) -> Choice:
+    """What was asked for in the recording whose footprints lie at a path."""
+    if before is not None:
+        return before.choice
+    from mkcheck_tools.book.earlier import choice_before
+
+    return choice_before(book)
 
 
 def is_file_in(name: str, folder: str) -> bool:
@@ -157,8 +166,20 @@ def refuse_other_file(path: str | None, update: bool) -> None:
 
 
 def record(asked: argparse.Namespace) -> int:
-    """Records what is asked for, and gives the status."""
-    request = request_of(asked)
+    """Records what is asked for, and gives the status. The modules that this takes are loaded where
+    an update finds a change."""
+    before = premises.read(os.path.realpath(asked.update)) if asked.update else None
+    if before is not None and not before.stands_for(os.path.realpath(asked.update)):
+        before = None
+    request = request_of(asked, before)
+    if before is not None:
+        status = unchanged(request, before)
+        if status is not None:
+            return status
+        before.know()
+    from mkcheck_tools.record.pipeline import record_folder
+    from mkcheck_tools.run import places
+
     try:
         with scratch_folder(request.folder) as scratch:
             return record_folder(request, scratch)

@@ -29,6 +29,7 @@ from mkcheck_tools.judge.notes import Kind, Note, Warn
 from mkcheck_tools.judge.refusals import listed, refuse_unmade, refuse_unseen
 from mkcheck_tools.record.building import VARYING_HELP
 from mkcheck_tools.record.request import Request
+from mkcheck_tools.replay.early import Disturbed, Early
 from mkcheck_tools.replay.versions import Store, Version, version_of
 from mkcheck_tools.replay.worlds import Effects, World
 from mkcheck_tools.run.folders import UNWRITTEN, Naming, copy, is_cache, is_own
@@ -156,10 +157,15 @@ class Recorded:
 
 
 def record(
-    shop: Workshop, recipes: list[Recipe], warn: Warn, follow: Follow | None = None
+    shop: Workshop,
+    recipes: list[Recipe],
+    warn: Warn,
+    follow: Follow | None = None,
+    early: Early | None = None,
 ) -> Recorded:
     """Runs the recipes in their order, each once. `follow` makes, once the copy is there, what
-    follows the files.
+    follows the files. `early` starts replays of recipes that are recorded; raises Disturbed where
+    such a replay may have disturbed a recipe.
 
     A recipe that fails costs itself, and what depends on it, which isn't run. A signal or a full
     disk ends the recording, and what was recorded is given.
@@ -170,7 +176,7 @@ def record(
     progress = Progress(len(recipes))
     given = frozenset(named([*tree.there, *tree.folders], naming))
     done = Recorded([], [], [], world, given, shop.ancestors)
-    bench = Bench(shop, tree, naming, progress)
+    bench = Bench(shop, tree, naming, progress, early)
     failed: set[str] = set()
     try:
         for recipe in recipes:
@@ -183,6 +189,8 @@ def record(
                 continue
             try:
                 bench.record(recipe, warn, done)
+            except Disturbed:
+                raise
             except Exception as error:
                 if is_of_system(error, done):
                     raise
@@ -213,6 +221,7 @@ class Bench:
     tree: Tree
     naming: Naming
     progress: Progress
+    early: Early | None = None
 
     def record(self, recipe: Recipe, warn: Warn, done: Recorded) -> None:
         """Puts down the footprint of a recipe, which runs unless it is known."""
@@ -222,11 +231,19 @@ class Bench:
             if kept is not None:
                 done.footprints.append(kept)
                 done.contents.append({})
+                if self.early is not None:
+                    self.early.wrote(recipe.target, kept.writes)
                 return
             updating.lay(self.tree)
             warn = updating.noting(recipe, warn)
         begun, stamp = time.time(), stamp_now(self.shop.scratch)
-        accesses, output = run(recipe, self.shop, self.tree, self.naming, self.progress)
+        accesses = Accesses(self.tree)
+        try:
+            output = run(recipe, self.shop, accesses, self.naming, self.progress)
+        except Exception:
+            self.refuse_disturbed(accesses)
+            raise
+        self.refuse_disturbed(accesses)
         self.progress.clear()
         with showing(output):
             refuse_unmade(recipe, self.shop)
@@ -239,6 +256,14 @@ class Bench:
             left = self.left(footprint)
         done.footprints.append(footprint)
         done.contents.append({name: content_of(left[name]) for name in footprint.writes})
+        if self.early is not None and done.world is not None:
+            self.early.wrote(recipe.target, footprint.writes)
+            self.early.start(done.world, accesses)
+
+    def refuse_disturbed(self, accesses: Accesses) -> None:
+        """Raises Disturbed where a replay may have disturbed a recipe."""
+        if self.early is not None:
+            self.early.refuse_disturbed(accesses)
 
     def left(self, footprint: Footprint) -> Mapping[Name, Version | None]:
         """What a recipe left at the files that it wrote."""
@@ -310,10 +335,11 @@ def name_of_folder(path: SeenPath, naming: Naming) -> Name:
 
 
 def run(
-    recipe: Recipe, shop: Workshop, tree: Tree, naming: Naming, progress: Progress
-) -> tuple[Accesses, str]:
-    """Runs a recipe, command by command, as make would; returns what it did and put out."""
-    accesses = Accesses(tree)
+    recipe: Recipe, shop: Workshop, accesses: Accesses, naming: Naming, progress: Progress
+) -> str:
+    """Runs a recipe, command by command, as make would; returns what it put out. `accesses` takes
+    what it did."""
+    tree = accesses.tree
     tracer = Tracer(shop.place, shop.environment, shop.scratch)
     output = ""
     for command in recipe.commands:
@@ -336,7 +362,7 @@ def run(
             more += said_of_full(shop)
             more += said_of_leaks(output)
             raise RecipeFault("\n".join([said, *more]))
-    return accesses, output
+    return output
 
 
 @contextlib.contextmanager

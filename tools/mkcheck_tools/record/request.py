@@ -6,8 +6,12 @@ import os
 from dataclasses import dataclass
 
 from mkcheck_tools.book.choices import Choice
-from mkcheck_tools.book.note_files import path_of_notes
-from mkcheck_tools.book.states import path_of_state, path_of_store
+from mkcheck_tools.book.paths import (
+    path_of_notes,
+    path_of_stamps,
+    path_of_state,
+    path_of_store,
+)
 from mkcheck_tools.run.paths import RealPath
 
 
@@ -37,11 +41,16 @@ class Request:
     @property
     def hidden(self) -> frozenset[str]:
         """The names of files of the recorder in the project's folder, which aren't part of it."""
+        front = self.folder + "/"
+        return frozenset(path[len(front) :] for path in self.hidden_paths if path.startswith(front))
+
+    @property
+    def hidden_paths(self) -> frozenset[str]:
+        """The paths of files of the recorder."""
         if self.book is None:
             return frozenset()
         store = path_of_store(self.book)
         inside = os.listdir(store) if os.path.isdir(store) else []
-        paths = [path_of_state(self.book), path_of_notes(self.book), store]
-        paths += [os.path.join(store, name) for name in inside]
-        front = self.folder + "/"
-        return frozenset(path[len(front) :] for path in paths if path.startswith(front))
+        paths = [path_of_state(self.book), path_of_notes(self.book), path_of_stamps(self.book)]
+        paths += [store, *(os.path.join(store, name) for name in inside)]
+        return frozenset(paths)

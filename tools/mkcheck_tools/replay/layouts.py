@@ -31,12 +31,26 @@ class Layout:
     world: World
     ancestors: Ancestors
     writers: Mapping[Name, list[str]] = field(default_factory=dict)
+    targets: frozenset[Name] = frozenset()
+    """Files that recipes will have written in the end, where they are still recorded."""
 
     @functools.cached_property
     def listings(self) -> Listings:
         """The orders in which folders list their names."""
         makers = {**self.world.makers, **self.writers}
         return Listings(self.world.place, makers, self.ancestors)
+
+    @functools.cached_property
+    def folder_stamps(self) -> Mapping[Name, int]:
+        """The stamps of the folders of the project in which no recipe writes."""
+        filled = {above(name) for name in self.targets}
+        found: dict[Name, int] = {}
+        for name in self.world.given_folders - filled:
+            with contextlib.suppress(OSError):
+                status = os.stat(real_in(self.world.place, name))
+                if status.st_mtime < self.world.begun:
+                    found[name] = status.st_mtime_ns
+        return found
 
     def furnish(
         self, trial: Trial, folder: RealPath, folders: frozenset[Name], back: bool = False
@@ -66,6 +80,26 @@ class Layout:
                 os.makedirs(path, exist_ok=True)
         self.liken(trial, folder)
 
+    def premises(self, trial: Trial) -> tuple[object, ...]:
+        """All that a replay of a recipe takes from what other recipes did: where this is the same
+        in the end, the outcome of one that began earlier is what a later one would show."""
+        made, given = self.world.glanced(trial)
+        noticed = self.world.noticed(trial, True)
+        listed = self.world.given_in_listed(trial)
+        folders = frozenset(self.folders_of(trial))
+        names = {*trial.before, *trial.links, *folders, *made, *given, *noticed, *listed}
+        for name in list(names):
+            while name := above(name):
+                names.add(name)
+        makers = {
+            name: (tuple(self.world.makers.get(name, ())), tuple(self.writers.get(name, ())))
+            for name in names
+        }
+        order = sorted(names, key=lambda name: (above(name), *self.listings.rank(name)))
+        looked = (list(made.items()), given, list(noticed.items()), listed)
+        stamps = self.folder_stamps
+        return folders, self.taken_away(trial), makers, order, looked, stamps
+
     def liken(self, trial: Trial, folder: RealPath) -> None:
         """Gives folders the modes that they had when the recipe began, and folders of the project
         also their stamps, since `tar` stores these.
@@ -77,9 +111,9 @@ class Layout:
             with contextlib.suppress(OSError):
                 if mode & 0o700 == 0o700 or name in trial.given:
                     os.chmod(path, mode)
-                status = os.stat(real_in(self.world.place, name))
-                if name in self.world.given_folders and status.st_mtime < self.world.begun:
-                    os.utime(path, ns=(status.st_mtime_ns, status.st_mtime_ns))
+                stamp = self.folder_stamps.get(name)
+                if stamp is not None:
+                    os.utime(path, ns=(stamp, stamp))
 
     def folders_of(self, trial: Trial) -> Iterator[Name]:
         """The folders that are always there when a recipe begins.
@@ -108,12 +142,17 @@ class Layout:
         source, full = self.world.material(name, version)
         goal = real_in(folder, name)
         status = os.lstat(source) if version == GIVEN else None
+        at_work = source == real_in(self.world.place, name)
         if status is not None and status.st_nlink > 1:
             first = twins.setdefault((status.st_dev, status.st_ino), goal)
             if first != goal:
                 os.link(first, goal, follow_symlinks=False)
                 return
         lay(source, goal, full)
+        if at_work and not self.world.is_untouched(name):
+            # A recipe that is recorded just now changed it.
+            os.unlink(goal)
+            self.lay(name, version, folder, twins)
 
     def restore(self, trial: Trial, folder: RealPath) -> dict[Name, tuple[int, ...]]:
         """Lays those reads anew that the recipe wrote or took away itself.

@@ -71,6 +71,15 @@ class Replayed:
     stopped: BaseException | None = None
 
 
+@dataclass(frozen=True)
+class Started:
+    """A replay that began while other recipes were recorded: from which premises, and its
+    outcome, once that is there."""
+
+    premises: tuple[object, ...]
+    outcome: Future[Outcome]
+
+
 @dataclass
 class Replay:
     """Replays the recipes of a world.
@@ -93,12 +102,14 @@ class Replay:
     failing: bool = True
     """Whether each recipe is run once more where writes to its target fail."""
     memory: Memory | None = None
+    targets: frozenset[Name] = frozenset()
+    """Files that recipes will have written in the end, where they are still recorded."""
     _stopped: threading.Event = field(default_factory=threading.Event)
 
     @functools.cached_property
     def layout(self) -> Layout:
         """What lays the folders."""
-        return Layout(self.world, self.ancestors, self.writers)
+        return Layout(self.world, self.ancestors, self.writers, self.targets)
 
     @functools.cached_property
     def runner(self) -> Runner:
@@ -110,9 +121,15 @@ class Replay:
         """What keeps recipes from meeting."""
         return Turns(self.meetings)
 
-    def run(self, trials: list[Trial]) -> Replayed:
-        """Replays these recipes, several at a time where that can be. Returns outcomes in order, or
-        those that are there when a signal or a full disk ends it."""
+    def run(
+        self,
+        trials: list[Trial],
+        started: Mapping[int, Started] | None = None,
+        workers: ThreadPoolExecutor | None = None,
+    ) -> Replayed:
+        """Replays these recipes, several at a time where that can be, by `workers` where these are
+        there. Returns outcomes in order, or those that are there when a signal or a full disk ends
+        it. `started` are replays that began early, by the places of their recipes."""
         os.makedirs(self.scratch, exist_ok=True)
         jobs = processors()
         if places.namespace() is None:
@@ -122,14 +139,18 @@ class Replay:
             self.world.place = aside
         progress = Progress(len(trials), title="replay")
         waiting: list[Future[Outcome]] = []
-        with memory(unbound(self.scratch)) as self.memory, ThreadPoolExecutor(jobs) as pool:
+        with contextlib.ExitStack() as stack:
+            if workers is None:
+                self.memory = stack.enter_context(memory(unbound(self.scratch)))
+            pool = workers or stack.enter_context(ThreadPoolExecutor(jobs))
             try:
                 for number, trial in enumerate(trials):
-                    waiting.append(pool.submit(self.replay_safely, trial, number, frozenset()))
+                    waiting.append(self.begun(pool, trial, number, (started or {}).get(number)))
                 self.watch(waiting, trials, progress)
                 outcomes = [future.result() for future in waiting]
                 outcomes = self.with_folders(pool, outcomes)
-                outcomes = self.alone(outcomes) if jobs > 1 and len(trials) > 1 else outcomes
+                beside = jobs > 1 and (len(trials) > 1 or bool(started))
+                outcomes = self.alone(outcomes) if beside else outcomes
             except BaseException as end:
                 ended = [one for one in waiting if one.done() and one.exception() is None]
                 self._stopped.set()
@@ -141,6 +162,40 @@ class Replay:
                 progress.clear()
         return Replayed(outcomes)
 
+    def begun(
+        self, pool: ThreadPoolExecutor, trial: Trial, number: int, started: Started | None
+    ) -> Future[Outcome]:
+        """A replay that begins now, or that began early and whose premises are still right. One
+        with late files, which are known only now, is run beside these yet."""
+        if started is None:
+            return pool.submit(self.replay_safely, trial, number, frozenset())
+        if started.premises != self.layout.premises(trial):
+            return pool.submit(self.anew, started, trial, number)
+        if self.late.get(trial.recipe.target):
+            return pool.submit(self.with_late, started, trial, number)
+        return started.outcome
+
+    def anew(self, started: Started, trial: Trial, number: int) -> Outcome:
+        """A replay that begins once more, when the one that began early has ended."""
+        started.outcome.exception()
+        return self.replay_safely(trial, number, frozenset())
+
+    def with_late(self, started: Started, trial: Trial, number: int) -> Outcome:
+        """A replay that began early, with a run beside the late files."""
+        outcome = started.outcome.result()
+        late, place = self.late[trial.recipe.target], self.place_of(number)
+        if outcome.met is None or outcome.met.seen or not outcome.passed:
+            return self.replay_safely(trial, number, frozenset())
+        try:
+            tried = with_later_stamps(self.world, trial)
+            self.layout.furnish(tried, place.folder, frozenset())
+            return replace(outcome, met=self.beside(tried, place, late))
+        except (Fault, OSError):
+            remove(place.folder)
+            return self.replay_safely(trial, number, frozenset())
+        finally:
+            remove(place.folder)
+
     def watch(
         self, waiting: list[Future[Outcome]], trials: list[Trial], progress: Progress
     ) -> None:
@@ -149,7 +204,7 @@ class Replay:
         left = dict(zip(waiting, (trial.recipe.target for trial in trials)))
         while left:
             done, _ = futures.wait(left, SECONDS_SHOWN, futures.FIRST_COMPLETED)
-            for future in done:
+            for future in [one for one in left if one in done]:
                 progress.ended(left.pop(future))
                 future.result()
             if not done:

@@ -6,6 +6,7 @@ import contextlib
 import hashlib
 import os
 import stat
+import time
 from dataclasses import dataclass, field
 
 from mkcheck_tools.faults import Fault
@@ -25,6 +26,28 @@ KINDS = {
 }
 CHUNK = 1 << 20
 NOWHERE = RealPath("")
+# A file that changed later than so many nanoseconds ago may change again and keep its stamp, since
+# the clocks of file systems go on in steps.
+SETTLING = 2_500_000_000
+
+# The device, the number, the size and the times of a file.
+Stamp = tuple[int, int, int, int, int]
+
+
+def stamp_of(status: os.stat_result) -> Stamp:
+    """What is another one when the bytes of a file are others. No program can set the last time."""
+    return (
+        status.st_dev,
+        status.st_ino,
+        status.st_size,
+        status.st_mtime_ns,
+        status.st_ctime_ns,
+    )
+
+
+def is_settled(stamp: Stamp) -> bool:
+    """Whether a file that has this stamp now has other bytes only with another stamp."""
+    return stamp[4] < time.time_ns() - SETTLING
 
 
 @dataclass(frozen=True)
@@ -62,8 +85,30 @@ def content_of(path: RealPath, kind: str) -> str:
         raise Fault(f"{path} can't be read: {error.strerror}") from None
 
 
+# The digests of files, by their stamps.
+_known: dict[Stamp, str] = {}
+
+
+def know_digest(stamp: Stamp, digest: str) -> None:
+    """From now on the digest of the file with this stamp is known."""
+    _known[stamp] = digest
+
+
 def digest_of(path: RealPath) -> str:
-    """A digest of the bytes of a file."""
+    """A digest of the bytes of a file, which is read unless its digest is known by its stamp."""
+    stamp = stamp_of(os.stat(path))
+    known = _known.get(stamp)
+    if known is not None:
+        return known
+    settled = is_settled(stamp)
+    digest = digest_of_bytes(path)
+    if settled:
+        know_digest(stamp, digest)
+    return digest
+
+
+def digest_of_bytes(path: RealPath) -> str:
+    """A digest of the bytes of a file, which is read."""
     digest = hashlib.sha256()
     with open(path, "rb", buffering=0) as file:
         while chunk := file.read(CHUNK):

@@ -12,7 +12,17 @@ from dataclasses import dataclass, field, replace
 
 from mkcheck_tools.answers.graphs import Recipe
 from mkcheck_tools.faults import Fault
-from mkcheck_tools.replay.versions import FILE, FOLDER, LINK, THERE, Store, Version, version_of
+from mkcheck_tools.replay.versions import (
+    FILE,
+    FOLDER,
+    LINK,
+    THERE,
+    Stamp,
+    Store,
+    Version,
+    version_of,
+)
+from mkcheck_tools.replay.versions import stamp_of as file_stamp
 from mkcheck_tools.run.folders import is_own
 from mkcheck_tools.run.paths import Name, RealPath, real_in
 
@@ -186,6 +196,12 @@ class World:
     compared: dict[tuple[Name, Version | None], bool] = field(default_factory=dict)
     """The answers of `is_as_before` for such files."""
 
+    live: bool = False
+    """Whether other recipes are recorded in its place while it is used."""
+
+    stamps: dict[str, Stamp] = field(default_factory=dict)
+    """The stamps of the files that were there before any recipe."""
+
     @classmethod
     def of(cls, folder: RealPath, place: RealPath, store: Store) -> World:
         """The world before the first recipe."""
@@ -201,9 +217,37 @@ class World:
                 folders[name] = mode_of(RealPath(entry.path))
             elif entry.is_file(follow_symlinks=False):
                 files.add(name)
+                world.stamps[name] = file_stamp(entry.stat(follow_symlinks=False))
         world.given_folders, world.modes = frozenset(folders), folders
         world.given_files = frozenset(files)
         return world
+
+    def as_now(self) -> World:
+        """The world as it is now, for a replay that begins while other recipes are recorded."""
+        return replace(
+            self,
+            current=dict(self.current),
+            history={name: list(versions) for name, versions in self.history.items()},
+            makers={name: list(targets) for name, targets in self.makers.items()},
+            dropped=set(self.dropped),
+            droppers={name: set(targets) for name, targets in self.droppers.items()},
+            inside={},
+            trials=[],
+            seen={},
+            compared={},
+            live=True,
+        )
+
+    def is_untouched(self, name: str) -> bool:
+        """Whether a file that was there before any recipe still stands where recipes run, as it
+        was: a recipe that is recorded just now may change it."""
+        if name in self.current or not self.live:
+            return name not in self.current
+        try:
+            status = os.lstat(os.path.join(self.place, name))
+        except OSError:
+            return False
+        return self.stamps.get(name) in (None, file_stamp(status))
 
     def took(self, recipe: Recipe, effects: Effects, begun: float) -> Trial:
         """Takes down that a recipe has ended."""
@@ -443,7 +487,7 @@ class World:
         """How many bytes a version holds, as far as that is known."""
         path = self.store.path(version) if version.kind == FILE else ""
         if version == GIVEN:
-            path = os.path.join(self.folder if name in self.current else self.place, name)
+            path = os.path.join(self.place if self.is_untouched(name) else self.folder, name)
         try:
             return os.lstat(path).st_size if path else 0
         except OSError:
@@ -451,7 +495,7 @@ class World:
 
     def stamp(self, name: Name) -> int:
         """The stamp of a file that was there before any recipe."""
-        folder = self.folder if name in self.current else self.place
+        folder = self.place if self.is_untouched(name) else self.folder
         return os.lstat(os.path.join(folder, name)).st_mtime_ns
 
     def material(
@@ -463,7 +507,7 @@ class World:
         """
         if version != GIVEN:
             return self.store.path(version), version
-        if name not in self.current and not changed:
+        if self.is_untouched(name) and not changed:
             path = real_in(self.place, name)
         elif self.place == self.folder:
             raise Fault(

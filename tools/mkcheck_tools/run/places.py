@@ -12,6 +12,7 @@ from __future__ import annotations
 import contextlib
 import functools
 import os
+import select
 import shlex
 import shutil
 import signal
@@ -44,6 +45,9 @@ ENTER = (
     " 'mkcheck-record: the folder could not be mounted at the path of the project' >&2; exit 125"
 )
 NOT_ENTERED = "mkcheck-record: the folder could not be mounted at the path of the project"
+
+# How long a wait goes on before signals are looked for, in milliseconds.
+WAKING = 200
 
 _running: dict[int, None] = {}
 _lock = threading.Lock()
@@ -321,6 +325,26 @@ def started(
             process.wait()
             with _lock:
                 _running.pop(process.pid, None)
+
+
+def waited(process: subprocess.Popen[bytes]) -> int:
+    """Waits for a process, and gives its status.
+
+    A signal that comes just before a wait begins, or that another thread takes, doesn't end that;
+    so this wakes now and then.
+    """
+    try:
+        descriptor = os.pidfd_open(process.pid)
+    except (AttributeError, OSError):
+        return process.wait()
+    try:
+        poll = select.poll()
+        poll.register(descriptor, select.POLLIN)
+        while not poll.poll(WAKING):
+            continue
+    finally:
+        os.close(descriptor)
+    return process.wait()
 
 
 def kill_group(leader: int) -> None:

@@ -77,6 +77,9 @@ class Accesses:
     made: dict[SeenPath, None] = field(default_factory=dict)
     """Files that it wrote and that weren't there before."""
 
+    fresh: dict[SeenPath, None] = field(default_factory=dict)
+    """Files that it opened so that this fails where they are there already."""
+
     lost: dict[SeenPath, None] = field(default_factory=dict)
     """Files that it removed and hadn't made."""
 
@@ -464,6 +467,8 @@ class Follower:
             return
         if self.accesses.tree.has(real):
             self.at_work.add(call.process)
+        if "O_EXCL" in flags and "O_CREAT" in flags:
+            self.accesses.fresh.setdefault(real)
         new = self.accesses.is_new(real, flags)
         if real.startswith(SHARED_MEMORY) and not new and not self.accesses.wrote(real):
             self.accesses.channels.setdefault(f"{MEMORY} {real}")

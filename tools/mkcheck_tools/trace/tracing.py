@@ -271,7 +271,7 @@ class Tracer:
         with tempfile.TemporaryFile(dir=self.scratch) as output:
             traced, seen = self.place.words(words), self.place.seen
             with places.started(traced, seen, self.environment, output.fileno()) as process:
-                status = process.wait()
+                status = places.waited(process)
             output.seek(0)
             return output.read().decode("utf-8", "replace"), status
 

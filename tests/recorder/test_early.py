@@ -1,0 +1,138 @@
+"""Replays that begin while other recipes are recorded show what later ones would show."""
+
+from __future__ import annotations
+
+import os
+import subprocess
+import sys
+import unittest
+
+from mkcheck_tools.replay.replays import processors
+from mkcheck_tools.run import places
+from recorder.project import MKCHECK, ROOT, ProjectTest, traced
+
+namespaces = unittest.skipUnless(
+    places.namespace() and processors() > 1, "no mount namespace is allowed, or one processor"
+)
+
+
+# Runs the recorder, and tells when a recipe was recorded, and when its replay begins.
+TOLD = """\
+import sys
+from mkcheck_tools.record import program, recording
+from mkcheck_tools.replay.replays import Replay
+
+run, replay = recording.run, Replay.replay_safely
+
+
+def recorded(recipe, *more):
+    output = run(recipe, *more)
+    print("recorded", recipe.target, flush=True)
+    return output
+
+
+def replayed(own, trial, *more):
+    print("replay of", trial.recipe.target, flush=True)
+    return replay(own, trial, *more)
+
+
+recording.run, Replay.replay_safely = recorded, replayed
+sys.exit(program.main(sys.argv[1:]))
+"""
+
+
+@traced
+@namespaces
+class EarlyTest(ProjectTest):
+    """Projects with several recipes."""
+
+    replays = True
+
+    def test_each_recipe_is_replayed_once_beside_the_recording(self) -> None:
+        self.write(
+            {
+                "makefile": (
+                    "c: b\n\tsleep 2; cp b c\nb: a\n\tsleep 2; cp a b\na: s\n\tcp s a\n"
+                ),
+                "s": "1\n",
+            }
+        )
+        words = ["-C", str(self.folder), "-o", str(self.book)]
+        done = subprocess.run(
+            [sys.executable, "-c", TOLD, *words],
+            env={**os.environ, "MKCHECK": MKCHECK, "PYTHONPATH": str(ROOT / "tools")},
+            capture_output=True,
+            text=True,
+            check=False,
+        )
+        self.assertEqual(done.returncode, 0, done.stderr)
+        events = done.stdout.splitlines()
+        self.assertEqual(
+            sorted(events),
+            [
+                *("recorded a", "recorded b", "recorded c"),
+                *("replay of a", "replay of b", "replay of c"),
+            ],
+        )
+        self.assertLess(events.index("replay of a"), events.index("recorded b"))
+        self.assertLess(events.index("replay of b"), events.index("recorded c"))
+
+    def test_a_folder_in_which_a_later_recipe_writes(self) -> None:
+        """Its stamp is another one in each build, so a recipe that stores it is found."""
+        self.write(
+            {
+                "makefile": (
+                    "b: a\n\tsleep 2; echo > d/x; cp a b\na: s\n\tstat -c %Y d > a; cat s >> a\n"
+                ),
+                "s": "1\n",
+                "d/keep": "",
+            }
+        )
+        os.utime(self.folder / "d", (1_000_000_000, 1_000_000_000))
+        outcome = self.record()
+        self.assertTrue(outcome.lacks("a"), outcome.errors)
+        self.assertIn("writes a with other contents", outcome.errors)
+
+    def test_a_source_that_a_later_recipe_changes(self) -> None:
+        self.write(
+            {
+                "makefile": (
+                    "b: a\n\techo more >> r; cp a b; rm r\n"
+                    "a: s\n\tsleep 1; cat s r > a; sleep 1\n"
+                ),
+                "s": "1\n",
+                "r": "1\n",
+            }
+        )
+        outcome = self.recorded()
+        self.assertEqual(outcome.own("a"), ({"s", "r"}, {"a"}))
+
+    def test_a_folder_whose_names_come_later(self) -> None:
+        """What a later recipe makes there is a late file of the recipe that lists it."""
+        self.write(
+            {
+                "makefile": "all: a d/b\na: s\n\tls d > a\nd/b: s\n\tsleep 1; cp s d/b\n",
+                "s": "1\n",
+                "d/keep": "",
+            }
+        )
+        outcome = self.recorded()
+        self.assertIn("d/b", outcome.own("a")[0])
+
+    def test_a_temporary_file_of_one_name(self) -> None:
+        """A replay that makes it would meet the recording of another recipe that does, so it begins
+        when all is recorded."""
+        name = f"/tmp/{self.scratch.name}.common"
+        commands = f"echo $@ > {name}; sleep 1; cat {name} > $@; rm -f {name}"
+        self.write(
+            {
+                "makefile": f"c: b\n\t{commands}\nb: a\n\t{commands}\na: s\n\t{commands}\n",
+                "s": "1\n",
+            }
+        )
+        outcome = self.recorded()
+        self.assertEqual(outcome.own("c"), (set(), {"c"}))
+
+
+if __name__ == "__main__":
+    unittest.main()

@@ -1,0 +1,151 @@
+"""Replays recipes while others are still recorded.
+
+Such a replay takes what is known by then of the other recipes, and a guess of the rest: that each
+recipe writes its target, and nothing else. In the end it is compared with what is known then, and a
+replay for which anything differs counts for nothing. So the outcomes are those of replays that
+begin when all is recorded.
+
+The recording has to find what a make would find, and a replay is another process. So recipes that
+have to do with other processes, as by locks, are replayed in the end, and so are those that use
+names of their own choice in folders for temporary files, where replays can't be kept apart. Other
+names there are random. Where a recipe that is recorded uses such a name all the same, all is
+recorded once more, without replays beside it.
+"""
+
+from __future__ import annotations
+
+import contextlib
+import os
+import tempfile
+import threading
+from collections.abc import Callable, Iterable, Iterator, Mapping
+from concurrent import futures
+from concurrent.futures import ThreadPoolExecutor
+from dataclasses import dataclass, field
+
+from mkcheck_tools.replay.replays import Replay, Started, processors
+from mkcheck_tools.replay.runs import Outcome
+from mkcheck_tools.replay.worlds import Trial, World
+from mkcheck_tools.run import places
+from mkcheck_tools.run.memory import Memory, memory
+from mkcheck_tools.run.paths import Name, RealPath, SeenPath, unbound
+from mkcheck_tools.run.places import DEVICES, TEMPORARY
+from mkcheck_tools.trace.accesses import Accesses
+
+PROCESSES = "/proc"
+# How long a wait goes on before signals are looked for, in seconds.
+MOMENT = 0.2
+Writers = Mapping[Name, list[str]]
+
+
+class Disturbed(Exception):
+    """A recipe that was recorded may have met a replay."""
+
+
+@dataclass
+class Early:
+    """Starts replays of recipes as they are recorded. `replay` makes one of a world, and `targets`
+    are the files that recipes make."""
+
+    replay: Callable[[World, Writers, Early], Replay]
+    targets: frozenset[Name]
+    pool: ThreadPoolExecutor
+    memory: Memory | None
+    slots: threading.Semaphore
+    stopped: threading.Event = field(default_factory=threading.Event)
+    started: dict[int, Started] = field(default_factory=dict)
+    """Replays that began, by the place of the recipe among those that were recorded."""
+
+    writers: dict[Name, list[str]] = field(default_factory=dict)
+    """The targets whose recipes wrote a file so far, by its name."""
+
+    used: set[SeenPath] = field(default_factory=set)
+    """Files outside of the project that these recipes used."""
+
+    is_off: bool = False
+    """Whether none is started any more."""
+
+    def begin(self) -> None:
+        """The recording begins, for the first time or anew."""
+        left = {one.outcome for one in self.started.values()}
+        while left:
+            left = futures.wait(left, MOMENT).not_done
+        self.started.clear()
+        self.writers.clear()
+        self.used.clear()
+
+    def wrote(self, target: str, writes: Iterable[Name]) -> None:
+        """A recipe is recorded, or kept, that writes these files."""
+        for name in writes:
+            self.writers.setdefault(name, []).append(target)
+
+    def start(self, world: World, accesses: Accesses) -> None:
+        """Starts the replay of the recipe that was recorded last, unless that has to be alone."""
+        if self.is_off or has_to_be_alone(accesses):
+            return
+        trial, number = world.trials[-1], len(world.trials) - 1
+        writers: dict[Name, list[str]] = {target: [target] for target in self.targets}
+        writers.update((name, list(targets)) for name, targets in self.writers.items())
+        own = self.replay(world.as_now(), writers, self)
+        self.used.update(outside(accesses, [*accesses.touched, *accesses.folders]))
+        premises = own.layout.premises(trial)
+        outcome = self.pool.submit(self.replayed, own, trial, number)
+        self.started[number] = Started(premises, outcome)
+
+    def replayed(self, own: Replay, trial: Trial, number: int) -> Outcome:
+        """The outcome of a replay, which waits for a free processor."""
+        with self.slots:
+            return own.replay_safely(trial, number, frozenset())
+
+    def refuse_disturbed(self, accesses: Accesses) -> None:
+        """Raises Disturbed where a recipe that was recorded may have met a replay."""
+        if not self.started:
+            return
+        paths = outside(accesses, {**accesses.touched, **accesses.reads, **accesses.looked})
+        places_used = {os.path.dirname(path) for path in self.used}
+        if (
+            PROCESSES in accesses.listed
+            or not self.used.isdisjoint(paths)
+            or not places_used.isdisjoint(accesses.listed)
+        ):
+            raise Disturbed
+
+
+@contextlib.contextmanager
+def early_replays(
+    replay: Callable[[World, Writers, Early], Replay], targets: frozenset[Name], scratch: RealPath
+) -> Iterator[Early]:
+    """What starts replays early; one processor is left for the recording."""
+    os.makedirs(scratch, exist_ok=True)
+    jobs = processors()
+    with memory(unbound(scratch)) as found, ThreadPoolExecutor(jobs) as pool:
+        early = Early(replay, targets, pool, found, threading.Semaphore(jobs - 1))
+        try:
+            yield early
+        except BaseException:
+            early.stopped.set()
+            places.end_all()
+            pool.shutdown(wait=True, cancel_futures=True)
+            raise
+
+
+def outside(accesses: Accesses, paths: Iterable[SeenPath]) -> list[SeenPath]:
+    """Those of some paths that lie in folders for temporary files, and not in the project."""
+    folders = (*TEMPORARY, os.path.realpath(tempfile.gettempdir()), f"{DEVICES}/shm")
+    fronts = tuple(f"{folder}/" for folder in folders)
+    return [path for path in paths if path.startswith(fronts) and not accesses.tree.has(path)]
+
+
+def has_to_be_alone(accesses: Accesses) -> bool:
+    """Whether a recipe has to do with other processes than its own, so that its replay might
+    disturb a recording."""
+    met = (
+        *(accesses.sockets, accesses.ports, accesses.servers, accesses.channels),
+        *(accesses.locked, accesses.tried, accesses.strange, accesses.makes),
+    )
+    chosen = (
+        path
+        for path in outside(accesses, accesses.touched)
+        if path not in accesses.fresh and os.path.dirname(path) not in accesses.folders
+    )
+    return any(met) or PROCESSES in accesses.listed or any(chosen)
