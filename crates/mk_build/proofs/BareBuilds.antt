@@ -62,7 +62,7 @@ ended n = cond-false (not (nat_eq n n)) (n ∷ []) [] (ap not (eq-eqb n n refl))
 module _ (g : Graph) (goals : List ℕ) where
   -- a make in which these are done and nothing runs
   abbrev quiet : (seen : ℕ → FileName → Option (Option ℕ)) → (put : ℕ → FileName → Option ℕ) → List ℕ → Making
-  quiet seen put ns = record { jobs = 1; goals = goals; done = ns; running = []; seen = seen; put = put }
+  quiet seen put ns = record { jobs = 1; goals = goals; done = ns; running = []; broken = []; seen = seen; put = put }
 
   -- from this world the steps are legal, and lead to a make in which these are done and nothing runs
   record LeadsTo (from : World) (steps : List Step) (ns : List ℕ) : Type 0 where
@@ -76,7 +76,7 @@ module _ (g : Graph) (goals : List ℕ) where
   module _ (seen : ℕ → FileName → Option (Option ℕ)) (put : ℕ → FileName → Option ℕ) (disk : Disk) (nothing : WroteNothing disk.known) (ns : List ℕ) (n : ℕ) (may : CanStart g goals ns n) where
     -- a node without a recipe is passed
     pass_turn : (node g n).recipe ≡ false → LeadsTo (Busy (quiet seen put ns) disk) (Pass n ∷ []) (n ∷ ns)
-    pass_turn e = record { seen = changed_at seen n (λ f. None); put = changed_at put n (λ f. None); disk = disk; world = refl; nothing = nothing; legal = (((may, λ h. h), inl e), tt) }
+    pass_turn e = record { seen = changed_at seen n (λ f. None); put = changed_at put n (λ f. None); disk = disk; world = refl; nothing = nothing; legal = (((may, λ h. h, λ h. h), inl e), tt) }
 
     -- a recipe is run
     run_turn : (node g n).recipe ≡ true → LeadsTo (Busy (quiet seen put ns) disk) (Begin n ∷ End n ∷ []) (n ∷ ns)
@@ -94,9 +94,9 @@ module _ (g : Graph) (goals : List ℕ) where
           seen = changed_at m.seen n (λ f. None);
           put = changed_at m.put n (λ f. None);
           disk = noted disk o;
-          world = ap (λ (running : List ℕ). Busy (record { jobs = 1; goals = goals; done = n ∷ ns; running = running; seen = changed_at m.seen n (λ f. None); put = changed_at m.put n (λ f. None) }) (noted disk o)) (ended n);
+          world = ap (λ (running : List ℕ). Busy (record { jobs = 1; goals = goals; done = n ∷ ns; running = running; broken = []; seen = changed_at m.seen n (λ f. None); put = changed_at m.put n (λ f. None) }) (noted disk o)) (ended n);
           nothing = noted_nothing disk o nothing wrote;
-          legal = (((may, λ h. h), e, omega arith), (may_end, tt));
+          legal = (((may, λ h. h, λ h. h), e, omega arith), (may_end, tt));
         }
 
     -- a node has its turn
@@ -131,7 +131,7 @@ module _ (g : Graph) (goals : List ℕ) where
   begins_last o t part ns turns lacks may recipe =
       let a = all_turns part ns turns in
       let before : List Step = Make 1 goals ∷ steps_of g ns in
-      let begins : IsLegal g empty_setting (Busy (quiet a.seen a.put ns) a.disk) (Begin t ∷ []) = (((may, λ h. h), recipe, omega arith), tt) in
+      let begins : IsLegal g empty_setting (Busy (quiet a.seen a.put ns) a.disk) (Begin t ∷ []) = (((may, λ h. h, λ h. h), recipe, omega arith), tt) in
       let end : after_all g empty_setting (Idle empty_disk) (before ++ Begin t ∷ []) ≡ Busy (begun (quiet a.seen a.put ns) t) a.disk = fold-append (after g empty_setting) (Idle empty_disk) before (Begin t ∷ []) ∙ ap (λ (w : World). after_all g empty_setting w (Begin t ∷ [])) a.world in
       record {
         part = part;

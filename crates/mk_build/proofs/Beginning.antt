@@ -114,7 +114,7 @@ module _ (g : Graph) (s : Setting) (p : Runs) (start : ℕ) (m : Making) (d : Di
       seen = λ t f v runs read e. let old = seen_before t f v e in is.seen t f v (ran t old.0 runs) read old.1;
       put = λ t f c runs wrote e. let old = put_before t f c e in is.put t f c (ran t old.0 runs) wrote old.1;
       put_late = λ t f c stamp runs wrote e has. let old = put_before t f c e in let same = began_there t old.0 in let late = is.put_late t f c stamp (ran t old.0 runs) wrote old.1 has in omega arith;
-      waits = λ t not_done stopped. let same = began_there t (other t stopped) in let early = is.waits t not_done (λ runs. stopped (inr runs)) in omega arith;
+      waits = λ t not_done stopped not_broken. let same = began_there t (other t stopped) in let early = is.waits t not_done (λ runs. stopped (inr runs)) not_broken in omega arith;
       runs = λ t runs. ⊎_elim (λ same. let at = began_here t same in let came = is.start_came in omega arith) (λ differ. let same = began_there t differ in let late = is.runs t (ran t differ runs) in omega arith) (cases_eq x t);
     };
   }

@@ -40,8 +40,8 @@ module _ (g : Graph) (s : Setting) (p : Runs) (start : ℕ) (m : Making) (d : Di
   through_finished t clock step last was = record { stopped = λ runs. was.stopped (Has-without x t m.running runs).0; early = was.early; ended = was.ended; end_step = was.end_step }
 
   -- what waits now is another one, which waited
-  waits_finished : (t : ℕ) → ¬ (Has (x ∷ m.done) t) → ¬ (Has (finished m x).running t) → p.began t ≤ start
-  waits_finished t not_done stopped = is.waits t (λ done. not_done (inr done)) (stopped_before t stopped (λ same. not_done (inl same)))
+  waits_finished : (t : ℕ) → ¬ (Has (x ∷ m.done) t) → ¬ (Has (finished m x).running t) → ¬ (Has m.broken t) → p.began t ≤ start
+  waits_finished t not_done stopped not_broken = is.waits t (λ done. not_done (inr done)) (stopped_before t stopped (λ same. not_done (inl same))) not_broken
 
   -- what running recipes have seen and put is as before
   seen_finished : (t : ℕ) (f : FileName) (v : Option ℕ) → Has (finished m x).running t → (finished m x).seen t f ≡ Some v → Has m.running t × (m.seen t f ≡ Some v)

@@ -1,13 +1,14 @@
 -- The invariant holds in each state of each legal history, and at the end of a make its goals are built.
 use Rattle.std.proofs.Common.{◌≡◌, ℕ, List, [], ◌∷◌, true, Option, Some, None, inl, inr, ⊎_elim, refl, sym, ◌∙◌, ap, subst, arith}
+use Rattle.std.specs.Prelude.{if◌then◌else◌}
 use Rattle.std.specs.Option.{option_map}
 use Rattle.std.proofs.lemmas.Bool.{true≢false, cases_Bool}
 use Rattle.mk_graph.specs.Membership.{Has}
 use Rattle.mk_graph.specs.Graph.{Graph, node, IsGraph}
 use Rattle.mk_build.specs.Setting.{FileName, Setting, is_editable, name, reads, writes}
-use Rattle.mk_build.specs.World.{File, Disk, Making, World, Idle, Busy, IsStartDisk, content, HasStamp, written, disk_of, outcome}
+use Rattle.mk_build.specs.World.{File, Disk, Making, World, Idle, Busy, IsStartDisk, content, HasStamp, written, without, disk_of, outcome}
 use Rattle.mk_graph.specs.Schedules.{IsPart}
-use Rattle.mk_build.specs.Steps.{Step, Edit, Make, Begin, Look, Put, End, Pass, Stop, EndMake, MustRun, Ready, Allowed, after, make_of, finished, looked, has_put, IsLegal, after_all, disk_after}
+use Rattle.mk_build.specs.Steps.{Step, Edit, Make, Begin, Look, Put, End, Break, Pass, Stop, EndMake, MustRun, Ready, Allowed, after, make_of, finished, looked, has_put, broken_off, IsLegal, after_all, disk_after}
 use Rattle.mk_build.specs.Runs.{WholeRun, Runs, no_runs, runs_after, runs_after_all, runs_of}
 use Rattle.mk_build.specs.Clean.{IsFresh}
 use Rattle.mk_build.specs.Ways.{Carries}
@@ -21,6 +22,7 @@ use Rattle.mk_build.proofs.Putting.{put_holds, put_settled, look_holds}
 use Rattle.mk_build.proofs.Passing.{ready_ran_after, passed_is_up_to_date}
 use Rattle.mk_build.proofs.Beginning.{begin_holds, begin_settled}
 use Rattle.mk_build.proofs.Ending.{end_holds, end_settled, pass_holds, pass_settled}
+use Rattle.mk_build.proofs.Breaking.{broken_holds, broken_settled}
 use Rattle.mk_build.proofs.CleanEnd.{is_built}
 
 -- a file with a stamp is there
@@ -89,7 +91,7 @@ module _ (g : Graph) (s : Setting) (graph : IsGraph g) (sound : AreSound g s) wh
       seen = λ t f c runs. absurd runs;
       put = λ t f c runs. absurd runs;
       put_late = λ t f c stamp runs. absurd runs;
-      waits = λ t not_done stopped. fits.began t;
+      waits = λ t not_done stopped not_broken. fits.began t;
       runs = λ t runs. absurd runs;
     };
   }
@@ -107,6 +109,7 @@ module _ (g : Graph) (s : Setting) (graph : IsGraph g) (sound : AreSound g s) wh
     step_keeps p start (Idle d) (Look t f) is may = absurd may
     step_keeps p start (Idle d) (Put t f c) is may = absurd may
     step_keeps p start (Idle d) (End t) is may = absurd may
+    step_keeps p start (Idle d) (Break t removed) is may = absurd may
     step_keeps p start (Idle d) (Pass t) is may = absurd may
     step_keeps p start (Idle d) Stop is may = absurd may
     step_keeps p start (Idle d) EndMake is may = absurd may
@@ -116,6 +119,7 @@ module _ (g : Graph) (s : Setting) (graph : IsGraph g) (sound : AreSound g s) wh
     step_keeps p start (Busy m d) (Look t f) is may = holds_later g s p start (looked m t f (content d f)) d (look_holds g s p start m d is.fits is.make t f)
     step_keeps p start (Busy m d) (Put t f c) is may = holds_later g s p start (has_put m t f c) (written d f c) (put_holds g s graph sound no_race p start m d is.fits is.make t f c may.0 may.1)
     step_keeps p start (Busy m d) (End t) is may = end_holds g s p start m d is.fits is.make t may
+    step_keeps p start (Busy m d) (Break t removed) is may = holds_later g s p start (broken_off m t) (if removed then without d (name g t) else d) (broken_holds g s graph sound no_race p start m d is.fits is.make t may.0 removed may.1)
     step_keeps p start (Busy m d) (Pass n) is may = holds_later g s p start (finished m n) d (pass_holds g s p start m d is.fits is.make n may.0)
     step_keeps p start (Busy m d) Stop is may = fits_later g s p [] d (rest_after p start m d is may)
     step_keeps p start (Busy m d) EndMake is may = fits_later g s p [] d (rest_after p start m d is may.1)
@@ -159,6 +163,7 @@ module _ (g : Graph) (s : Setting) (graph : IsGraph g) (sound : AreSound g s) wh
     step_settles passes p start (Idle d) (Look t f) is may = absurd may
     step_settles passes p start (Idle d) (Put t f c) is may = absurd may
     step_settles passes p start (Idle d) (End t) is may = absurd may
+    step_settles passes p start (Idle d) (Break t removed) is may = absurd may
     step_settles passes p start (Idle d) (Pass t) is may = absurd may
     step_settles passes p start (Idle d) Stop is may = absurd may
     step_settles passes p start (Idle d) EndMake is may = absurd may
@@ -168,6 +173,7 @@ module _ (g : Graph) (s : Setting) (graph : IsGraph g) (sound : AreSound g s) wh
     step_settles passes p start (Busy m d) (Look t f) is may = up_later g s p start (looked m t f (content d f)) d is.1
     step_settles passes p start (Busy m d) (Put t f c) is may = up_later g s p start (has_put m t f c) (written d f c) (put_settled g s graph sound no_race p start m d is.0.fits is.0.make t f c may.0 may.1 is.1)
     step_settles passes p start (Busy m d) (End t) is may = end_settled g s p start m d is.0.fits is.0.make t may is.1
+    step_settles passes p start (Busy m d) (Break t removed) is may = up_later g s p start (broken_off m t) (if removed then without d (name g t) else d) (broken_settled g s graph sound no_race p start m d is.0.fits is.0.make t may.0 removed may.1 is.1)
     step_settles passes p start (Busy m d) (Pass n) is may = up_later g s p start (finished m n) d (pass_keeps_settled p start m d n is.0 is.1 (passes p start m d is.0 is.1) may)
     step_settles passes p start (Busy m d) Stop is may = tt
     step_settles passes p start (Busy m d) EndMake is may = tt

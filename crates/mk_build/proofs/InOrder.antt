@@ -7,7 +7,7 @@ use Rattle.mk_graph.specs.Graph.{Graph, node}
 use Rattle.mk_build.specs.Setting.{Setting}
 use Rattle.mk_build.specs.World.{Disk, Making, World, Idle, Busy}
 use Rattle.mk_graph.specs.Schedules.{CanStart, IsSchedule, IsPart}
-use Rattle.mk_build.specs.Steps.{Step, Edit, Make, Begin, Look, Put, End, Pass, Stop, EndMake, Ready, Allowed, after, finished, begun, IsLegal, after_all}
+use Rattle.mk_build.specs.Steps.{Step, Edit, Make, Begin, Look, Put, End, Break, Pass, Stop, EndMake, Ready, Allowed, after, finished, begun, broken_off, IsLegal, after_all}
 use Rattle.mk_graph.proofs.Turning.{CanStart-grow}
 
 -- what remains when one is taken out of a list
@@ -70,6 +70,15 @@ module _ (g : Graph) (m : Making) (is : InOrder g m) where
     running = λ x h. ⊎_elim (λ here. subst (λ (k : ℕ). CanStart g m.goals m.done k) here ready.0) (λ there. is.running x there) h;
   }
 
+  -- after a recipe broke off
+  pub broken_in_order : (t : ℕ) → InOrder g (broken_off m t)
+  broken_in_order t = record {
+    part = is.part;
+    turns = is.turns;
+    recipes = λ x h. is.recipes x (Has-without t x m.running h).0;
+    running = λ x h. is.running x (Has-without t x m.running h).0;
+  }
+
   -- after a node was done, whose turn had come
   pub finished_in_order : (t : ℕ) → CanStart g m.goals m.done t → InOrder g (finished m t)
   finished_in_order t may = record {
@@ -88,6 +97,7 @@ module _ (g : Graph) (s : Setting) where
   steps_in_order (Idle d) (Look t f) is may = absurd may
   steps_in_order (Idle d) (Put t f c) is may = absurd may
   steps_in_order (Idle d) (End t) is may = absurd may
+  steps_in_order (Idle d) (Break t removed) is may = absurd may
   steps_in_order (Idle d) (Pass t) is may = absurd may
   steps_in_order (Idle d) Stop is may = absurd may
   steps_in_order (Idle d) EndMake is may = absurd may
@@ -97,6 +107,7 @@ module _ (g : Graph) (s : Setting) where
   steps_in_order (Busy m d) (Look t f) is may = record { part = is.part; turns = is.turns; recipes = is.recipes; running = is.running }
   steps_in_order (Busy m d) (Put t f c) is may = record { part = is.part; turns = is.turns; recipes = is.recipes; running = is.running }
   steps_in_order (Busy m d) (End t) is may = finished_in_order g m is t (is.running t may.runs)
+  steps_in_order (Busy m d) (Break t removed) is may = broken_in_order g m is t
   steps_in_order (Busy m d) (Pass t) is may = finished_in_order g m is t may.0.0
   steps_in_order (Busy m d) Stop is may = tt
   steps_in_order (Busy m d) EndMake is may = tt

@@ -59,14 +59,14 @@ pub record IsUpToDate (g : Graph) (s : Setting) (p : Runs) (start : ℕ) (d : Di
   pub settled : (¬ (MustRun g d t)) ⊎ (start ≤ p.began t)
 
 -- A make in progress that began at this clock: what running recipes have seen and put is still there, put since they
--- began; what waits began no later than the make, and what runs no earlier.
+-- began; what waits and didn't break off began no later than the make, and what runs no earlier.
 pub record InMake (g : Graph) (s : Setting) (p : Runs) (start : ℕ) (m : Making) (d : Disk) : Type 0 where
   pub order : InOrder g m
   pub start_came : start ≤ d.clock
   pub seen : (t : ℕ) (f : FileName) (c : Option ℕ) → Has m.running t → Has (reads g s t) f → m.seen t f ≡ Some c → content d f ≡ c
   pub put : (t : ℕ) (f : FileName) (c : ℕ) → Has m.running t → Has (writes g s t) f → m.put t f ≡ Some c → content d f ≡ Some c
   pub put_late : (t : ℕ) (f : FileName) (c stamp : ℕ) → Has m.running t → Has (writes g s t) f → m.put t f ≡ Some c → HasStamp d f stamp → p.began t < stamp
-  pub waits : (t : ℕ) → ¬ (Has m.done t) → ¬ (Has m.running t) → p.began t ≤ start
+  pub waits : (t : ℕ) → ¬ (Has m.done t) → ¬ (Has m.running t) → ¬ (Has m.broken t) → p.began t ≤ start
   pub runs : (t : ℕ) → Has m.running t → start ≤ p.began t
 
 -- the invariant of a make in progress, of which nothing is asked that is done

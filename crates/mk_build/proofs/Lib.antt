@@ -8,6 +8,8 @@ pub mod Passing
 pub mod Beginning
 pub mod Outcomes
 pub mod Ending
+pub mod Removing
+pub mod Breaking
 pub mod CleanEnd
 pub mod Histories
 pub mod Coherence
@@ -23,4 +25,5 @@ pub mod StaleExists
 pub mod TurnLists
 pub mod Overlap
 pub mod Stopping
+pub mod BreakingOff
 pub mod ChainWays

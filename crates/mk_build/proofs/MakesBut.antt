@@ -186,7 +186,7 @@ module _ (g : Graph) (s : Setting) where
           let may_pass : ((node g n).recipe ≡ false) ⊎ (¬ (MustRun g goes.disk n)) = ⊎_elim (λ no. inl no) (λ is. ⊎_elim (λ recipe. inr (need_not n goes.disk is recipe goes.left.keeps)) (λ no. inl no) (cases_Bool (node g n).recipe)) why in
           subst (λ (k : World). IsLegal g s k (Pass n ∷ []) × Goes passed (n ∷ done) before
           (limit + length (writes g s n)) (after g s k (Pass n))) (sym goes.is) (
-            (((may, λ h. h), may_pass), tt),
+            (((may, λ h. h, λ h. h), may_pass), tt),
             record {
               seen = changed_at goes.seen n (λ f. None);
               put =

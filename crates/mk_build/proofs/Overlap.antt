@@ -239,7 +239,7 @@ module _ (g : Graph) (s : Setting) (d : Disk) (jobs : ℕ) (goals ns : List ℕ)
       let first = begins g s a b differ a puts_a now arrived.disk (inr (inl refl)) a_many (λ saw. arrived.unknown a saw a_may.not_done) in
       let second = begins g s a b differ b puts_b now arrived.disk (inl refl) b_many (λ saw. arrived.unknown b saw b_may.not_done) in
       let goes = goes_on g s a b differ together now arrived.disk (length (writes g s a)) (length (writes g s b)) (omega arith) first second in
-      subst (λ (k : World). IsLegal g s k (begin_both a b ++ between)) (sym arrived.is) (((a_may, λ h. h), a_recipe, omega arith), (((b_may, λ h. ⊎_elim differ (λ none. none) h), b_recipe, omega arith), goes))
+      subst (λ (k : World). IsLegal g s k (begin_both a b ++ between)) (sym arrived.is) (((a_may, λ h. h, λ h. h), a_recipe, omega arith), (((b_may, λ h. ⊎_elim differ (λ none. none) h, λ h. h), b_recipe, omega arith), goes))
 
   -- the whole history is legal
   pub overlap_is_legal : IsLegal g s (Idle d) (overlapping jobs goals before a b between)

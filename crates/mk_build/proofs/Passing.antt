@@ -141,7 +141,7 @@ module _ (g : Graph) (s : Setting) (graph : IsGraph g) (sound : AreSound g s) (p
   module _ (t : ℕ) (ready : Ready g m t) (recipe : (node g t).recipe ≡ true) (need_not : ¬ (MustRun g d t)) where
     -- a ready recipe that need not run is one on the way
     ready_is_passed : IsPassed t
-    ready_is_passed = record { recipe = recipe; need_not = need_not; stopped = ready.1; waited = is.waits t ready.0.not_done ready.1; before = λ o before. before recipe m.goals m.done is.order.part is.order.turns ready.0 }
+    ready_is_passed = record { recipe = recipe; need_not = need_not; stopped = ready.1; waited = is.waits t ready.0.not_done ready.1 ready.2; before = λ o before. before recipe m.goals m.done is.order.part is.order.turns ready.0 }
 
     -- it is as its last whole run left it
     ready_ran_whole : (run : WholeRun) × RanWhole g s p run d t

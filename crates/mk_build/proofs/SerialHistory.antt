@@ -113,7 +113,7 @@ module _ (g : Graph) (s : Setting) (outcomes : List Outcome) (jobs : ℕ) (goals
   passed n done at clock w arrived none may =
       subst (λ (k : World). IsLegal g s k (Pass n ∷ []) × Arrives g s jobs goals (n ∷ done) at
       (clock + length (writes g s n)) (after g s k (Pass n))) (sym arrived.is) (
-        (((may, λ h. h), inl none), tt),
+        (((may, λ h. h, λ h. h), inl none), tt),
         record {
           seen = changed_at arrived.seen n (λ f. None);
           put =

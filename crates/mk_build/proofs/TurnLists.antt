@@ -88,5 +88,5 @@ module _ (g : Graph) (s : Setting) (d : Disk) (goals ns : List ℕ) (t : ℕ) (s
       let last : IsLegal g s (after_all g s begin steps) (Begin t ∷ [])
       × RunsAlone ns t (after_all g s (after_all g s begin steps) (Begin t ∷ [])) = subst
       (λ (w : World). IsLegal g s w (Begin t ∷ []) × RunsAlone ns t (after_all g s w (Begin t ∷ [])))
-      (sym goes.2.is) (((((may, λ h. h), recipe, omega arith), tt)), (refl, refl)) in
+      (sym goes.2.is) (((((may, λ h. h, λ h. h), recipe, omega arith), tt)), (refl, refl)) in
       (((omega arith, part), legal_append g s begin steps (Begin t ∷ []) goes.1 last.0), subst (λ (w : World). RunsAlone ns t w) (sym (after_append g s begin steps (Begin t ∷ []))) last.1)

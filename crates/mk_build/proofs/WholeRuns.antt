@@ -164,7 +164,7 @@ module _ (g : Graph) (s : Setting) where
 
   -- a make in which nothing runs
   abbrev pub quiet : (jobs : ℕ) (goals done : List ℕ) (seen : ℕ → FileName → Option (Option ℕ)) (put : ℕ → FileName → Option ℕ) → Making
-  quiet jobs goals done seen put = record { jobs = jobs; goals = goals; done = done; running = []; seen = seen; put = put }
+  quiet jobs goals done seen put = record { jobs = jobs; goals = goals; done = done; running = []; broken = []; seen = seen; put = put }
 
   -- The contents that a recipe is to put agree with what is known: nothing is of a run that sees the same, or these are,
   -- one content for each name.
@@ -256,7 +256,7 @@ module _ (g : Graph) (s : Setting) where
         put = changed_at its_writes.put t (λ f. None);
         disk = its_writes.disk;
         result = result;
-        is = ap (λ (l : List ℕ). Busy (record { jobs = jobs; goals = goals; done = t ∷ done; running = l; seen = changed_at its_looks.seen t (λ f. None); put = changed_at its_writes.put t (λ f. None) }) (noted its_writes.disk result)) (none_left t);
+        is = ap (λ (l : List ℕ). Busy (record { jobs = jobs; goals = goals; done = t ∷ done; running = l; broken = []; seen = changed_at its_looks.seen t (λ f. None); put = changed_at its_writes.put t (λ f. None) }) (noted its_writes.disk result)) (none_left t);
         result_recipe = refl;
         result_saw = it_saw;
         result_is = (λ f. unwrap_or (its_writes.put t f) 0, refl);
@@ -293,7 +293,7 @@ module _ (g : Graph) (s : Setting) where
           let start = Busy running d in
           let looking = map (λ f. Look t f) (reads g s t) in (
             (
-              ((may, λ h. h), recipe, omega arith),
+              ((may, λ h. h, λ h. h), recipe, omega arith),
               legal_append start looking ending its_looks.legal
                   (subst (λ (w : World). IsLegal g s w ending) (sym its_looks.leaves) ending_legal.0),
             ),

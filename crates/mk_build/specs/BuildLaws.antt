@@ -5,7 +5,7 @@ use Rattle.mk_graph.specs.Graph.{Graph, node, HasNoCycle, IsGraph, IsSound}
 use Rattle.mk_build.specs.Setting.{FileName, Setting, IsNumberOf, reads, writes, writings}
 use Rattle.mk_build.specs.World.{Outcome, Disk, Making, World, Idle, Busy, IsStartDisk, IsFirstDisk, HasStampsFor, HoldJust}
 use Rattle.mk_graph.specs.Schedules.{CanStart, IsSchedule, IsPart, Before}
-use Rattle.mk_build.specs.Steps.{Step, Make, Begin, Look, Put, End, Pass, Stop, Ready, make_of, IsLegal, after_all, disk_after}
+use Rattle.mk_build.specs.Steps.{Step, Make, Begin, Look, Put, End, Break, Pass, Stop, Ready, make_of, IsLegal, after_all, disk_after}
 use Rattle.mk_build.specs.Clean.{Contents, given_contents, clean_build}
 use Rattle.mk_graph.specs.Serial.{order_from}
 use Rattle.mk_build.specs.SerialMake.{RunsSerially, one_make}
@@ -114,6 +114,7 @@ IsInside (Begin t) = Unit {0}
 IsInside (Look t f) = Unit {0}
 IsInside (Put t f c) = Unit {0}
 IsInside (End t) = Unit {0}
+IsInside (Break t removed) = Unit {0}
 IsInside (Pass n) = Unit {0}
 IsInside other = ⊥
 
@@ -123,7 +124,8 @@ AreInside [] = Unit {0}
 AreInside (step ∷ steps) = IsInside step × AreInside steps
 
 -- If footprints are sound and there is no race, then one make of any part of the goals from a start
--- disk builds those goals, with any number of jobs and any overlap of recipes.
+-- disk builds those goals, if it ends, with any number of jobs and any overlap of recipes. Recipes
+-- may break off.
 abbrev pub OneBuildIsRight : Type 0
 OneBuildIsRight =
     (g : Graph) (s : Setting) → IsGraph g → AreSound g s → HaveNoRace g s →
@@ -133,7 +135,7 @@ OneBuildIsRight =
 
 -- If footprints are sound, there is no race, and each read of a file that can change has a way,
 -- then every trace is right: after each finished make, with any number of jobs, in any order of
--- steps, after any edits, makes and stops, the goals of that make are built.
+-- steps, after any edits, makes, stops and recipes that broke off, the goals of that make are built.
 abbrev pub AcceptedIsRight : Type 0
 AcceptedIsRight =
     (g : Graph) (s : Setting) → IsGraph g → AreSound g s → HaveNoRace g s → HaveWays g s →

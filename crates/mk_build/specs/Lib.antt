@@ -15,3 +15,4 @@ pub mod RunLaws
 pub mod EmptyInputs
 pub mod BuildLaws
 pub mod CoherenceLaws
+pub mod BreakLaws

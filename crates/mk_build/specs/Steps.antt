@@ -1,14 +1,15 @@
 -- The steps of builds: which are allowed in a world, and how each changes it.
-use Rattle.std.specs.Prelude.{◌≡◌, ℕ, ◌<◌, List, [], ◌∷◌, length, map, filter, not, true, false, Option, Some, None, IfSome, is_some, unwrap_or, if◌then◌else◌, nat_eq, fold, ◌⊎◌}
+use Rattle.std.specs.Prelude.{◌≡◌, ℕ, ◌<◌, List, [], ◌∷◌, length, map, filter, not, Bool, true, false, Option, Some, None, IfSome, is_some, unwrap_or, if◌then◌else◌, nat_eq, fold, ◌⊎◌}
 use Rattle.std.specs.Option.{option_flatten}
 use Rattle.mk_graph.specs.Membership.{Has}
 use Rattle.mk_graph.specs.Graph.{Graph, node, prerequisites}
 use Rattle.mk_build.specs.Setting.{FileName, Setting, is_editable, name, reads, writes, IsAlwaysMade}
-use Rattle.mk_build.specs.World.{Outcome, Disk, Making, World, Idle, Busy, disk_of, content, HasStamp, changed, last_stamp, written, outcome}
+use Rattle.mk_build.specs.World.{Outcome, Disk, Making, World, Idle, Busy, disk_of, content, HasStamp, changed, last_stamp, written, without, outcome}
 use Rattle.mk_graph.specs.Schedules.{HasAll, CanStart, IsPart}
 
 -- What can happen: a file is edited, a make begins, and within a make a recipe begins, reads a
--- file, writes a file or ends, a node is passed, and the make is stopped or ends.
+-- file, writes a file, ends or breaks off, a node is passed, and the make is stopped or ends. A
+-- recipe breaks off if it fails or is killed; its target may be removed then.
 pub data Step : Type 0 where
   Edit : (file : FileName) (content : ℕ) → Step
   Make : (jobs : ℕ) (goals : List ℕ) → Step
@@ -16,6 +17,7 @@ pub data Step : Type 0 where
   Look : (recipe : ℕ) (file : FileName) → Step
   Put : (recipe : ℕ) (file : FileName) (content : ℕ) → Step
   End : (recipe : ℕ) → Step
+  Break : (recipe : ℕ) (removed : Bool) → Step
   Pass : (node : ℕ) → Step
   Stop : Step
   EndMake : Step
@@ -28,9 +30,9 @@ MustRun g d t =
     ((p stamp later : ℕ) × Has (prerequisites g t) p × HasStamp d (name g t) stamp ×
     HasStamp d (name g p) later × (stamp < later))
 
--- A node is ready: it can start and isn't running.
+-- A node is ready: it can start, isn't running, and didn't break off in this make.
 abbrev pub Ready : Graph → Making → ℕ → Type 0
-Ready g m n = CanStart g m.goals m.done n × (¬ (Has m.running n))
+Ready g m n = CanStart g m.goals m.done n × (¬ (Has m.running n)) × (¬ (Has m.broken n))
 
 -- What a running recipe has read, in the order of its reads.
 abbrev pub seen_by : Graph → Setting → Making → ℕ → List (Option ℕ)
@@ -61,6 +63,12 @@ pub record MayEnd (g : Graph) (s : Setting) (m : Making) (d : Disk) (t : ℕ) : 
   pub put : HasPutAll g s m t
   pub agrees : HasPutWhatIsKnown g s m d t
 
+-- A recipe that breaks off is left to run: its target, which it writes, is removed, or it must run
+-- on the disk as it is.
+abbrev pub IsLeftToRun : Graph → Setting → Disk → ℕ → (removed : Bool) → Type 0
+IsLeftToRun g s d t true = Has (writes g s t) (name g t)
+IsLeftToRun g s d t false = MustRun g d t
+
 -- The step is allowed in the world.
 abbrev pub Allowed : Graph → Setting → World → Step → Type 0
 Allowed g s (Idle d) (Edit f c) = (is_editable s f ≡ true) × (d.clock < last_stamp)
@@ -70,6 +78,7 @@ Allowed g s (Busy m d) (Begin t) =
 Allowed g s (Busy m d) (Look t f) = Has m.running t × Has (reads g s t) f
 Allowed g s (Busy m d) (Put t f c) = Has m.running t × Has (writes g s t) f × (d.clock < last_stamp)
 Allowed g s (Busy m d) (End t) = MayEnd g s m d t
+Allowed g s (Busy m d) (Break t removed) = Has m.running t × IsLeftToRun g s d t removed
 Allowed g s (Busy m d) (Pass n) = Ready g m n × (((node g n).recipe ≡ false) ⊎ (¬ (MustRun g d n)))
 Allowed g s (Busy m d) Stop = m.running ≡ []
 Allowed g s (Busy m d) EndMake = HasAll m.done m.goals × (m.running ≡ [])
@@ -87,6 +96,7 @@ make_of jobs goals =
       goals = goals;
       done = [];
       running = [];
+      broken = [];
       seen = λ t f. None;
       put = λ t f.
           None;
@@ -121,6 +131,18 @@ finished m t =
       put = changed_at m.put t (λ f. None);
     }
 
+-- The make after a running recipe broke off: it no longer runs, and what it read and wrote is
+-- forgotten.
+abbrev pub broken_off : Making → ℕ → Making
+broken_off m t =
+    record m {
+      running = filter (λ n. not (nat_eq t n)) m.running;
+      broken = t ∷
+          m.broken;
+      seen = changed_at m.seen t (λ f. None);
+      put = changed_at m.put t (λ f. None);
+    }
+
 -- The disk with this outcome added, unless one is known for the same recipe and reads.
 abbrev pub noted : Disk → Outcome → Disk
 noted d o =
@@ -139,6 +161,8 @@ after g s (Busy m d) (End t) =
       seen = seen_by g s m t;
       written = put_by g s m t;
     }))
+after g s (Busy m d) (Break t removed) =
+    Busy (broken_off m t) (if removed then without d (name g t) else d)
 after g s (Busy m d) (Pass n) = Busy (finished m n) d
 after g s (Busy m d) Stop = Idle d
 after g s (Busy m d) EndMake = Idle d

@@ -30,13 +30,14 @@ pub record Disk : Type 0 where
   pub known : List Outcome
 
 -- A make in progress: how many recipes may run at once, its goals, the nodes done (the last one
--- first), the running recipes, and what each of these has read and written in this run (IEEE Std
--- 1003.1-2024, XCU make, option `-j` for the jobs).
+-- first), the running recipes, those that broke off, and what each running one has read and written
+-- in this run (IEEE Std 1003.1-2024, XCU make, option `-j` for the jobs).
 pub record Making : Type 0 where
   pub jobs : ℕ
   pub goals : List ℕ
   pub done : List ℕ
   pub running : List ℕ
+  pub broken : List ℕ
   pub seen : ℕ → FileName → Option (Option ℕ)
   pub put : ℕ → FileName → Option ℕ
 
@@ -85,6 +86,10 @@ written d f c =
       files = changed d.files f (Some (record { content = c; stamp = d.clock + 1 }));
       clock = d.clock + 1;
     }
+
+-- The disk without this file.
+abbrev pub without : Disk → FileName → Disk
+without d f = record d { files = changed d.files f None }
 
 -- Whether both lists of seen contents are the same.
 abbrev pub same_seen : List (Option ℕ) → List (Option ℕ) → Bool

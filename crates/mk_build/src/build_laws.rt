@@ -1,6 +1,7 @@
 //! Laws of builds. Each is the contract of an empty function; calling the function gives the law.
 
 ghost use Rattle.mk_build.specs.BuildLaws.{FirstIsAStart, SerialMakeIsLegal, BeforeHoldsInHistories, NotBeforeIsShown, ReadyRecipesRunTogether, OneBuildIsRight, AcceptedIsRight, StaleIsShown, StaleHistoryExists, SchedulesRun, ScheduleHistoryExists, RecipesOverlap, MakesCanBeStopped, WaysGoOverChains, NamesHaveOneNumber};
+ghost use Rattle.mk_build.specs.BreakLaws.{RecipesCanBreakOff, OthersGoOn, BrokenIsNotBegunAgain};
 ghost use Rattle.mk_build.specs.CoherenceLaws.{StartIsCoherent, CoherenceIsKept, CoherentIsRight, CoherentIsFresh, HandEditsAreNotCoherent};
 ghost use Rattle.mk_build.specs.RunLaws.{LastRunsSawWhatIsThere, CarriedRanBefore};
 
@@ -41,7 +42,7 @@ pub fn one_build_is_right()
 {}
 
 /// If footprints are sound, there is no race, and each read of a file that can change has a way,
-/// then every trace is right.
+/// then every trace is right. Recipes in it may fail or be killed.
 pub fn accepted_is_right()
     ensures { AcceptedIsRight }
 {}
@@ -112,6 +113,22 @@ pub fn recipes_overlap()
 /// and a make of any part of the goals may begin.
 pub fn makes_can_be_stopped()
     ensures { MakesCanBeStopped }
+{}
+
+/// A running recipe that writes its target may break off, so that the target is removed; one that
+/// must run may break off, so that each file stays.
+pub fn recipes_can_break_off()
+    ensures { RecipesCanBreakOff }
+{}
+
+/// After a recipe broke off, another ready recipe may begin in its place.
+pub fn others_go_on()
+    ensures { OthersGoOn }
+{}
+
+/// A recipe that broke off isn't begun again in the same make.
+pub fn broken_is_not_begun_again()
+    ensures { BrokenIsNotBegunAgain }
 {}
 
 /// In each trace from a start disk, if footprints are sound and there is no race, each file that a

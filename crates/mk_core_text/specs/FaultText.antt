@@ -218,7 +218,7 @@ verify_fault_text form (cert.Static found) =
     refusal_with form 76 (codes "Static") (finding.text found ∷ [])
 verify_fault_text form cert.Memory = no_memory
 
--- The text of why a step refuses this line of a plan (59 to 70, 77).
+-- The text of why a step refuses this line of a plan (59 to 70, 77, 78).
 unfoldable pub step_fault_text_in : Form → ℕ → StepFault → List ℕ
 step_fault_text_in form line step.ClockSpent = refusal_of_line form 59 (codes "ClockSpent") line
 step_fault_text_in form line step.OtherOutcome = refusal_of_line form 60 (codes "OtherOutcome") line
@@ -234,6 +234,8 @@ step_fault_text_in form line step.NotAllDone = refusal_of_line form 68 (codes "N
 step_fault_text_in form line step.PlanLine = refusal_of_line form 69 (codes "PlanLine") line
 step_fault_text_in form line step.NotEditable = refusal_of_line form 70 (codes "NotEditable") line
 step_fault_text_in form line step.NotAGoal = refusal_of_line form 77 (codes "NotAGoal") line
+step_fault_text_in form line step.NotLeftToRun =
+    refusal_of_line form 78 (codes "NotLeftToRun") line
 step_fault_text_in form line step.Memory = no_memory
 
 -- The text of a fault, without a newline.

@@ -306,6 +306,7 @@ fn step_fault_text_in(
         StepFault::PlanLine => refusal_of_line(alloc, form, 69, "PlanLine", line),
         StepFault::NotEditable => refusal_of_line(alloc, form, 70, "NotEditable", line),
         StepFault::NotAGoal => refusal_of_line(alloc, form, 77, "NotAGoal", line),
+        StepFault::NotLeftToRun => refusal_of_line(alloc, form, 78, "NotLeftToRun", line),
         StepFault::Memory => no_memory(alloc),
     }
 }

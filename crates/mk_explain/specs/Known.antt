@@ -80,6 +80,7 @@ fault_names =
     (69, codes "BadPlanLine") ∷
     (70, codes "NotEditable") ∷
     (77, codes "NotAGoal") ∷
+    (78, codes "NotLeftToRun") ∷
     (71, codes "CertificateNotJson") ∷
     (72, codes "CertificateShape") ∷
     (73, codes "OtherGoals") ∷

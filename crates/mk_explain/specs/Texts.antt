@@ -114,7 +114,8 @@ plans_text number =
     (if number == 68 then Some plans.NOT_ALL_DONE.now else
     (if number == 69 then Some plans.PLAN_LINE.now else
     (if number == 70 then Some plans.NOT_EDITABLE.now else
-    (if number == 77 then Some plans.NOT_A_GOAL.now else None)))))))))))))
+    (if number == 77 then Some plans.NOT_A_GOAL.now else
+    (if number == 78 then Some plans.NOT_LEFT_TO_RUN.now else None))))))))))))))
 
 -- The texts of faults of certificates.
 unfoldable pub certificates_text : ℕ → Option (List ℕ)

@@ -15,7 +15,7 @@ type Row = (u32, &'static str, &'static str);
 
 /// The number of each fault, its name, and a sentence. Where faults share a number, the first one
 /// stands for all.
-pub const FAULTS: [(u32, &str, &str); 65] = [
+pub const FAULTS: [(u32, &str, &str); 66] = [
     (
         1,
         "NulByte",
@@ -282,6 +282,11 @@ pub const FAULTS: [(u32, &str, &str); 65] = [
         77,
         "NotAGoal",
         "a target of `make` is no goal; give it as a goal",
+    ),
+    (
+        78,
+        "NotLeftToRun",
+        "a broken recipe would not have to run; write `removed`",
     ),
     (
         71,

@@ -128,7 +128,7 @@ the world.
     make 0
 
 A make has 1 to 4,096 jobs. The lines of plans begin with `make`, `begin`,
-`look`, `put`, `done`, `finish`, `run`, `pass`, `end`, `stop` or `edit`.
+`look`, `put`, `done`, `break`, `finish`, `run`, `pass`, `end`, `stop` or `edit`.
 ";
 
 /// `NotEditable` (70).
@@ -150,6 +150,22 @@ pub const NOT_A_GOAL: &str = "\
 Name a goal of the command line, or give the target as a goal there.
 ";
 
+/// `NotLeftToRun` (78).
+pub const NOT_LEFT_TO_RUN: &str = "\
+`refused 78 line N`: a recipe is to break off, and would not have to run again:
+its target isn't removed and it need not run, or the target that is removed
+isn't among the files that it writes by its record.
+
+    make 1
+    run b
+    stop
+    make 1
+    begin b
+    break b
+
+Write `break b removed`, or `finish b`.
+";
+
 /// The text of the fault with this number, if it is one of these.
 #[tactic(auto, unfolding(crate::specs::Texts::plans_text))]
 pub fn plans_text(number: u32) -> Option<&'static str>
@@ -169,6 +185,7 @@ pub fn plans_text(number: u32) -> Option<&'static str>
         69 => Some(PLAN_LINE),
         70 => Some(NOT_EDITABLE),
         77 => Some(NOT_A_GOAL),
+        78 => Some(NOT_LEFT_TO_RUN),
         _ => None,
     }
 }

@@ -9,7 +9,7 @@ use Rattle.mk_graph.specs.Laws.{OrderOfAllGoals, SerialReachesEachOnce}
 use Rattle.mk_graph.specs.Membership.{Has, IsWithin}
 use Rattle.mk_build.specs.Setting.{Setting, name, writings}
 use Rattle.mk_build.specs.World.{Disk, World, Idle, Busy, IsFirstDisk, last_stamp}
-use Rattle.mk_build.specs.Steps.{Step, Edit, Make, Begin, Look, Put, End, Pass, Stop, EndMake, Allowed, IsLegal, after, after_all, make_of}
+use Rattle.mk_build.specs.Steps.{Step, Edit, Make, Begin, Look, Put, End, Break, Pass, Stop, EndMake, Allowed, IsLegal, after, after_all, make_of}
 use Rattle.mk_build.specs.Stale.{stale_history}
 use Rattle.mk_build.specs.ScheduleMake.{until_begin}
 use Rattle.mk_graph.specs.Schedules.{IsScheduleWithout, HasAll, CanStart, IsSchedule, Wanted, goal, onward}
@@ -34,6 +34,7 @@ IsLow g (Begin t) = t < length g.nodes
 IsLow g (Look t f) = t < length g.nodes
 IsLow g (Put t f c) = t < length g.nodes
 IsLow g (End t) = t < length g.nodes
+IsLow g (Break t removed) = t < length g.nodes
 IsLow g (Pass n) = n < length g.nodes
 IsLow g other = Unit {0}
 
@@ -49,6 +50,7 @@ module _ (g : Graph) (sound : IsSound g) where
   name_step (Look t f) low = (by_name.Look (name g t) f, ap (λ (n : ℕ). Look n f) (number_is g t sound low))
   name_step (Put t f c) low = (by_name.Put (name g t) f c, ap (λ (n : ℕ). Put n f c) (number_is g t sound low))
   name_step (End t) low = (by_name.End (name g t), ap (λ (n : ℕ). End n) (number_is g t sound low))
+  name_step (Break t removed) low = (by_name.Break (name g t) removed, ap (λ (n : ℕ). Break n removed) (number_is g t sound low))
   name_step (Pass n) low = (by_name.Pass (name g n), ap (λ (k : ℕ). Pass k) (number_is g n sound low))
   name_step Stop low = (by_name.Stop, refl)
   name_step EndMake low = (by_name.EndMake, refl)
@@ -103,6 +105,7 @@ module _ (g : Graph) (s : Setting) (is : IsGraph g) where
   step_low (Idle d) (Look t f) low allowed = absurd allowed
   step_low (Idle d) (Put t f c) low allowed = absurd allowed
   step_low (Idle d) (End t) low allowed = absurd allowed
+  step_low (Idle d) (Break t removed) low allowed = absurd allowed
   step_low (Idle d) (Pass n) low allowed = absurd allowed
   step_low (Idle d) Stop low allowed = absurd allowed
   step_low (Idle d) EndMake low allowed = absurd allowed
@@ -114,6 +117,7 @@ module _ (g : Graph) (s : Setting) (is : IsGraph g) where
   step_low (Busy m d) (Look t f) low allowed = (low.1 t allowed.0, low)
   step_low (Busy m d) (Put t f c) low allowed = (low.1 t allowed.0, low)
   step_low (Busy m d) (End t) low allowed = (low.1 t allowed.runs, (low.0, finished_low t m.running low.1))
+  step_low (Busy m d) (Break t removed) low allowed = (low.1 t allowed.0, (low.0, finished_low t m.running low.1))
   step_low (Busy m d) (Pass n) low allowed = (may_turn_low m.goals m.done n low.0 allowed.0.0, (low.0, finished_low n m.running low.1))
   step_low (Busy m d) Stop low allowed = (tt, tt)
   step_low (Busy m d) EndMake low allowed = (tt, tt)

@@ -15,7 +15,7 @@ use Rattle.mk_world.specs.Steps.{Takes}
 use Rattle.mk_build.specs.Steps.{changed_at, looked, has_put, HasSeenAll, HasPutAll, HasPutWhatIsKnown, seen_by, put_by}
 use Rattle.mk_build.specs.Steps as model
 use Rattle.mk_world.specs.Tables.{look}
-use Rattle.mk_world.specs.State.{Scene, MakeState, RunState, setting, making_of, run_at, no_run, begun, finished, start_of, DiskState, disk_of, busy, world_in, HasLooked, HasPut}
+use Rattle.mk_world.specs.State.{Scene, MakeState, RunState, setting, making_of, run_at, no_run, begun, broken_off, finished, start_of, DiskState, disk_of, busy, world_in, HasLooked, HasPut}
 use Rattle.mk_world.specs.Fits.{Fits}
 use Rattle.mk_world.proofs.Makes.{changed_run}
 use Rattle.mk_world.proofs.Tables.{look_nothing}
@@ -40,21 +40,21 @@ unchanged_at at t = λ i n. same n i
     ]
 
 -- one run becomes another
-pub making_with : (scene : Scene) (m : MakeState) (done running : List ℕ) (t : ℕ) (run : RunState) (a : FileName → Option (Option ℕ)) (b : FileName → Option ℕ) → t < length m.runs
+pub making_with : (scene : Scene) (m : MakeState) (done running broken : List ℕ) (t : ℕ) (run : RunState) (a : FileName → Option (Option ℕ)) (b : FileName → Option ℕ) → t < length m.runs
     → look (reads scene.graph (setting scene) t) run.looks ≡ a → look (writes scene.graph (setting scene) t) run.puts ≡ b
-    → making_of scene (record { jobs = m.jobs; goals = m.goals; done = done; running = running; runs = set m.runs t run })
-    ≡ record { jobs = m.jobs; goals = m.goals; done = done; running = running; seen = changed_at (making_of scene m).seen t a; put = changed_at (making_of scene m).put t b }
-making_with scene m done running t run a b lt is_a is_b =
+    → making_of scene (record { jobs = m.jobs; goals = m.goals; done = done; running = running; broken = broken; runs = set m.runs t run })
+    ≡ record { jobs = m.jobs; goals = m.goals; done = done; running = running; broken = broken; seen = changed_at (making_of scene m).seen t a; put = changed_at (making_of scene m).put t b }
+making_with scene m done running broken t run a b lt is_a is_b =
     let seen = λ (n : ℕ). changed_run (λ k (r : RunState). look (reads scene.graph (setting scene) k) r.looks) no_run m.runs t run lt n ∙ ap (λ (x : FileName → Option (Option ℕ)). changed_at (making_of scene m).seen t x n) is_a in
     let put = λ (n : ℕ). changed_run (λ k (r : RunState). look (writes scene.graph (setting scene) k) r.puts) no_run m.runs t run lt n ∙ ap (λ (x : FileName → Option ℕ). changed_at (making_of scene m).put t x n) is_b in
-    λ i. record { jobs = m.jobs; goals = m.goals; done = done; running = running; seen = λ n. seen n i; put = λ n. put n i }
+    λ i. record { jobs = m.jobs; goals = m.goals; done = done; running = running; broken = broken; seen = λ n. seen n i; put = λ n. put n i }
 
 -- it still fits
-pub with_fits : (scene : Scene) (m : MakeState) → Fits scene m → (done running : List ℕ) (t : ℕ) (run : RunState) → t < length scene.graph.nodes
+pub with_fits : (scene : Scene) (m : MakeState) → Fits scene m → (done running broken : List ℕ) (t : ℕ) (run : RunState) → t < length scene.graph.nodes
     → ((n : ℕ) → Has running n → ¬ (n ≡ t) → Has m.running n)
     → (Has running t → (length run.looks ≡ length (reads scene.graph (setting scene) t)) × (length run.puts ≡ length (writes scene.graph (setting scene) t)))
-    → Fits scene (record { jobs = m.jobs; goals = m.goals; done = done; running = running; runs = set m.runs t run })
-with_fits scene m fits done running t run low others this =
+    → Fits scene (record { jobs = m.jobs; goals = m.goals; done = done; running = running; broken = broken; runs = set m.runs t run })
+with_fits scene m fits done running broken t run low others this =
     record {
       goals = fits.goals;
       many = length-set m.runs t run ∙ fits.many;
@@ -93,8 +93,8 @@ looked_leaves scene m new t names f c same lt h =
     let looks = subst (λ (l : List FileName). look l h.run.looks ≡ changed (look l (run_at m.runs t).looks) f (Some c)) same h.looks in
     let puts = ap (λ ps. look (writes scene.graph (setting scene) t) ps) h.puts in
     ap (making_of scene) h.becomes
-    ∙ (making_with scene m m.done m.running t h.run (changed (before.seen t) f (Some c)) (before.put t) lt looks puts
-    ∙ (λ i. record { jobs = m.jobs; goals = m.goals; done = m.done; running = m.running; seen = changed_at before.seen t (changed (before.seen t) f (Some c)); put = unchanged_at before.put t i }))
+    ∙ (making_with scene m m.done m.running m.broken t h.run (changed (before.seen t) f (Some c)) (before.put t) lt looks puts
+    ∙ (λ i. record { jobs = m.jobs; goals = m.goals; done = m.done; running = m.running; broken = m.broken; seen = changed_at before.seen t (changed (before.seen t) f (Some c)); put = unchanged_at before.put t i }))
 
 -- so is a put
 pub put_leaves : (scene : Scene) (m new : MakeState) (t : ℕ) (names : List FileName) (f : FileName) (c : ℕ) → names ≡ writes scene.graph (setting scene) t → t < length m.runs → HasPut m new t names f c → making_of scene new ≡ has_put (making_of scene m) t f c
@@ -103,37 +103,44 @@ put_leaves scene m new t names f c same lt h =
     let puts = subst (λ (l : List FileName). look l h.run.puts ≡ changed (look l (run_at m.runs t).puts) f (Some c)) same h.puts in
     let looks = ap (λ ls. look (reads scene.graph (setting scene) t) ls) h.looks in
     ap (making_of scene) h.becomes
-    ∙ (making_with scene m m.done m.running t h.run (before.seen t) (changed (before.put t) f (Some c)) lt looks puts
-    ∙ (λ i. record { jobs = m.jobs; goals = m.goals; done = m.done; running = m.running; seen = unchanged_at before.seen t i; put = changed_at before.put t (changed (before.put t) f (Some c)) }))
+    ∙ (making_with scene m m.done m.running m.broken t h.run (before.seen t) (changed (before.put t) f (Some c)) lt looks puts
+    ∙ (λ i. record { jobs = m.jobs; goals = m.goals; done = m.done; running = m.running; broken = m.broken; seen = unchanged_at before.seen t i; put = changed_at before.put t (changed (before.put t) f (Some c)) }))
 
 -- so is an end or a pass
 pub finished_leaves : (scene : Scene) (m : MakeState) (t : ℕ) → t < length m.runs → making_of scene (finished m t) ≡ model.finished (making_of scene m) t
-finished_leaves scene m t lt = making_with scene m (t ∷ m.done) (filter (λ n. not (nat_eq t n)) m.running) t no_run (λ f. None) (λ f. None) lt refl refl
+finished_leaves scene m t lt = making_with scene m (t ∷ m.done) (filter (λ n. not (nat_eq t n)) m.running) m.broken t no_run (λ f. None) (λ f. None) lt refl refl
+
+-- so is a break
+pub broken_leaves : (scene : Scene) (m : MakeState) (t : ℕ) → t < length m.runs → making_of scene (broken_off m t) ≡ model.broken_off (making_of scene m) t
+broken_leaves scene m t lt = making_with scene m m.done (filter (λ n. not (nat_eq t n)) m.running) (t ∷ m.broken) t no_run (λ f. None) (λ f. None) lt refl refl
 
 -- so is a begin
 pub begun_leaves : (scene : Scene) (m : MakeState) (t : ℕ) (run : RunState) (i j : ℕ) → t < length m.runs → run ≡ record { looks = replicate i None; puts = replicate j None } → making_of scene (begun m t run) ≡ model.begun (making_of scene m) t
 begun_leaves scene m t run i j lt e =
     let looks = ap (λ (r : RunState). look (reads scene.graph (setting scene) t) r.looks) e ∙ (λ k f. look_nothing (reads scene.graph (setting scene) t) i f k) in
     let puts = ap (λ (r : RunState). look (writes scene.graph (setting scene) t) r.puts) e ∙ (λ k f. look_nothing (writes scene.graph (setting scene) t) j f k) in
-    making_with scene m m.done (t ∷ m.running) t run (λ f. None) (λ f. None) lt looks puts
+    making_with scene m m.done (t ∷ m.running) m.broken t run (λ f. None) (λ f. None) lt looks puts
 
 pub looked_fits : (scene : Scene) (m new : MakeState) (t : ℕ) (names : List FileName) (f : FileName) (c : Option ℕ) → Fits scene m → Has m.running t → HasLooked m new t names f c → Fits scene new
 looked_fits scene m new t names f c fits runs h =
-    subst (Fits scene) (sym h.becomes) (with_fits scene m fits m.done m.running t h.run (fits.nodes t runs) (λ n k apart. k) (λ k. (h.many ∙ fits.looks t runs, ap length h.puts ∙ fits.puts t runs)))
+    subst (Fits scene) (sym h.becomes) (with_fits scene m fits m.done m.running m.broken t h.run (fits.nodes t runs) (λ n k apart. k) (λ k. (h.many ∙ fits.looks t runs, ap length h.puts ∙ fits.puts t runs)))
 
 pub put_fits : (scene : Scene) (m new : MakeState) (t : ℕ) (names : List FileName) (f : FileName) (c : ℕ) → Fits scene m → Has m.running t → HasPut m new t names f c → Fits scene new
 put_fits scene m new t names f c fits runs h =
-    subst (Fits scene) (sym h.becomes) (with_fits scene m fits m.done m.running t h.run (fits.nodes t runs) (λ n k apart. k) (λ k. (ap length h.looks ∙ fits.looks t runs, h.many ∙ fits.puts t runs)))
+    subst (Fits scene) (sym h.becomes) (with_fits scene m fits m.done m.running m.broken t h.run (fits.nodes t runs) (λ n k apart. k) (λ k. (ap length h.looks ∙ fits.looks t runs, h.many ∙ fits.puts t runs)))
 
 pub finished_fits : (scene : Scene) (m : MakeState) (t : ℕ) → Fits scene m → t < length scene.graph.nodes → Fits scene (finished m t)
-finished_fits scene m t fits low = with_fits scene m fits (t ∷ m.done) (filter (λ n. not (nat_eq t n)) m.running) t no_run low (λ n k apart. (left t m.running n k).0) (λ k. absurd ((left t m.running t k).1 refl))
+finished_fits scene m t fits low = with_fits scene m fits (t ∷ m.done) (filter (λ n. not (nat_eq t n)) m.running) m.broken t no_run low (λ n k apart. (left t m.running n k).0) (λ k. absurd ((left t m.running t k).1 refl))
+
+pub broken_fits : (scene : Scene) (m : MakeState) (t : ℕ) → Fits scene m → Has m.running t → Fits scene (broken_off m t)
+broken_fits scene m t fits runs = with_fits scene m fits m.done (filter (λ n. not (nat_eq t n)) m.running) (t ∷ m.broken) t no_run (fits.nodes t runs) (λ n k apart. (left t m.running n k).0) (λ k. absurd ((left t m.running t k).1 refl))
 
 pub begun_fits : (scene : Scene) (m : MakeState) (t : ℕ) (run : RunState) (i j : ℕ) → Fits scene m
     → t < length scene.graph.nodes → run ≡ record { looks = replicate i None; puts = replicate j None } → i
     ≡ length (reads scene.graph (setting scene) t) → j ≡ length (writes scene.graph (setting scene) t)
     → Fits scene (begun m t run)
 begun_fits scene m t run i j fits low e is js =
-    with_fits scene m fits m.done (t ∷ m.running) t run low (λ n k apart. elim k [ inl same ↦ absurd (apart (sym same)) | inr r ↦ r ])
+    with_fits scene m fits m.done (t ∷ m.running) m.broken t run low (λ n k apart. elim k [ inl same ↦ absurd (apart (sym same)) | inr r ↦ r ])
     (λ k. (ap (λ (r : RunState). length r.looks) e ∙ (length-replicate i None ∙ is), ap (λ (r : RunState). length r.puts) e ∙ (length-replicate j None ∙ js)))
 
 -- as many names as texts
@@ -212,7 +219,7 @@ started_takes scene d make jobs goals many none some part =
     let seen = λ (t : ℕ). ap (λ (r : RunState). look (reads scene.graph (setting scene) t) r.looks) (no_run_at many t) in
     let put = λ (t : ℕ). ap (λ (r : RunState). look (writes scene.graph (setting scene) t) r.puts) (no_run_at many t) in
     subst (λ mk. Takes scene.graph (setting scene) (world_in scene d mk) (busy scene (start_of jobs goals many) d) (model.Make jobs goals)) (sym none)
-    (record { allowed = (some, part); leaves = λ i. Busy (record { jobs = jobs; goals = goals; done = []; running = []; seen = λ t. seen t i; put = λ t. put t i }) (disk_of d) })
+    (record { allowed = (some, part); leaves = λ i. Busy (record { jobs = jobs; goals = goals; done = []; running = []; broken = []; seen = λ t. seen t i; put = λ t. put t i }) (disk_of d) })
 
 pub is_none : {A : Type 0} (o : Option A) → is_some o ≡ false → o ≡ None
 is_none None e = refl

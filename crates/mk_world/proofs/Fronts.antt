@@ -13,7 +13,7 @@ use Rattle.mk_world.specs.declared.fault.StepFault.{StepFault}
 use Rattle.mk_world.specs.declared.fault.StepFault.TheVariants as faults
 use Rattle.mk_world.specs.declared.plan.PlanCommand.{PlanCommand}
 use Rattle.mk_world.specs.declared.plan.PlanLine.{PlanLine}
-use Rattle.mk_world.specs.declared.plan.PlanCommand.TheVariants.{Make, Stop, Begin, Look, Put, Done, Finish, Run, Pass, End, Edit}
+use Rattle.mk_world.specs.declared.plan.PlanCommand.TheVariants.{Make, Stop, Begin, Look, Put, Done, Break, Finish, Run, Pass, End, Edit}
 use Rattle.mk_world.specs.State.{State, Scene, setting, world_of}
 use Rattle.mk_world.specs.Steps.{step_of}
 use Rattle.mk_world.specs.Faults.{Check, checks, AllHold, FirstFails}
@@ -104,6 +104,7 @@ before_one g (Begin t) old a b h j = passes_in_one g old a b h j
 before_one g (Look t f) old a b h j = h ∙ sym j
 before_one g (Put t f c) old a b h j = h ∙ sym j
 before_one g (Done t) old a b h j = h ∙ sym j
+before_one g (Break t removed) old a b h j = h ∙ sym j
 before_one g (Finish t) old a b h j = h ∙ sym j
 before_one g (Run t) old a b h j = passes_in_one g old a b h j
 before_one g (Pass t) old a b h j = passes_in_one g old a b h j

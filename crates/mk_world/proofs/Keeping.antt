@@ -4,7 +4,7 @@ use Rattle.std.proofs.lemmas.Bool.{true≢false}
 use Rattle.mk_graph.specs.Membership.{Has}
 use Rattle.mk_graph.specs.Graph.{Graph, node}
 use Rattle.mk_graph.specs.ScheduleLaws.{CanStartStays}
-use Rattle.mk_build.specs.Steps.{Step, Edit, Make, Begin, Look, Put, End, Pass, Stop, EndMake, looked, has_put}
+use Rattle.mk_build.specs.Steps.{Step, Edit, Make, Begin, Look, Put, End, Break, Pass, Stop, EndMake, looked, has_put}
 use Rattle.mk_build.specs.SerialMake.{puts, rest_of_run}
 use Rattle.mk_build.specs.Setting.{FileName, Setting, reads, writes}
 use Rattle.mk_graph.specs.Serial.{serial_order}
@@ -34,6 +34,11 @@ abbrev pub running_in : World → List ℕ
 running_in (Idle d) = []
 running_in (Busy m d) = m.running
 
+-- and those that broke off
+abbrev pub broken_in : World → List ℕ
+broken_in (Idle d) = []
+broken_in (Busy m d) = m.broken
+
 module _ (scene : Scene) where
   pub kept_graph : (make : Option MakeState) (p : Progress) → IsKeptIn scene make p → p.graph ≡ scene.graph
   kept_graph None p k = k
@@ -46,7 +51,7 @@ module _ (scene : Scene) where
   -- where one begins
   pub kept_started : (m : MakeState) (p q : Progress) (jobs : ℕ) (goals : List ℕ) (many : ℕ) → p.graph ≡ scene.graph → Starts p q goals → m ≡ start_of jobs goals many → IsKept scene m q
   kept_started m p q jobs goals many same s is =
-      subst (λ (w : MakeState). IsKept scene w q) (sym is) (record { graph = s.graph ∙ same; goals = s.names; done = λ n. (s.done n, λ h. absurd h); recipes = λ t h. absurd h })
+      subst (λ (w : MakeState). IsKept scene w q) (sym is) (record { graph = s.graph ∙ same; goals = s.names; done = λ n. (s.done n, λ h. absurd h); recipes = λ t h. absurd h; broken = λ t h. absurd h })
 
   module _ (stay : CanStartStays) (m : MakeState) (p : Progress) (k : IsKept scene m p) where
     -- whose turn may come by what is kept
@@ -60,7 +65,7 @@ module _ (scene : Scene) where
     idle_from : (n : ℕ) → ready.IsIdle p n → IsIdle scene.graph (making_of scene m) n
     idle_from n h =
         let plain : (node scene.graph n).recipe ≡ false = subst (λ (g : Graph). (node g n).recipe ≡ false) k.graph h.1 in
-        ((turn_from n h.0, λ r. true≢false (sym (k.recipes n r) ∙ plain)), plain)
+        ((turn_from n h.0, λ r. true≢false (sym (k.recipes n r) ∙ plain), λ b. true≢false (sym (k.broken n b) ∙ plain)), plain)
 
     idle_to : (n : ℕ) → IsIdle scene.graph (making_of scene m) n → ready.IsIdle p n
     idle_to n h = (turn_to n h.0.0, subst (λ (g : Graph). (node g n).recipe ≡ false) (sym k.graph) h.1)
@@ -80,18 +85,20 @@ module _ (scene : Scene) where
 
   -- goals and done nodes are the same
   moves : (old new : MakeState) (p : Progress) → IsKept scene old p → new.goals ≡ old.goals → new.done ≡ old.done
-      → ((t : ℕ) → Has new.running t → Has old.running t ⊎ ((node scene.graph t).recipe ≡ true)) → IsKept scene new p
-  moves old new p k goals done runs = record {
+      → ((t : ℕ) → Has new.running t → Has old.running t ⊎ ((node scene.graph t).recipe ≡ true))
+      → ((t : ℕ) → Has new.broken t → Has old.broken t ⊎ ((node scene.graph t).recipe ≡ true)) → IsKept scene new p
+  moves old new p k goals done runs broke = record {
     graph = k.graph;
     goals = λ n. (λ h. subst (λ (l : List ℕ). Has l n) (sym goals) ((k.goals n).0 h), λ h. (k.goals n).1 (subst (λ (l : List ℕ). Has l n) goals h));
     done = λ n. (λ h. subst (λ (l : List ℕ). Has l n) (sym done) ((k.done n).0 h), λ h. (k.done n).1 (subst (λ (l : List ℕ). Has l n) done h));
     recipes = λ t h. elim (runs t h) [ inl ran ↦ k.recipes t ran | inr is ↦ is ];
+    broken = λ t h. elim (broke t h) [ inl was ↦ k.broken t was | inr is ↦ is ];
   }
 
   -- one node more is done
   pub does : (old new : MakeState) (p q : Progress) (t : ℕ) → IsKept scene old p → GoesOn p q t → new.goals ≡ old.goals → new.done ≡ t ∷ old.done
-      → new.running ≡ filter (λ n. not (nat_eq t n)) old.running → IsKept scene new q
-  does old new p q t k on goals done runs = record {
+      → new.running ≡ filter (λ n. not (nat_eq t n)) old.running → new.broken ≡ old.broken → IsKept scene new q
+  does old new p q t k on goals done runs broke = record {
     graph = on.graph ∙ k.graph;
     goals = λ n. (
       λ h. subst (λ (l : List ℕ). Has l n) (sym goals) ((k.goals n).0 (subst (λ (l : List ℕ). Has l n) on.goals h)),
@@ -102,18 +109,20 @@ module _ (scene : Scene) where
       λ h. (on.done n).1 (elim (subst (λ (l : List ℕ). Has l n) done h) [ inl is ↦ inl (sym is) | inr was ↦ inr ((k.done n).1 was) ]),
     );
     recipes = λ n h. k.recipes n (left t old.running n (subst (λ (l : List ℕ). Has l n) runs h)).0;
+    broken = λ n h. k.broken n (subst (λ (l : List ℕ). Has l n) broke h);
   }
 
   -- the same of a make in lists
   pub kept_done : (old new : MakeState) (p q : Progress) (t : ℕ) → IsKept scene old p → GoesOn p q t → new ≡ lists.finished old t → IsKept scene new q
   kept_done old new p q t k on is =
-      subst (λ (m : MakeState). IsKept scene m q) (sym is) (does old (lists.finished old t) p q t k on refl refl refl)
+      subst (λ (m : MakeState). IsKept scene m q) (sym is) (does old (lists.finished old t) p q t k on refl refl refl refl)
 
   -- no node is done by these steps
   abbrev pub IsQuiet : Step → Type 0
   IsQuiet (Begin t) = Unit {0}
   IsQuiet (Look t f) = Unit {0}
   IsQuiet (Put t f c) = Unit {0}
+  IsQuiet (Break t removed) = Unit {0}
   IsQuiet (Edit f c) = ⊥
   IsQuiet (Make jobs goals) = ⊥
   IsQuiet (End t) = ⊥
@@ -126,11 +135,16 @@ module _ (scene : Scene) where
       moves old new p k (ap goals_in taken.leaves) (ap done_in taken.leaves) (λ n h. elim (subst (λ (l : List ℕ). Has l n) (ap running_in taken.leaves) h) [
         | inl is ↦ inr (subst (λ j. (node scene.graph j).recipe ≡ true) is taken.allowed.1)
         | inr ran ↦ inl ran
-      ])
+      ]) (λ n h. inl (subst (λ (l : List ℕ). Has l n) (ap broken_in taken.leaves) h))
   kept_quiet old new d e (Look t f) p q taken k =
-      moves old new p k (ap goals_in taken.leaves) (ap done_in taken.leaves) (λ n h. inl (subst (λ (l : List ℕ). Has l n) (ap running_in taken.leaves) h))
+      moves old new p k (ap goals_in taken.leaves) (ap done_in taken.leaves) (λ n h. inl (subst (λ (l : List ℕ). Has l n) (ap running_in taken.leaves) h)) (λ n h. inl (subst (λ (l : List ℕ). Has l n) (ap broken_in taken.leaves) h))
   kept_quiet old new d e (Put t f c) p q taken k =
-      moves old new p k (ap goals_in taken.leaves) (ap done_in taken.leaves) (λ n h. inl (subst (λ (l : List ℕ). Has l n) (ap running_in taken.leaves) h))
+      moves old new p k (ap goals_in taken.leaves) (ap done_in taken.leaves) (λ n h. inl (subst (λ (l : List ℕ). Has l n) (ap running_in taken.leaves) h)) (λ n h. inl (subst (λ (l : List ℕ). Has l n) (ap broken_in taken.leaves) h))
+  kept_quiet old new d e (Break t removed) p q taken k =
+      moves old new p k (ap goals_in taken.leaves) (ap done_in taken.leaves) (λ n h. inl (left t old.running n (subst (λ (l : List ℕ). Has l n) (ap running_in taken.leaves) h)).0) (λ n h. elim (subst (λ (l : List ℕ). Has l n) (ap broken_in taken.leaves) h) [
+        | inl is ↦ inr (k.recipes n (subst (λ j. Has old.running j) is taken.allowed.0))
+        | inr was ↦ inl was
+      ])
   kept_quiet old new d e (Edit f c) p q taken k = absurd q
   kept_quiet old new d e (Make jobs goals) p q taken k = absurd q
   kept_quiet old new d e (End t) p q taken k = absurd q
@@ -145,26 +159,28 @@ module _ (scene : Scene) where
 
   -- a recipe ends, or a node is passed
   pub kept_end : (old new : MakeState) (d e : DiskState) (t : ℕ) (p q : Progress) → Takes scene.graph (setting scene) (busy scene old d) (busy scene new e) (End t) → GoesOn p q t → IsKept scene old p → IsKept scene new q
-  kept_end old new d e t p q taken on k = does old new p q t k on (ap goals_in taken.leaves) (ap done_in taken.leaves) (ap running_in taken.leaves)
+  kept_end old new d e t p q taken on k = does old new p q t k on (ap goals_in taken.leaves) (ap done_in taken.leaves) (ap running_in taken.leaves) (ap broken_in taken.leaves)
 
   pub kept_pass : (old new : MakeState) (d e : DiskState) (n : ℕ) (p q : Progress) → Takes scene.graph (setting scene) (busy scene old d) (busy scene new e) (Pass n) → GoesOn p q n → IsKept scene old p → IsKept scene new q
-  kept_pass old new d e n p q taken on k = does old new p q n k on (ap goals_in taken.leaves) (ap done_in taken.leaves) (ap running_in taken.leaves)
+  kept_pass old new d e n p q taken on k = does old new p q n k on (ap goals_in taken.leaves) (ap done_in taken.leaves) (ap running_in taken.leaves) (ap broken_in taken.leaves)
 
   -- a running recipe is one of a node
   pub end_low : (old : MakeState) (d : DiskState) (new : World) (t : ℕ) (p : Progress) → Fits scene old → Takes scene.graph (setting scene) (busy scene old d) new (End t) → p.graph ≡ scene.graph → t < length p.graph.nodes
   end_low old d new t p fits taken same = rw same (fits.nodes t taken.allowed.runs)
 
--- The make is as it was, as to goals, done nodes and running recipes.
+-- The make is as it was, as to goals, done nodes, running recipes and those that broke off.
 record IsAsWas (m n : Making) : Type 0 where
   goals : n.goals ≡ m.goals
   done : n.done ≡ m.done
   running : n.running ≡ m.running
+  broken : n.broken ≡ m.broken
 
 -- so is that of a world
 record IsSoIn (m : Making) (w : World) : Type 0 where
   goals : goals_in w ≡ m.goals
   done : done_in w ≡ m.done
   running : running_in w ≡ m.running
+  broken : broken_in w ≡ m.broken
 
 module _ (g : Graph) (s : Setting) (t : ℕ) (rest : List Step) where
   -- after looks and puts the rest is taken, or one of them was refused
@@ -173,36 +189,38 @@ module _ (g : Graph) (s : Setting) (t : ℕ) (rest : List Step) where
 
   -- of a make that is as it was
   was_put : (m n : Making) (new : World) (r : Result (Unit {0}) StepFault) → IsAsWas m n → Comes n new r → Comes m new r
-  was_put m n new r same (inl on) = inl (on.0, on.1, record { goals = on.2.goals ∙ same.goals; done = on.2.done ∙ same.done; running = on.2.running ∙ same.running }, on.3)
-  was_put m n new r same (inr not) = inr (not.0, not.1, record { goals = not.2.goals ∙ same.goals; done = not.2.done ∙ same.done; running = not.2.running ∙ same.running })
+  was_put m n new r same (inl on) = inl (on.0, on.1, record { goals = on.2.goals ∙ same.goals; done = on.2.done ∙ same.done; running = on.2.running ∙ same.running; broken = on.2.broken ∙ same.broken }, on.3)
+  was_put m n new r same (inr not) = inr (not.0, not.1, record { goals = not.2.goals ∙ same.goals; done = not.2.done ∙ same.done; running = not.2.running ∙ same.running; broken = not.2.broken ∙ same.broken })
 
   puts_come : (files : List FileName) (cs : List ℕ) (m : Making) (d : Disk) (new : World) (r : Result (Unit {0}) StepFault) → TakesInTurn g s (Busy m d) new (puts t files cs ++ rest) r → Comes m new r
-  puts_come [] cs m d new r h = inl (m, d, record { goals = refl; done = refl; running = refl }, h)
-  puts_come (f ∷ files) [] m d new r h = inl (m, d, record { goals = refl; done = refl; running = refl }, h)
-  puts_come (f ∷ files) (c ∷ cs) m d new r (takes allowed more) = was_put m (has_put m t f c) new r (record { goals = refl; done = refl; running = refl }) (puts_come files cs (has_put m t f c) (written d f c) new r more)
-  puts_come (f ∷ files) (c ∷ cs) m d new r (refused {fault = fault} is) = inr (fault, refl, record { goals = refl; done = refl; running = refl })
+  puts_come [] cs m d new r h = inl (m, d, record { goals = refl; done = refl; running = refl; broken = refl }, h)
+  puts_come (f ∷ files) [] m d new r h = inl (m, d, record { goals = refl; done = refl; running = refl; broken = refl }, h)
+  puts_come (f ∷ files) (c ∷ cs) m d new r (takes allowed more) = was_put m (has_put m t f c) new r (record { goals = refl; done = refl; running = refl; broken = refl }) (puts_come files cs (has_put m t f c) (written d f c) new r more)
+  puts_come (f ∷ files) (c ∷ cs) m d new r (refused {fault = fault} is) = inr (fault, refl, record { goals = refl; done = refl; running = refl; broken = refl })
 
   looks_come : (files : List FileName) (m : Making) (d : Disk) (new : World) (r : Result (Unit {0}) StepFault) → TakesInTurn g s (Busy m d) new (map (λ f. Look t f) files ++ rest) r → Comes m new r
-  looks_come [] m d new r h = inl (m, d, record { goals = refl; done = refl; running = refl }, h)
-  looks_come (f ∷ files) m d new r (takes allowed more) = was_put m (looked m t f (content d f)) new r (record { goals = refl; done = refl; running = refl }) (looks_come files (looked m t f (content d f)) d new r more)
-  looks_come (f ∷ files) m d new r (refused {fault = fault} is) = inr (fault, refl, record { goals = refl; done = refl; running = refl })
+  looks_come [] m d new r h = inl (m, d, record { goals = refl; done = refl; running = refl; broken = refl }, h)
+  looks_come (f ∷ files) m d new r (takes allowed more) = was_put m (looked m t f (content d f)) new r (record { goals = refl; done = refl; running = refl; broken = refl }) (looks_come files (looked m t f (content d f)) d new r more)
+  looks_come (f ∷ files) m d new r (refused {fault = fault} is) = inr (fault, refl, record { goals = refl; done = refl; running = refl; broken = refl })
 
 -- A recipe is finished: its node is done, or a step was refused before.
 pub record IsFinished (m : Making) (t : ℕ) (new : World) (r : Result (Unit {0}) StepFault) : Type 0 where
   pub goals : goals_in new ≡ m.goals
+  pub broken : broken_in new ≡ m.broken
   pub ok : OnOk r ((done_in new ≡ t ∷ m.done) × (running_in new ≡ filter (λ n. not (nat_eq t n)) m.running))
   pub err : OnErr r ((done_in new ≡ m.done) × (running_in new ≡ m.running))
 
 -- the recipe ends, or that is refused
 ends_so : (g : Graph) (s : Setting) (t : ℕ) (m : Making) (d : Disk) (new : World) (r : Result (Unit {0}) StepFault) → TakesInTurn g s (Busy m d) new (End t ∷ []) r → IsFinished m t new r
-ends_so g s t m d new r (takes allowed ends) = record { goals = refl; ok = (refl, refl); err = tt }
-ends_so g s t m d new r (refused is) = record { goals = refl; ok = tt; err = (refl, refl) }
+ends_so g s t m d new r (takes allowed ends) = record { goals = refl; broken = refl; ok = (refl, refl); err = tt }
+ends_so g s t m d new r (refused is) = record { goals = refl; broken = refl; ok = tt; err = (refl, refl) }
 
 module _ (g : Graph) (s : Setting) (t : ℕ) (new : World) (r : Result (Unit {0}) StepFault) where
   -- a step was refused
   refused_so : (m : Making) (fault : StepFault) → r ≡ Err fault → IsSoIn m new → IsFinished m t new r
   refused_so m fault is so = record {
     goals = so.goals;
+    broken = so.broken;
     ok = subst (λ (q : Result (Unit {0}) StepFault). OnOk q ((done_in new ≡ t ∷ m.done) × (running_in new ≡ filter (λ n. not (nat_eq t n)) m.running))) (sym is) tt;
     err = subst (λ (q : Result (Unit {0}) StepFault). OnErr q ((done_in new ≡ m.done) × (running_in new ≡ m.running))) (sym is) (so.done, so.running);
   }
@@ -211,6 +229,7 @@ module _ (g : Graph) (s : Setting) (t : ℕ) (new : World) (r : Result (Unit {0}
   finished_was : (m n : Making) → IsAsWas m n → IsFinished n t new r → IsFinished m t new r
   finished_was m n same f = record {
     goals = f.goals ∙ same.goals;
+    broken = f.broken ∙ same.broken;
     ok = on_ok r f.ok;
     err = on_err r f.err;
   }
@@ -240,10 +259,10 @@ module _ (scene : Scene) (old new : MakeState) (d e : DiskState) (t : ℕ) (cs :
   pub kept_finish : (q : Progress) → TakesInTurn scene.graph (setting scene) (busy scene old d) (busy scene new e) (rest_of_run scene.graph (setting scene) t cs) (Ok tt) → GoesOn p q t → IsKept scene new q
   kept_finish q taken on =
       let f = finished_in_turn scene.graph (setting scene) t (busy scene new e) (Ok tt) cs (making_of scene old) (disk_of d) taken in
-      does scene old new p q t k on f.goals f.ok.0 f.ok.1
+      does scene old new p q t k on f.goals f.ok.0 f.ok.1 f.broken
 
   -- or it isn't
   pub kept_unfinished : (fault : StepFault) → TakesInTurn scene.graph (setting scene) (busy scene old d) (busy scene new e) (rest_of_run scene.graph (setting scene) t cs) (Err fault) → IsKept scene new p
   kept_unfinished fault taken =
       let f = finished_in_turn scene.graph (setting scene) t (busy scene new e) (Err fault) cs (making_of scene old) (disk_of d) taken in
-      moves scene old new p k f.goals f.err.0 (λ n h. inl (subst (λ (l : List ℕ). Has l n) f.err.1 h))
+      moves scene old new p k f.goals f.err.0 (λ n h. inl (subst (λ (l : List ℕ). Has l n) f.err.1 h)) (λ n h. inl (subst (λ (l : List ℕ). Has l n) f.broken h))

@@ -17,7 +17,7 @@ use Rattle.mk_graph.specs.Schedules.{HasAll, IsPart}
 use Rattle.mk_build.specs.Steps.{Begin, Look, End, after}
 use Rattle.mk_build.specs.SerialMake.{puts, rest_of_run}
 use Rattle.mk_world.specs.declared.fault.StepFault.{StepFault}
-use Rattle.mk_world.specs.declared.fault.StepFault.TheVariants.{NoMake, Memory, ClockSpent, OtherOutcome, MakeRuns, NotReady, NoJobFree, OutOfDate, NotRunning, NotInFootprint, NotAllDone, PlanLine, NotEditable, NotAGoal}
+use Rattle.mk_world.specs.declared.fault.StepFault.TheVariants.{NoMake, Memory, ClockSpent, OtherOutcome, MakeRuns, NotReady, NoJobFree, OutOfDate, NotRunning, NotInFootprint, NotAllDone, PlanLine, NotEditable, NotAGoal, NotLeftToRun}
 use Rattle.mk_world.specs.declared.file.File.{File}
 use Rattle.mk_world.specs.declared.file.Listed.{Listed}
 use Rattle.mk_world.specs.State.{State, DiskState, MakeState, Scene, setting, disk_of, world_of, world_in, number_of, file_of}
@@ -139,6 +139,7 @@ memory_or NotAllDone = inr (λ e. cc)
 memory_or PlanLine = inr (λ e. cc)
 memory_or NotEditable = inr (λ e. cc)
 memory_or NotAGoal = inr (λ e. cc)
+memory_or NotLeftToRun = inr (λ e. cc)
 
 line_follows : (old mid new : State) (order : PlanCommand) (r : Result (Unit {0}) StepFault) → is_known old.scene.graph old.disk.names order ≡ true → Prepares old mid order (Ok tt) → AnswersInTurn mid new (steps_of mid order) r → Follows (stage_of old) (world_of old) (world_of new) order r
 line_follows old mid new order r known before own =
@@ -162,6 +163,7 @@ before_lead g s (command.Begin t) old new h = in_lead g s old new h
 before_lead g s (command.Look t f) old new h = record { steps = []; legal = tt; leaves = h }
 before_lead g s (command.Put t f c) old new h = record { steps = []; legal = tt; leaves = h }
 before_lead g s (command.Done t) old new h = record { steps = []; legal = tt; leaves = h }
+before_lead g s (command.Break t removed) old new h = record { steps = []; legal = tt; leaves = h }
 before_lead g s (command.Finish t) old new h = record { steps = []; legal = tt; leaves = h }
 before_lead g s (command.Run t) old new h = in_lead g s old new h
 before_lead g s (command.Pass t) old new h = in_lead g s old new h

@@ -45,10 +45,10 @@ saw_at d (f ∷ fs) at h = saw_at d fs (changed at f (Some (content d f))) h ∙
 module _ (g : Graph) (s : Setting) (t : ℕ) (d : Disk) (m : Making) where
   -- the make where the recipe has seen this
   abbrev seeing : (FileName → Option (Option ℕ)) → Making
-  seeing at = record { jobs = m.jobs; goals = m.goals; done = m.done; running = m.running; seen = changed_at m.seen t at; put = m.put }
+  seeing at = record { jobs = m.jobs; goals = m.goals; done = m.done; running = m.running; broken = m.broken; seen = changed_at m.seen t at; put = m.put }
 
   looks_again : (at : FileName → Option (Option ℕ)) (f : FileName) (c : Option ℕ) → looked (seeing at) t f c ≡ seeing (changed at f (Some c))
-  looks_again at f c = λ i. record { jobs = m.jobs; goals = m.goals; done = m.done; running = m.running; seen = λ n. same n i; put = m.put }
+  looks_again at f c = λ i. record { jobs = m.jobs; goals = m.goals; done = m.done; running = m.running; broken = m.broken; seen = λ n. same n i; put = m.put }
     where
       own : changed_at m.seen t at t ≡ at
       own = cond-true (nat_eq t t) at (m.seen t) (eq-eqb t t refl)
@@ -107,16 +107,17 @@ module _ (scene : Scene) (m new : MakeState) (d : DiskState) (t : ℕ) (seen : L
       let s = setting scene in
       let files = reads g s t in
       let old = making_of scene m in
-      let first : seeing g s t (disk_of d) old (old.seen t) ≡ old = λ i. record { jobs = m.jobs; goals = m.goals; done = m.done; running = m.running; seen = unchanged_at old.seen t i; put = old.put } in
+      let first : seeing g s t (disk_of d) old (old.seen t) ≡ old = λ i. record { jobs = m.jobs; goals = m.goals; done = m.done; running = m.running; broken = m.broken; seen = unchanged_at old.seen t i; put = old.put } in
       let looks : look files (map (λ (c : Option ℕ). Some c) seen) ≡ saw (disk_of d) files (old.seen t) = ap (λ (l : List (Option ℕ)). look files (map (λ (c : Option ℕ). Some c) l)) sees ∙ (λ i h. alike h i) in
       let run : RunState = record { looks = map (λ (c : Option ℕ). Some c) seen; puts = (run_at m.runs t).puts } in
-      let leaves = ap (making_of scene) becomes ∙ (making_with scene m m.done m.running t run
+      let leaves = ap (making_of scene) becomes ∙ (making_with scene m m.done m.running m.broken t run
       (saw (disk_of d) files (old.seen t)) (old.put t) low looks refl
       ∙ (λ i. record {
         jobs = m.jobs;
         goals = m.goals;
         done = m.done;
         running = m.running;
+        broken = m.broken;
         seen =
             changed_at old.seen t (saw (disk_of d) files (old.seen t));
         put = unchanged_at old.put t i;

@@ -5,9 +5,9 @@ use Rattle.mk_graph.specs.Graph.{Graph, node}
 use Rattle.mk_build.specs.Setting.{Setting, is_editable, reads, writes}
 use Rattle.mk_build.specs.World.{World, Idle, Busy, last_stamp}
 use Rattle.mk_graph.specs.Schedules.{HasAll, IsPart}
-use Rattle.mk_build.specs.Steps.{Step, Edit, Make, Begin, Look, Put, End, Pass, Stop, EndMake, Ready, MustRun, HasSeenAll, HasPutAll, HasPutWhatIsKnown}
+use Rattle.mk_build.specs.Steps.{Step, Edit, Make, Begin, Look, Put, End, Break, Pass, Stop, EndMake, Ready, MustRun, HasSeenAll, HasPutAll, HasPutWhatIsKnown, IsLeftToRun}
 use Rattle.mk_world.specs.declared.fault.StepFault.{StepFault}
-use Rattle.mk_world.specs.declared.fault.StepFault.TheVariants.{ClockSpent, OtherOutcome, NoMake, MakeRuns, NotReady, NoJobFree, OutOfDate, NotRunning, NotInFootprint, NotAllDone, NotEditable, NotAGoal}
+use Rattle.mk_world.specs.declared.fault.StepFault.TheVariants.{ClockSpent, OtherOutcome, NoMake, MakeRuns, NotReady, NoJobFree, OutOfDate, NotRunning, NotInFootprint, NotAllDone, NotEditable, NotAGoal, NotLeftToRun}
 
 -- A condition, and the fault if it doesn't hold.
 pub record Check : Type 1 where
@@ -40,6 +40,9 @@ checks g s (Busy m d) (End t) =
     ((Has m.running t) otherwise NotRunning) ∷
     ((HasSeenAll g s m t × HasPutAll g s m t) otherwise NotAllDone) ∷
     ((HasPutWhatIsKnown g s m d t) otherwise OtherOutcome) ∷ []
+checks g s (Busy m d) (Break t removed) =
+    ((Has m.running t) otherwise NotRunning) ∷
+    ((IsLeftToRun g s d t removed) otherwise NotLeftToRun) ∷ []
 checks g s (Busy m d) (Pass n) =
     ((Ready g m n) otherwise NotReady) ∷
     ((((node g n).recipe ≡ false) ⊎ (¬ (MustRun g d n))) otherwise OutOfDate) ∷ []

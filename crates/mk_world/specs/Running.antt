@@ -17,7 +17,7 @@ use Rattle.mk_world.specs.declared.fault.StepFault.{StepFault}
 use Rattle.mk_world.specs.declared.fault.StepFault.TheVariants.{PlanLine, Memory}
 use Rattle.mk_world.specs.declared.file.Listed.{Listed}
 use Rattle.mk_world.specs.declared.plan.PlanCommand.{PlanCommand}
-use Rattle.mk_world.specs.declared.plan.PlanCommand.TheVariants.{Make, Stop, Begin, Look, Put, Done, Finish, Run, Pass, End, Edit}
+use Rattle.mk_world.specs.declared.plan.PlanCommand.TheVariants.{Make, Stop, Begin, Look, Put, Done, Break, Finish, Run, Pass, End, Edit}
 use Rattle.mk_world.specs.declared.plan.PlanLine as line
 use Rattle.mk_world.specs.State as state
 use Rattle.mk_world.specs.State.{State, number_of, setting, world_of}
@@ -47,6 +47,7 @@ is_known g names (Begin t) = is_node g t
 is_known g names (Look t f) = is_node g t && has_name names f
 is_known g names (Put t f c) = is_node g t && has_name names f
 is_known g names (Done t) = is_node g t
+is_known g names (Break t removed) = is_node g t
 is_known g names (Finish t) = is_node g t
 is_known g names (Run t) = is_node g t
 is_known g names (Pass t) = is_node g t
@@ -147,6 +148,7 @@ own_steps g s d (Begin t) = model.Begin (number_of g t) ∷ []
 own_steps g s d (Look t f) = model.Look (number_of g t) f ∷ []
 own_steps g s d (Put t f c) = model.Put (number_of g t) f (content_or_stamp d c) ∷ []
 own_steps g s d (Done t) = model.End (number_of g t) ∷ []
+own_steps g s d (Break t removed) = model.Break (number_of g t) removed ∷ []
 own_steps g s d (Finish t) = rest_of_run g s (number_of g t) (contents_of g s d (number_of g t))
 own_steps g s d (Run t) = whole_run g s (number_of g t) (contents_of g s d (number_of g t))
 own_steps g s d (Pass t) = model.Pass (number_of g t) ∷ []

@@ -50,6 +50,7 @@ pub record MakeState : Type 0 where
   pub goals : List ℕ
   pub done : List ℕ
   pub running : List ℕ
+  pub broken : List ℕ
   pub runs : List RunState
 
 -- The state of a world: the scene, the disk, and the make in progress, if there is one.
@@ -87,6 +88,7 @@ making_of scene m =
       goals = m.goals;
       done = m.done;
       running = m.running;
+      broken = m.broken;
       seen = λ t. look (model.reads scene.graph (setting scene) t) (run_at m.runs t).looks;
       put = λ t. look (model.writes scene.graph (setting scene) t) (run_at m.runs t).puts;
     }
@@ -117,6 +119,7 @@ start_of jobs goals nodes =
       goals = goals;
       done = [];
       running = [];
+      broken = [];
       runs = replicate nodes no_run;
     }
 
@@ -130,6 +133,15 @@ finished m t =
     record m {
       done = t ∷ m.done;
       running = filter (λ n. not (nat_eq t n)) m.running;
+      runs = slice_set m.runs t no_run;
+    }
+
+-- The make after a running recipe broke off.
+abbrev pub broken_off : MakeState → ℕ → MakeState
+broken_off m t =
+    record m {
+      running = filter (λ n. not (nat_eq t n)) m.running;
+      broken = t ∷ m.broken;
       runs = slice_set m.runs t no_run;
     }
 

@@ -6,7 +6,7 @@ use Rattle.mk_graph.specs.Graph.{Graph}
 use Rattle.mk_build.specs.Setting.{Setting}
 use Rattle.mk_build.specs.World.{World, IsFirstDisk}
 use Rattle.mk_build.specs.Steps as model
-use Rattle.mk_world.specs.NamedStep.{Step, Edit, Make, Begin, Look, Put, End, Pass, Stop, EndMake}
+use Rattle.mk_world.specs.NamedStep.{Step, Edit, Make, Begin, Look, Put, End, Break, Pass, Stop, EndMake}
 use Rattle.mk_world.specs.declared.fault.StepFault.{StepFault}
 use Rattle.mk_world.specs.declared.fault.StepFault.TheVariants.{Memory}
 use Rattle.mk_world.specs.State.{State, Scene, setting, setting_of, disk_of, world_of, number_of}
@@ -21,6 +21,7 @@ step_of g (Begin n) = model.Begin (number_of g n)
 step_of g (Look n f) = model.Look (number_of g n) f
 step_of g (Put n f c) = model.Put (number_of g n) f c
 step_of g (End n) = model.End (number_of g n)
+step_of g (Break n removed) = model.Break (number_of g n) removed
 step_of g (Pass n) = model.Pass (number_of g n)
 step_of g Stop = model.Stop
 step_of g EndMake = model.EndMake

@@ -5,7 +5,7 @@ ghost use Rattle.mk_lines.specs.Names.{has_name};
 ghost use Rattle.mk_world.specs.First.{first_disk};
 ghost use Rattle.mk_world.specs.Listing.{listing};
 ghost use Rattle.mk_graph.specs.Graph.{max_nodes};
-ghost use Rattle.mk_build.specs.World.{content, written, last_stamp, outcome};
+ghost use Rattle.mk_build.specs.World.{content, written, without, last_stamp, outcome};
 ghost use Rattle.mk_build.specs.Steps.{noted};
 ghost use Rattle.mk_build.specs.Setting.{FileName};
 ghost use Rattle.mk_world.specs.Places.{content_at, place_among};
@@ -15,7 +15,7 @@ use crate::file::{File, Listed};
 use crate::first::first_files;
 use crate::making::Making;
 use crate::outcomes::{Outcomes, Sight};
-use crate::table::{get, set};
+use crate::table::{clear, get, set};
 use mk_foot::Setting;
 use mk_lines::{BorrowedNames, Name};
 use std::alloc::{AllocError, Global};
@@ -182,6 +182,16 @@ impl<'a> Disk<'a> {
         let entry = File { content, stamp };
         set(&self.names, &mut self.files, file, entry);
     }
+
+    /// Removes a file. The name must belong to the world.
+    pub fn remove(&mut self, file: &str)
+        requires { has_name self.old.names file.now ≡ true }
+        ensures disk { disk_of self.new ≡ without (disk_of self.old) file.now }
+        ensures names { self.new.names ≡ self.old.names }
+    {
+        clear(&self.names, &mut self.files, file);
+    }
+
     /// Whether the recipe wrote what it is known to write after reading this. True if that isn't
     /// known.
     pub fn agrees(&self, sight: &Sight, written: &[u64]) -> bool

@@ -50,6 +50,10 @@ pub enum StepFault {
     /// `NotAGoal` (77): the make has no goal, or one that isn't a goal of the graph.
     #[error("not a goal of the graph")]
     NotAGoal,
+    /// `NotLeftToRun` (78): a recipe breaks off that would not have to run then: it needn't run on
+    /// the disk as it is, or it isn't recorded to write the target that is removed.
+    #[error("the recipe would not have to run again")]
+    NotLeftToRun,
     /// Out of memory. It may replace any other result.
     #[error("out of memory")]
     Memory,

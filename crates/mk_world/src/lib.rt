@@ -2,6 +2,7 @@
 //! such steps.
 #![tactic(auto)]
 
+mod breaking;
 mod disk;
 mod ending;
 mod fault;

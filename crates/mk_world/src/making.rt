@@ -7,7 +7,7 @@ ghost use Rattle.mk_graph.specs.Graph.{max_nodes};
 ghost use Rattle.mk_graph.specs.Membership.{Has};
 ghost use Rattle.mk_graph.specs.Schedules.{CanStart, HasAll};
 ghost use Rattle.mk_world.specs.Kept.{IsKept};
-ghost use Rattle.mk_world.specs.State.{Scene, begun, finished, run_at, no_run, start_of, with_run, HasLooked, HasPut};
+ghost use Rattle.mk_world.specs.State.{Scene, begun, broken_off, finished, run_at, no_run, start_of, with_run, HasLooked, HasPut};
 
 use crate::lent::LentNames;
 use crate::progress::RunningRecipe;
@@ -24,6 +24,7 @@ pub struct Making {
     done: Vec<usize>,
     is_done: NodeSet,
     running: Vec<usize>,
+    broken: Vec<usize>,
     runs: Vec<RunningRecipe>,
 }
 
@@ -40,6 +41,7 @@ impl Model for Making {
           goals = m.goals.items;
           done = reverse m.done.items;
           running = m.running.items;
+          broken = m.broken.items;
           runs = m.runs.items;
         } };
 
@@ -81,6 +83,7 @@ impl Making {
             done: Vec::new(alloc),
             is_done: NodeSet::new(),
             running: Vec::new(alloc),
+            broken: Vec::new(alloc),
             runs: no_runs(alloc, nodes)?,
         })
     }
@@ -90,6 +93,21 @@ impl Making {
         ensures { (result ≡ true) ↔ Has self.now.running number }
     {
         self.running.contains(&number)
+    }
+
+    /// Whether the recipe of a node broke off.
+    pub fn is_broken(&self, number: usize) -> bool
+        ensures { (result ≡ true) ↔ Has self.now.broken number }
+    {
+        self.broken.contains(&number)
+    }
+
+    /// Whether the recipe of a node isn't running and didn't break off.
+    fn is_free(&self, number: usize) -> bool
+        ensures { (result ≡ true) ↔
+            ((¬ (Has self.now.running number)) × (¬ (Has self.now.broken number))) }
+    {
+        !self.is_running(number) && !self.is_broken(number)
     }
 
     /// Whether a job is free.
@@ -113,14 +131,15 @@ impl Making {
         self.is_done.has_all(&self.goals)
     }
 
-    /// Whether a node can start and isn't running. `readiness` must follow this make.
+    /// Whether a node can start, isn't running and didn't break off. `readiness` must follow this
+    /// make.
     pub fn is_ready(&self, readiness: &Readiness, number: usize) -> bool
         ensures { (scene : Scene) → IsKept scene self.now readiness.now → ((result ≡ true) ↔
             (CanStart scene.graph self.now.goals self.now.done number ×
-            (¬ (Has self.now.running number)))) }
+            (¬ (Has self.now.running number)) × (¬ (Has self.now.broken number)))) }
     {
         schedule_laws::can_start_stays();
-        readiness.can_start(number) && !self.is_running(number)
+        readiness.can_start(number) && self.is_free(number)
     }
 
     /// The run of a node's recipe.
@@ -153,6 +172,18 @@ impl Making {
     {
         self.done.push(number)?;
         self.is_done.insert(number);
+        take_out(&mut self.running, number);
+        self.runs[number].clear();
+        Ok(())
+    }
+
+    /// Marks a running recipe as broken off. The only error is out of memory, which changes nothing.
+    pub fn break_off(&mut self, number: usize) -> Result<(), AllocError>
+        requires { number < length self.old.runs }
+        ensures ok { OnOk result (self.new ≡ broken_off self.old number) }
+        ensures err { OnErr result (self.new ≡ self.old) }
+    {
+        self.broken.insert(0, number)?;
         take_out(&mut self.running, number);
         self.runs[number].clear();
         Ok(())

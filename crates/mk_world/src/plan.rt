@@ -47,6 +47,13 @@ pub enum PlanCommand {
         /// Its node.
         node: Name,
     },
+    /// `break T` or `break T removed`: a running recipe breaks off.
+    Break {
+        /// Its node.
+        node: Name,
+        /// Whether its target is removed.
+        removed: bool,
+    },
     /// `finish T`: a running recipe reads all its files, writes all its files, and ends.
     Finish {
         /// Its node.

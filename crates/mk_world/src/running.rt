@@ -41,6 +41,7 @@ fn knows(world: &World, order: &PlanCommand) -> bool
         PlanCommand::Make { goals, .. } => are_nodes(world, goals.as_slice()),
         PlanCommand::Begin { node }
         | PlanCommand::Done { node }
+        | PlanCommand::Break { node, .. }
         | PlanCommand::Finish { node }
         | PlanCommand::Run { node }
         | PlanCommand::Pass { node } => world.has_node(node.as_str()),
@@ -115,6 +116,7 @@ fn obey(alloc: Global, world: &mut World, order: &PlanCommand) -> Result<(), Ste
             world.put(node.as_str(), file.as_str(), content)
         }
         PlanCommand::Done { node } => world.end(node.as_str()),
+        PlanCommand::Break { node, removed } => world.break_off(node.as_str(), *removed),
         PlanCommand::Finish { node } => world.finish(node.as_str()),
         PlanCommand::Run { node } => run_whole(world, node.as_str()),
         PlanCommand::Pass { node } => world.pass(node.as_str()),

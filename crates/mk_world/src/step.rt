@@ -44,6 +44,13 @@ pub enum Step<'a> {
         /// Its node.
         node: &'a str,
     },
+    /// A running recipe breaks off: it fails or is killed.
+    Break {
+        /// Its node.
+        node: &'a str,
+        /// Whether its target is removed.
+        removed: bool,
+    },
     /// A node is passed.
     Pass {
         /// The node.

@@ -19,6 +19,23 @@ pub fn get<T: Copy>(names: &BorrowedNames, values: &[Option<T>], name: &str) -> 
     }
 }
 
+/// Removes the value of a name, if the name is in the table. Returns whether it is.
+pub fn clear<T: Copy>(names: &BorrowedNames, values: &mut Vec<Option<T>>, name: &str) -> bool
+    requires { length values.old.items ≡ length names.now }
+    ensures there { result ≡ has_name names.now name.now }
+    ensures len { length values.new.items ≡ length values.old.items }
+    ensures noted { OnTrue result (look names.now values.new.items ≡
+        changed (look names.now values.old.items) name.now None) }
+    ensures same { OnFalse result (values.new.items ≡ values.old.items) }
+{
+    let place = names.number_of(name);
+    if place >= values.len() {
+        return false;
+    }
+    values[place] = None;
+    true
+}
+
 /// Sets the value of a name, if the name is in the table. Returns whether it is.
 pub fn set<T: Copy>(
     names: &BorrowedNames,

@@ -1,6 +1,6 @@
 //! The world in which steps are taken.
 
-ghost use Rattle.std.specs.Prelude.{◌≡◌, ◌<◌, length, map, true, IfOk, None};
+ghost use Rattle.std.specs.Prelude.{◌≡◌, ◌<◌, length, map, true, false, IfOk, None};
 ghost use Rattle.std.specs.String.{string_bytes};
 ghost use Rattle.mk_build.specs.Steps as model;
 ghost use Rattle.mk_build.specs.Setting.{reads, writes};
@@ -23,7 +23,7 @@ use crate::names::goals_of;
 use crate::places::Places;
 use crate::scene::Scene;
 use crate::step::Step;
-use crate::{ending, finishing, passing, recipes};
+use crate::{breaking, ending, finishing, passing, recipes};
 use mk_foot::Setting;
 use mk_graph::Graph;
 use mk_graph_ready::Readiness;
@@ -120,6 +120,8 @@ impl<'a> World<'a> {
     ///   `ClockSpent` (59).
     /// - End: `NotRunning` (66); `NotAllDone` (68) if it hasn't read and written all its files;
     ///   `OtherOutcome` (60) if it has read the same before and wrote something else.
+    /// - Break: `NotRunning` (66); `NotLeftToRun` (78) if the recipe would not have to run then: its
+    ///   target isn't removed and it need not run, or it doesn't write the target that is removed.
     /// - Pass: `NotReady` (63); `OutOfDate` (65) if the node has a recipe that must run.
     /// - Stop: `NotAllDone` (68) if a recipe runs.
     /// - EndMake: `NotAllDone` (68) if a goal isn't done or a recipe runs.
@@ -181,6 +183,7 @@ impl<'a> World<'a> {
                 content,
             } => self.put(node, file, *content),
             Step::End { node } => self.end(node),
+            Step::Break { node, removed } => self.break_off(node, *removed),
             Step::Pass { node } => self.pass(node),
             Step::Stop => self.stop(),
             Step::EndMake => self.end_make(),
@@ -310,6 +313,39 @@ impl<'a> World<'a> {
         ending::end(self.alloc, &self.scene, &mut self.disk, making, number)?;
         self.readiness.mark_done(number);
         Ok(())
+    }
+
+    /// Breaks off a running recipe. Errors are those of `step` for this step.
+    pub(crate) fn break_off(&mut self, node: &str, removed: bool) -> Result<(), StepFault>
+        ensures { Answers self.old self.new
+            (model.Break (number_of self.old.scene.graph node.now) removed) result }
+    {
+        let number = self.scene.number(node);
+        if removed {
+            self.break_and_remove(number)
+        } else {
+            self.break_only(number)
+        }
+    }
+
+    /// Breaks off the running recipe of the node with this number, and removes its target.
+    fn break_and_remove(&mut self, number: usize) -> Result<(), StepFault>
+        ensures { Answers self.old self.new (model.Break number true) result }
+    {
+        let Some(making) = &mut self.make else {
+            return Err(StepFault::NoMake);
+        };
+        breaking::break_and_remove(&self.scene, &mut self.disk, making, number)
+    }
+
+    /// Breaks off the running recipe of the node with this number.
+    fn break_only(&mut self, number: usize) -> Result<(), StepFault>
+        ensures { Answers self.old self.new (model.Break number false) result }
+    {
+        let Some(making) = &mut self.make else {
+            return Err(StepFault::NoMake);
+        };
+        breaking::break_off(&self.scene, &self.disk, making, number)
     }
 
     /// Passes a node. Errors are those of `step` for this step.

@@ -24,7 +24,9 @@ pub record AgreesIn (g : Graph) (m k : Making) : Type 0 where
   pub no_more_goals : IsWithin k.goals m.goals
   pub of_graph : IsWithin k.goals g.goals
   pub running : k.running ≡ m.running
+  pub broken : k.broken ≡ m.broken
   pub recipes : (t : ℕ) → Has m.running t → (node g t).recipe ≡ true
+  pub broken_recipes : (t : ℕ) → Has m.broken t → (node g t).recipe ≡ true
   pub seen : (t : ℕ) → Has m.running t → k.seen t ≡ m.seen t
   pub put : (t : ℕ) → Has m.running t → k.put t ≡ m.put t
   pub done : (t : ℕ) → (node g t).recipe ≡ true → Has m.done t → Has k.done t
@@ -120,7 +122,9 @@ idle_passed g m k n agrees idle =
       no_more_goals = agrees.no_more_goals;
       of_graph = agrees.of_graph;
       running = nothing_out n k.running out ∙ agrees.running;
+      broken = agrees.broken;
       recipes = agrees.recipes;
+      broken_recipes = agrees.broken_recipes;
       seen = λ t h. changed_beside k.seen n (λ f. None) t (apart t h) ∙ agrees.seen t h;
       put = λ t h. changed_beside k.put n (λ f. None) t (apart t h) ∙ agrees.put t h;
       done = λ t on h. inr (agrees.done t on h);
@@ -155,7 +159,8 @@ module _ (stay : CanStartStays) (reaches : SerialReachesEachOnce) where
           let low = wanted_low g k.goals k.done is agrees.of_graph n may.wanted in
           let there = ((reaches g is.no_cycle).1 n).1 (is.sound.reached n low) in
           let still : ¬ (Has k.running n) = λ r. on_off (agrees.recipes n (subst (λ l. Has l n) agrees.running r)) off in
-          none n there ((may, still), off)
+          let sound : ¬ (Has k.broken n) = λ b. on_off (agrees.broken_recipes n (subst (λ l. Has l n) agrees.broken b)) off in
+          none n there ((may, still, sound), off)
 
       here : (b : Bool) → (node g n).recipe ≡ b → IsWithin ns k.done → Has k.done n
       here true e rest = recipes n e (inl refl)
@@ -173,4 +178,5 @@ module _ (stay : CanStartStays) (reaches : SerialReachesEachOnce) where
   ready_too g m k n is agrees within on ready = (
     stay g m.goals k.goals m.done k.done agrees.goals within n (λ h. ready.0.not_done (agrees.no_more_done n on h)) ready.0,
     λ r. ready.1 (subst (λ l. Has l n) agrees.running r),
+    λ b. ready.2 (subst (λ l. Has l n) agrees.broken b),
   )

@@ -15,7 +15,7 @@ use Rattle.mk_build.specs.Setting.{FileName, Setting, reads, writes}
 use Rattle.mk_graph.specs.Schedules.{IsPart}
 use Rattle.mk_build.specs.World.{Disk, Making, World, Idle, Busy, changed, content, outcome}
 use Rattle.mk_build.specs.Steps as model
-use Rattle.mk_build.specs.Steps.{Allowed, IsLegal, after, after_all, begun, finished, has_put, looked, make_of, noted, put_by, seen_by}
+use Rattle.mk_build.specs.Steps.{Allowed, IsLegal, after, after_all, begun, broken_off, finished, has_put, looked, make_of, noted, put_by, seen_by}
 use Rattle.mk_world.specs.State.{number_of}
 use Rattle.mk_world.specs.Running.{Passes, PassesAll, goals_among}
 use Rattle.mk_world_plan.specs.PlanText.{are_all_named}
@@ -84,7 +84,9 @@ made g jobs xs ys some no_more of_graph = record {
   no_more_goals = no_more;
   of_graph = of_graph;
   running = refl;
+  broken = refl;
   recipes = λ t h. absurd h;
+  broken_recipes = λ t h. absurd h;
   seen = λ t h. absurd h;
   put = λ t h. absurd h;
   done = λ t on h. h;
@@ -140,7 +142,9 @@ begun_agrees g m k n agrees on = record {
   no_more_goals = agrees.no_more_goals;
   of_graph = agrees.of_graph;
   running = ap (λ l. n ∷ l) agrees.running;
+  broken = agrees.broken;
   recipes = λ t h. elim h [ inl e ↦ subst (λ i. (node g i).recipe ≡ true) e on | inr r ↦ agrees.recipes t r ];
+  broken_recipes = agrees.broken_recipes;
   seen = λ t h. changed_same k.seen m.seen n (λ f. None) (λ f. None) t refl (λ apart. elim h [ inl e ↦ absurd (apart e) | inr r ↦ agrees.seen t r ]);
   put = λ t h. changed_same k.put m.put n (λ f. None) (λ f. None) t refl (λ apart. elim h [ inl e ↦ absurd (apart e) | inr r ↦ agrees.put t r ]);
   done = agrees.done;
@@ -155,7 +159,9 @@ looked_agrees g m k n f c agrees runs = record {
   no_more_goals = agrees.no_more_goals;
   of_graph = agrees.of_graph;
   running = agrees.running;
+  broken = agrees.broken;
   recipes = agrees.recipes;
+  broken_recipes = agrees.broken_recipes;
   seen = λ t h. changed_same k.seen m.seen n (changed (k.seen n) f (Some c)) (changed (m.seen n) f (Some c)) t (ap (λ at. changed at f (Some c)) (agrees.seen n runs)) (λ apart. agrees.seen t h);
   put = agrees.put;
   done = agrees.done;
@@ -170,7 +176,9 @@ put_agrees g m k n f c agrees runs = record {
   no_more_goals = agrees.no_more_goals;
   of_graph = agrees.of_graph;
   running = agrees.running;
+  broken = agrees.broken;
   recipes = agrees.recipes;
+  broken_recipes = agrees.broken_recipes;
   seen = agrees.seen;
   put = λ t h. changed_same k.put m.put n (changed (k.put n) f (Some c)) (changed (m.put n) f (Some c)) t (ap (λ at. changed at f (Some c)) (agrees.put n runs)) (λ apart. agrees.put t h);
   done = agrees.done;
@@ -186,12 +194,32 @@ finished_agrees g m k n agrees on = record {
   no_more_goals = agrees.no_more_goals;
   of_graph = agrees.of_graph;
   running = ap (filter (λ r. not (nat_eq n r))) agrees.running;
+  broken = agrees.broken;
   recipes = λ t h. agrees.recipes t (filter_has (λ r. not (nat_eq n r)) m.running t h);
+  broken_recipes = agrees.broken_recipes;
   seen = λ t h. changed_same k.seen m.seen n (λ f. None) (λ f. None) t refl (λ apart. agrees.seen t (filter_has (λ r. not (nat_eq n r)) m.running t h));
   put = λ t h. changed_same k.put m.put n (λ f. None) (λ f. None) t refl (λ apart. agrees.put t (filter_has (λ r. not (nat_eq n r)) m.running t h));
   done = λ t runs h. elim h [ inl e ↦ inl e | inr r ↦ inr (agrees.done t runs r) ];
   no_more_done = λ t runs h. elim h [ inl e ↦ inl e | inr r ↦ inr (agrees.no_more_done t runs r) ];
   in_turn = (λ off. absurd (on_off on off), agrees.in_turn);
+}
+
+-- a running recipe breaks off in both
+broken_agrees : (g : Graph) (m k : Making) (n : ℕ) → AgreesIn g m k → (node g n).recipe ≡ true → AgreesIn g (broken_off m n) (broken_off k n)
+broken_agrees g m k n agrees on = record {
+  jobs = agrees.jobs;
+  goals = agrees.goals;
+  no_more_goals = agrees.no_more_goals;
+  of_graph = agrees.of_graph;
+  running = ap (filter (λ r. not (nat_eq n r))) agrees.running;
+  broken = ap (λ l. n ∷ l) agrees.broken;
+  recipes = λ t h. agrees.recipes t (filter_has (λ r. not (nat_eq n r)) m.running t h);
+  broken_recipes = λ t h. elim h [ inl e ↦ subst (λ i. (node g i).recipe ≡ true) e on | inr r ↦ agrees.broken_recipes t r ];
+  seen = λ t h. changed_same k.seen m.seen n (λ f. None) (λ f. None) t refl (λ apart. agrees.seen t (filter_has (λ r. not (nat_eq n r)) m.running t h));
+  put = λ t h. changed_same k.put m.put n (λ f. None) (λ f. None) t refl (λ apart. agrees.put t (filter_has (λ r. not (nat_eq n r)) m.running t h));
+  done = agrees.done;
+  no_more_done = agrees.no_more_done;
+  in_turn = agrees.in_turn;
 }
 
 -- one without is done in the history alone
@@ -206,7 +234,9 @@ passed_agrees g m k n agrees ready off =
       no_more_goals = agrees.no_more_goals;
       of_graph = agrees.of_graph;
       running = agrees.running ∙ sym same;
+      broken = agrees.broken;
       recipes = λ t h. agrees.recipes t (runs t h);
+      broken_recipes = agrees.broken_recipes;
       seen = λ t h. agrees.seen t (runs t h) ∙ sym (changed_beside m.seen n (λ f. None) t (apart t (runs t h)));
       put = λ t h. agrees.put t (runs t h) ∙ sym (changed_beside m.put n (λ f. None) t (apart t (runs t h)));
       done = λ t on h. elim h [ inl e ↦ absurd (on_off on (subst (λ i. (node g i).recipe ≡ false) e off)) | inr r ↦ agrees.done t on r ];
@@ -249,6 +279,14 @@ end_goes g s m k d n agrees allowed =
       agrees = subst (λ (e : Disk). Agrees g (after g s (Busy m d) (model.End n)) (Busy (finished k n) e)) (sym same_disk) (in_make (finished_agrees g m k n agrees (agrees.recipes n allowed.runs)));
       counted = refl;
     }
+
+pub break_goes : (g : Graph) (s : Setting) (m k : Making) (d : Disk) (n : ℕ) (removed : Bool) → AgreesIn g m k → Allowed g s (Busy m d) (model.Break n removed) → GoesOn g s (Busy m d) (Busy k d) (Busy k d) (model.Break n removed) (model.Break n removed)
+break_goes g s m k d n removed agrees allowed = record {
+  prepared = not_prepared g s (Busy k d);
+  allowed = (subst (λ l. Has l n) (sym agrees.running) allowed.0, allowed.1);
+  agrees = in_make (broken_agrees g m k n agrees (agrees.recipes n allowed.0));
+  counted = refl;
+}
 
 pub stop_goes : (g : Graph) (s : Setting) (m k : Making) (d : Disk) → AgreesIn g m k → Allowed g s (Busy m d) model.Stop → GoesOn g s (Busy m d) (Busy k d) (Busy k d) model.Stop model.Stop
 stop_goes g s m k d agrees allowed = record {

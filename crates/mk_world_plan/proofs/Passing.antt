@@ -112,9 +112,12 @@ idle_decided g m is within n = elim (wanted_decided g m.goals m.done is within n
       | inr not ↦ inr (λ h. not h.0.0.prerequisites)
       | inl all ↦ elim (has_decided m.running n) [
         | inl runs ↦ inr (λ h. h.0.1 runs)
-        | inr still ↦ elim (off_decided (node g n).recipe) [
-          | inl off ↦ inl ((record { wanted = wanted; not_done = not_done; prerequisites = all }, still), off)
-          | inr on ↦ inr (λ h. on h.1)
+        | inr still ↦ elim (has_decided m.broken n) [
+          | inl broke ↦ inr (λ h. h.0.2 broke)
+          | inr sound ↦ elim (off_decided (node g n).recipe) [
+            | inl off ↦ inl ((record { wanted = wanted; not_done = not_done; prerequisites = all }, still, sound), off)
+            | inr on ↦ inr (λ h. on h.1)
+          ]
         ]
       ]
     ]
@@ -218,6 +221,7 @@ passed_before g (order.Begin t) w is of = passed_in g w is of
 passed_before g (order.Look t f) w is of = (w, refl)
 passed_before g (order.Put t f c) w is of = (w, refl)
 passed_before g (order.Done t) w is of = (w, refl)
+passed_before g (order.Break t removed) w is of = (w, refl)
 passed_before g (order.Finish t) w is of = (w, refl)
 passed_before g (order.Run t) w is of = passed_in g w is of
 passed_before g (order.Pass t) w is of = passed_in g w is of

@@ -13,12 +13,12 @@ use Rattle.mk_lines.specs.Bytes.{is_byte}
 use Rattle.mk_graph.specs.Membership.{Has}
 use Rattle.mk_graph.specs.Graph.{Graph}
 use Rattle.mk_build.specs.Setting.{FileName}
-use Rattle.mk_world.specs.NamedStep.{Step, Edit, Make, Begin, Look, Put, End, Pass, Stop, EndMake}
+use Rattle.mk_world.specs.NamedStep.{Step, Edit, Make, Begin, Look, Put, End, Break, Pass, Stop, EndMake}
 use Rattle.mk_world.specs.declared.plan.PlanCommand.{PlanCommand}
 use Rattle.mk_world.specs.declared.plan.PlanCommand.TheVariants as order
 use Rattle.mk_world_plan.specs.PlanReading as plans
 use Rattle.mk_world_plan.specs.PlanReading.{lines_of, without_empty_last, is_passed_over, is_bad, parse_words, parse_number, is_number, parse_jobs, jobs_among, max_jobs, max_lines, unless_bad, numbered_lines}
-use Rattle.mk_world_plan.specs.PlanText.{are_all_named, goals_text, names_text, is_idle, make_line, pass_line, step_text, plan_text}
+use Rattle.mk_world_plan.specs.PlanText.{are_all_named, goals_text, names_text, is_idle, make_line, pass_line, break_line, step_text, plan_text}
 use Rattle.mk_world_plan.specs.Spelling.{is_of_word, IsWellSpelled}
 use Rattle.mk_world_plan.specs.PlanLaws.{IsReadable, named_goals, command_of_step, plan_line, WrittenTextIsRead}
 use Rattle.mk_world_plan.proofs.Spelling.{AreSpelled, joined, words_joined, joined_names, decimal_spelled, decimal_digits, no_newline}
@@ -152,6 +152,12 @@ put_spelled = keyword_spelled (codes "put") (omega arith) (ascii_word (codes "pu
 done_spelled : IsWellSpelled (codes "done")
 done_spelled = keyword_spelled (codes "done") (omega arith) (ascii_word (codes "done") refl) refl
 
+break_spelled : IsWellSpelled (codes "break")
+break_spelled = keyword_spelled (codes "break") (omega arith) (ascii_word (codes "break") refl) refl
+
+removed_spelled : IsWellSpelled (codes "removed")
+removed_spelled = keyword_spelled (codes "removed") (omega arith) (ascii_word (codes "removed") refl) refl
+
 pass_spelled : IsWellSpelled (codes "pass")
 pass_spelled = keyword_spelled (codes "pass") (omega arith) (ascii_word (codes "pass") refl) refl
 
@@ -210,6 +216,14 @@ done_writes t spelled =
     let ws = codes "done" ∷ t ∷ [] in
     (joined ws, line_of_words ws (order.Done t) (done_spelled, (spelled, tt)) refl refl, refl)
 
+break_writes : (removed : Bool) (t : FileName) → IsWellSpelled t → Writes (break_line t removed) (Some (order.Break t removed))
+break_writes true t spelled =
+    let ws = codes "break" ∷ t ∷ codes "removed" ∷ [] in
+    (joined ws, line_of_words ws (order.Break t true) (break_spelled, (spelled, (removed_spelled, tt))) refl refl, simp append_assoc)
+break_writes false t spelled =
+    let ws = codes "break" ∷ t ∷ [] in
+    (joined ws, line_of_words ws (order.Break t false) (break_spelled, (spelled, tt)) refl refl, refl)
+
 look_writes : (t f : FileName) → IsWellSpelled t → IsWellSpelled f → Writes (codes "look " ++ (t ++ 32 ∷ (f ++ codes "\n"))) (Some (order.Look t f))
 look_writes t f node file =
     let ws = codes "look" ∷ t ∷ f ∷ [] in
@@ -241,6 +255,7 @@ step_writes g (Begin t) readable = begin_writes t readable
 step_writes g (Look t f) readable = look_writes t f readable.0 readable.1
 step_writes g (Put t f c) readable = put_writes t f c readable.0 readable.1 readable.2
 step_writes g (End t) readable = done_writes t readable
+step_writes g (Break t removed) readable = break_writes removed t readable
 step_writes g (Pass t) readable = pass_writes (is_idle g t) t readable
 step_writes g Stop readable = stop_writes
 step_writes g EndMake readable = end_writes

@@ -8,7 +8,7 @@ use Rattle.mk_build.specs.Setting.{FileName, Setting}
 use Rattle.mk_build.specs.World.{Disk, Making, World, Idle, Busy, IsOfWorld}
 use Rattle.mk_build.specs.Steps as model
 use Rattle.mk_build.specs.Steps.{Allowed, IsLegal, after}
-use Rattle.mk_world.specs.NamedStep.{Step, Edit, Make, Begin, Look, Put, End, Pass, Stop, EndMake}
+use Rattle.mk_world.specs.NamedStep.{Step, Edit, Make, Begin, Look, Put, End, Break, Pass, Stop, EndMake}
 use Rattle.mk_world.specs.State.{number_of, setting, world_in, world_of}
 use Rattle.mk_world.specs.State as lists
 use Rattle.mk_world.specs.Steps.{step_of}
@@ -32,6 +32,7 @@ stays g s (Idle d) (model.Begin t) of a = absurd a
 stays g s (Idle d) (model.Look t f) of a = absurd a
 stays g s (Idle d) (model.Put t f c) of a = absurd a
 stays g s (Idle d) (model.End t) of a = absurd a
+stays g s (Idle d) (model.Break t removed) of a = absurd a
 stays g s (Idle d) (model.Pass n) of a = absurd a
 stays g s (Idle d) model.Stop of a = absurd a
 stays g s (Idle d) model.EndMake of a = absurd a
@@ -41,6 +42,7 @@ stays g s (Busy m d) (model.Begin t) of a = (of.0, λ n h. elim h [ inl e ↦ su
 stays g s (Busy m d) (model.Look t f) of a = of
 stays g s (Busy m d) (model.Put t f c) of a = of
 stays g s (Busy m d) (model.End t) of a = (of.0, λ n h. of.1 n (filter_has (λ r. not (nat_eq t r)) m.running n h))
+stays g s (Busy m d) (model.Break t removed) of a = (of.0, λ n h. of.1 n (filter_has (λ r. not (nat_eq t r)) m.running n h))
 stays g s (Busy m d) (model.Pass t) of a = (of.0, λ n h. of.1 n (filter_has (λ r. not (nat_eq t r)) m.running n h))
 stays g s (Busy m d) model.Stop of a = tt
 stays g s (Busy m d) model.EndMake of a = tt
@@ -65,6 +67,7 @@ module _ (g : Graph) (s : Setting) (is : IsGraph g) (spelled : (f : FileName) �
   one_readable (Idle d) (Look t f) of a small = absurd a
   one_readable (Idle d) (Put t f c) of a small = absurd a
   one_readable (Idle d) (End t) of a small = absurd a
+  one_readable (Idle d) (Break t removed) of a small = absurd a
   one_readable (Idle d) (Pass t) of a small = absurd a
   one_readable (Idle d) Stop of a small = absurd a
   one_readable (Idle d) EndMake of a small = absurd a
@@ -74,6 +77,7 @@ module _ (g : Graph) (s : Setting) (is : IsGraph g) (spelled : (f : FileName) �
   one_readable (Busy m d) (Look t f) of a small = (runs_spelled m d t of a.0, spelled f (inr (inr (number_of g t, inl a.1))))
   one_readable (Busy m d) (Put t f c) of a small = (runs_spelled m d t of a.0, spelled f (inr (inr (number_of g t, inr a.1))), small)
   one_readable (Busy m d) (End t) of a small = runs_spelled m d t of a.runs
+  one_readable (Busy m d) (Break t removed) of a small = runs_spelled m d t of a.0
   one_readable (Busy m d) (Pass t) of a small = node_spelled t (wanted_low g m.goals m.done is of.0 (number_of g t) a.0.0.wanted)
   one_readable (Busy m d) Stop of a small = tt
   one_readable (Busy m d) EndMake of a small = tt

@@ -12,7 +12,7 @@ use Rattle.mk_build.specs.Setting.{FileName, Setting}
 use Rattle.mk_build.specs.World.{Disk, Making, World, Idle, Busy, IsOfWorld, disk_of}
 use Rattle.mk_build.specs.Steps as model
 use Rattle.mk_build.specs.Steps.{Allowed, IsLegal, after, after_all}
-use Rattle.mk_world.specs.NamedStep.{Step, Edit, Make, Begin, Look, Put, End, Pass, Stop, EndMake}
+use Rattle.mk_world.specs.NamedStep.{Step, Edit, Make, Begin, Look, Put, End, Break, Pass, Stop, EndMake}
 use Rattle.mk_world.specs.declared.plan.PlanCommand.{PlanCommand}
 use Rattle.mk_world.specs.declared.plan.PlanCommand.TheVariants as order
 use Rattle.mk_world.specs.declared.fault.StepFault.{StepFault}
@@ -27,7 +27,7 @@ use Rattle.mk_world_plan.specs.PlanLaws.{HasARun, WrittenPlanRuns, is_idle_pass,
 use Rattle.mk_world_plan.proofs.Numbers.{busy_is, idle_is, low_known, name_there}
 use Rattle.mk_world_plan.proofs.Agreeing.{AgreesIn, wanted_low, within_all}
 use Rattle.mk_world_plan.proofs.Passing.{HasGoalsOf, passed_before}
-use Rattle.mk_world_plan.proofs.Following.{Agrees, GoesOn, at_rest, begin_goes, edit_goes, end_goes, end_make_goes, goals_read, in_make, look_goes, make_goes, pass_goes, passed_agrees, put_goes, recipe_low, stop_goes}
+use Rattle.mk_world_plan.proofs.Following.{Agrees, GoesOn, at_rest, begin_goes, break_goes, edit_goes, end_goes, end_make_goes, goals_read, in_make, look_goes, make_goes, pass_goes, passed_agrees, put_goes, recipe_low, stop_goes}
 
 -- the names of the world are known
 abbrev AreKnown : Stage → Type 0
@@ -99,6 +99,7 @@ module _ (one : NamesHaveOneNumber) (stay : CanStartStays) (reaches : SerialReac
   idle_done stage d (Look t f) is known allowed = absurd allowed
   idle_done stage d (Put t f c) is known allowed = absurd allowed
   idle_done stage d (End t) is known allowed = absurd allowed
+  idle_done stage d (Break t removed) is known allowed = absurd allowed
   idle_done stage d (Pass t) is known allowed = absurd allowed
   idle_done stage d Stop is known allowed = absurd allowed
   idle_done stage d EndMake is known allowed = absurd allowed
@@ -125,6 +126,11 @@ module _ (one : NamesHaveOneNumber) (stay : CanStartStays) (reaches : SerialReac
     known = runs_known stage.graph m k t agrees allowed.runs;
     own = λ e. refl;
     goes = λ behind passes. subst (λ w. GoesOn stage.graph stage.setting (Busy m d) (Busy k d) w (model.End (number_of stage.graph t)) (model.End (number_of stage.graph t))) (sym passes) (end_goes stage.graph stage.setting m k d (number_of stage.graph t) agrees allowed);
+  }
+  busy_done stage m k d (Break t removed) is known agrees allowed = record {
+    known = runs_known stage.graph m k t agrees allowed.0;
+    own = λ e. refl;
+    goes = λ behind passes. subst (λ w. GoesOn stage.graph stage.setting (Busy m d) (Busy k d) w (model.Break (number_of stage.graph t) removed) (model.Break (number_of stage.graph t) removed)) (sym passes) (break_goes stage.graph stage.setting m k d (number_of stage.graph t) removed agrees allowed);
   }
   busy_done stage m k d (Pass t) is known agrees allowed = pass_done stage m k d t (is_idle stage.graph t) is agrees allowed refl
   busy_done stage m k d Stop is known agrees allowed = record {

@@ -9,7 +9,7 @@ use Rattle.mk_build.specs.Setting.{FileName, Setting}
 use Rattle.mk_build.specs.World.{Disk, World, Idle, IsOfWorld, disk_of}
 use Rattle.mk_build.specs.Steps as model
 use Rattle.mk_build.specs.Steps.{IsLegal, after_all}
-use Rattle.mk_world.specs.NamedStep.{Step, Edit, Make, Begin, Look, Put, End, Pass, Stop, EndMake}
+use Rattle.mk_world.specs.NamedStep.{Step, Edit, Make, Begin, Look, Put, End, Break, Pass, Stop, EndMake}
 use Rattle.mk_world.specs.declared.plan.PlanCommand.{PlanCommand}
 use Rattle.mk_world.specs.declared.plan.PlanCommand.TheVariants as order
 use Rattle.mk_world.specs.declared.plan.PlanLine.{PlanLine}
@@ -32,6 +32,7 @@ IsReadable (Begin t) = IsWellSpelled t
 IsReadable (Look t f) = IsWellSpelled t × IsWellSpelled f
 IsReadable (Put t f c) = IsWellSpelled t × IsWellSpelled f × (c < 2 ^ 64)
 IsReadable (End t) = IsWellSpelled t
+IsReadable (Break t removed) = IsWellSpelled t
 IsReadable (Pass t) = IsWellSpelled t
 IsReadable Stop = Unit {0}
 IsReadable EndMake = Unit {0}
@@ -65,6 +66,7 @@ command_of_step g (Begin t) = Some (order.Begin t)
 command_of_step g (Look t f) = Some (order.Look t f)
 command_of_step g (Put t f c) = Some (order.Put t f (Some c))
 command_of_step g (End t) = Some (order.Done t)
+command_of_step g (Break t removed) = Some (order.Break t removed)
 command_of_step g (Pass t) = if is_idle g t then None else Some (order.Pass t)
 command_of_step g Stop = Some order.Stop
 command_of_step g EndMake = Some order.End

@@ -1,5 +1,5 @@
 -- Plans: the commands of the lines of a text.
-use Rattle.std.specs.Prelude.{ℕ, ◌==◌, ◌^◌, Bool, true, ◌&&◌, ◌||◌, not, List, [], ◌∷◌, codes, length, nat_lt, nat_le, Option, None, Some, option_map, option_and_then, is_none, Result, Ok, Err, find, if◌then◌else◌}
+use Rattle.std.specs.Prelude.{ℕ, ◌==◌, ◌^◌, Bool, true, false, ◌&&◌, ◌||◌, not, List, [], ◌∷◌, codes, length, nat_lt, nat_le, Option, None, Some, option_map, option_and_then, is_none, Result, Ok, Err, find, if◌then◌else◌}
 use Rattle.std.specs.List.{slice_split, list_all, filter_map, enumerate_from}
 use Rattle.std.specs.Map.{lookup}
 use Rattle.std.specs.Str.{bytes_eq, is_utf8}
@@ -10,7 +10,7 @@ use Rattle.mk_lines.specs.Words.{words}
 use Rattle.mk_world_plan.specs.declared.keyword.Keyword.{Keyword}
 use Rattle.mk_world_plan.specs.declared.keyword.Keyword.TheVariants as word
 use Rattle.mk_world.specs.declared.plan.PlanCommand.{PlanCommand}
-use Rattle.mk_world.specs.declared.plan.PlanCommand.TheVariants.{Make, Stop, Begin, Look, Put, Done, Finish, Run, Pass, End, Edit}
+use Rattle.mk_world.specs.declared.plan.PlanCommand.TheVariants.{Make, Stop, Begin, Look, Put, Done, Break, Finish, Run, Pass, End, Edit}
 use Rattle.mk_world.specs.declared.plan.PlanLine.{PlanLine}
 use Rattle.mk_world.specs.declared.plan.PlanFault.{PlanFault}
 use Rattle.mk_world.specs.declared.plan.PlanFault.TheVariants.{Line}
@@ -97,6 +97,18 @@ abbrev pub parse_edit : List (List ℕ) → Option PlanCommand
 parse_edit (f ∷ rest) = option_map (λ c. Edit f c) (parse_content rest)
 parse_edit words = None
 
+-- Whether the target is removed, by the words after it: nothing, or `removed`; otherwise the words
+-- are malformed.
+abbrev pub parse_removed : List (List ℕ) → Option Bool
+parse_removed [] = Some false
+parse_removed (word ∷ []) = if bytes_eq word (codes "removed") then Some true else None
+parse_removed words = None
+
+-- The command of `break T` or `break T removed`.
+abbrev pub parse_break : List (List ℕ) → Option PlanCommand
+parse_break [] = None
+parse_break (t ∷ rest) = option_map (λ removed. Break t removed) (parse_removed rest)
+
 -- The command of a keyword without further words.
 abbrev pub alone : PlanCommand → List (List ℕ) → Option PlanCommand
 alone order [] = Some order
@@ -110,6 +122,7 @@ parse_arguments word.Begin words = option_map (λ t. Begin t) (single_word words
 parse_arguments word.Look words = parse_look words
 parse_arguments word.Put words = parse_put words
 parse_arguments word.Done words = option_map (λ t. Done t) (single_word words)
+parse_arguments word.Break words = parse_break words
 parse_arguments word.Finish words = option_map (λ t. Finish t) (single_word words)
 parse_arguments word.Run words = option_map (λ t. Run t) (single_word words)
 parse_arguments word.Pass words = option_map (λ t. Pass t) (single_word words)
@@ -121,7 +134,7 @@ abbrev pub keywords : List (List ℕ × Keyword)
 keywords =
     (codes "make", word.Make) ∷ (codes "stop", word.Stop) ∷ (codes "begin", word.Begin) ∷
     (codes "look", word.Look) ∷ (codes "put", word.Put) ∷ (codes "done", word.Done) ∷
-    (codes "finish", word.Finish) ∷ (codes "run", word.Run) ∷ (codes "pass", word.Pass) ∷
+    (codes "break", word.Break) ∷ (codes "finish", word.Finish) ∷ (codes "run", word.Run) ∷ (codes "pass", word.Pass) ∷
     (codes "end", word.End) ∷ (codes "edit", word.Edit) ∷ []
 
 -- The keyword that a word is, if it is one.

@@ -5,7 +5,7 @@ ghost use Rattle.std.specs.List.{list_all};
 ghost use Rattle.std.specs.Str.{is_utf8};
 ghost use Rattle.std.specs.Char.{is_ascii_digit};
 ghost use Rattle.mk_lines.specs.Words.{words};
-ghost use Rattle.mk_world_plan.specs.PlanReading.{parse_number, parse_jobs, parse_content, single_word, parse_make, parse_look, parse_put, parse_edit, parse_arguments, parse_words, parse_line};
+ghost use Rattle.mk_world_plan.specs.PlanReading.{parse_number, parse_jobs, parse_content, single_word, parse_make, parse_look, parse_put, parse_edit, parse_removed, parse_break, parse_arguments, parse_words, parse_line};
 
 use crate::keyword::{Keyword, keyword_of};
 use mk_lines::laws::{words_are_longest_parts, words_come_in_order};
@@ -175,6 +175,32 @@ fn parse_edit(alloc: Global, words: &[&str]) -> Result<Option<PlanCommand>, Allo
     Ok(Some(PlanCommand::Edit { file, content }))
 }
 
+/// Whether the target is removed, by the words after it: nothing, or `removed`. `None` if the words
+/// are malformed.
+fn parse_removed(words: &[&str]) -> Option<bool>
+    ensures { result ≡ parse_removed (map (λ word. word.now) words.now) }
+{
+    match words {
+        [] => Some(false),
+        [word] => { if *word == "removed" { Some(true) } else { None } }
+        _ => None,
+    }
+}
+
+/// The command of a line `break` with these words after it.
+fn parse_break(alloc: Global, words: &[&str]) -> Result<Option<PlanCommand>, AllocError>
+    ensures { IfOk result (λ order. order ≡ parse_break (map (λ word. word.now) words.now)) }
+{
+    let [first, rest @ ..] = words else {
+        return Ok(None);
+    };
+    let Some(removed) = parse_removed(rest) else {
+        return Ok(None);
+    };
+    let node = Name::new(alloc, first)?;
+    Ok(Some(PlanCommand::Break { node, removed }))
+}
+
 /// The command with this keyword and the words after it, or `None` if they are malformed. The only
 /// error is out of memory.
 fn parse_arguments(
@@ -192,6 +218,7 @@ fn parse_arguments(
         Keyword::Look => parse_look(alloc, words),
         Keyword::Put => parse_put(alloc, words),
         Keyword::Done => Ok(single_word(alloc, words)?.map(|node| PlanCommand::Done { node })),
+        Keyword::Break => parse_break(alloc, words),
         Keyword::Finish => Ok(single_word(alloc, words)?.map(|node| PlanCommand::Finish { node })),
         Keyword::Run => Ok(single_word(alloc, words)?.map(|node| PlanCommand::Run { node })),
         Keyword::Pass => Ok(single_word(alloc, words)?.map(|node| PlanCommand::Pass { node })),

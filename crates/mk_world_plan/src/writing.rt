@@ -5,7 +5,7 @@ ghost use Rattle.std.specs.List.{flat_map};
 ghost use Rattle.std.specs.String.{string_bytes};
 ghost use Rattle.mk_lines.specs.Names.{has_name};
 ghost use Rattle.mk_world.specs.NamedStep.{step_view};
-ghost use Rattle.mk_world_plan.specs.PlanText.{are_all_named, goals_text, is_idle, make_line, names_text, pass_line, plan_text, step_text};
+ghost use Rattle.mk_world_plan.specs.PlanText.{are_all_named, break_line, goals_text, is_idle, make_line, names_text, pass_line, plan_text, step_text};
 
 use crate::tables::{idle_names, set_of};
 use mk_graph::Graph;
@@ -90,6 +90,17 @@ fn push_pass(out: &mut String, idle: &BorrowedNames<'_>, node: &str) -> Result<(
     push_all(out, &["pass ", node, "\n"])
 }
 
+/// Appends the line `break T` or `break T removed`.
+fn push_break(out: &mut String, node: &str, removed: bool) -> Result<(), AllocError>
+    ensures { OnOk result (string_bytes out.new ≡
+        string_bytes out.old ++ break_line node.now removed) }
+{
+    if removed {
+        return push_all(out, &["break ", node, " removed\n"]);
+    }
+    push_all(out, &["break ", node, "\n"])
+}
+
 /// Appends the line of a step.
 fn push_step(
     alloc: Global,
@@ -113,6 +124,7 @@ fn push_step(
             content,
         } => writeln!(out, "put {node} {file} {content}"),
         Step::End { node } => push_all(out, &["done ", node, "\n"]),
+        Step::Break { node, removed } => push_break(out, node, *removed),
         Step::Pass { node } => push_pass(out, idle, node),
         Step::Stop => writeln!(out, "stop"),
         Step::EndMake => writeln!(out, "end"),

@@ -108,6 +108,7 @@ fn number_of(fault: &StepFault) -> usize {
         StepFault::PlanLine => 69,
         StepFault::NotEditable => 70,
         StepFault::NotAGoal => 77,
+        StepFault::NotLeftToRun => 78,
         StepFault::Memory => 0,
     }
 }
