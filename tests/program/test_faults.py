@@ -418,7 +418,7 @@ def found() -> Iterator[Row]:
 
 
 def plans() -> Iterator[Row]:
-    """60 to 70, and 77; behind the refusal of a line come the files that are there."""
+    """60 to 70, 77 and 78; behind the refusal of a line come the files that are there."""
     copy = {
         "makefile": "b: a\n\tcp a b\n",
         "B": book(
@@ -432,6 +432,7 @@ def plans() -> Iterator[Row]:
         (61, 1, "look b a\n"),
         (61, 1, "put b b\n"),
         (61, 1, "done b\n"),
+        (61, 1, "break b\n"),
         (61, 1, "pass b\n"),
         (61, 1, "stop\n"),
         (61, 1, "end\n"),
@@ -444,6 +445,8 @@ def plans() -> Iterator[Row]:
         (66, 2, "make 1\nlook b a\n"),
         (66, 2, "make 1\nput b b\n"),
         (66, 2, "make 1\ndone b\n"),
+        (66, 2, "make 1\nbreak b removed\n"),
+        (63, 4, "make 1\nbegin b\nbreak b\nbegin b\n"),
         (67, 3, "make 1\nbegin b\nlook b b\n"),
         (67, 3, "make 1\nbegin b\nput b a\n"),
         (68, 3, "make 1\nbegin b\ndone b\n"),
@@ -462,11 +465,20 @@ def plans() -> Iterator[Row]:
         (1, "make 4097\n"),
         (65_537, "\n" * 65_536 + "end\n"),
         (3, "\n#\nedit a 18446744073709551616\n"),
+        (1, "break b removes\n"),
     ]:
         yield Row(f"refused 69 line {line}\n", SIMULATES, {**copy, "P": text})
     steps = "make 1\nbegin b\nlook b a\nput b b {}\ndone b\n"
     wrong = steps.format(7) + "end\n" + steps.format(8)
     yield Row("a 1 1\nb 7 2\nrefused 60 line 11\na 1 1\nb 8 3\n", SIMULATES, {**copy, "P": wrong})
+    written = "make 1\nbegin b\nput b b 7\nbreak b{}\n"
+    yield Row("refused 78 line 4\na 1 1\nb 7 2\n", SIMULATES, {**copy, "P": written.format("")})
+    removed = written.format(" removed") + "stop\nmake 1\nrun b\nend\n"
+    yield Row("a 1 1\nb 3 3\nplan ok\n", [SIMULATE], {**copy, "P": removed}, status=0)
+    phony = {"makefile": ".PHONY: x\nx:\n\tx\n", "B": book(sources=[], records=[])}
+    broken = "make 1\nbegin x\nbreak x{}\n"
+    yield Row("refused 78 line 3\n", SIMULATES, {**phony, "P": broken.format(" removed")})
+    yield Row("plan ok\n", [SIMULATE], {**phony, "P": broken.format("")}, status=0)
     two = {"makefile": "all: x y\nx:\n\tx\ny:\n\ty\n", "B": book(sources=[], records=[])}
     yield Row("refused 64 line 3\n", SIMULATES, {**two, "P": "make 1\nbegin x\nbegin y\n"})
 

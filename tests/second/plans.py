@@ -47,6 +47,11 @@ WRONG = [
     b"put a a -1",
     b"begin ./a",
     b"end\r",
+    b"break",
+    b"break nowhere",
+    b"break nowhere removed",
+    b"break a b",
+    b"break a removed b",
 ]
 
 
@@ -57,6 +62,7 @@ def copied(world: World) -> World:
     twin.files = dict(world.files)
     twin.outcomes = dict(world.outcomes)
     twin.done = set(world.done)
+    twin.broken = set(world.broken)
     twin.running = {}
     for name, run in world.running.items():
         twin.running[name] = type(run)()
@@ -101,6 +107,8 @@ def running_line(rng: Random, world: World, name: bytes) -> PlanLine:
     unseen = [file for file in world.reads[name] if file not in run.seen]
     unput = [file for file in world.writes[name] if file not in run.put]
     draw = rng.random()
+    if rng.random() < 0.05:
+        return PlanLine(b"break", [name], removes=rng.random() < 0.5)
     if not unseen and not unput and draw < 0.9:
         return PlanLine(b"done", [name])
     if draw < 0.15:
@@ -115,11 +123,13 @@ def running_line(rng: Random, world: World, name: bytes) -> PlanLine:
 
 
 def tempting(rng: Random, world: World) -> bytes:
-    """A line that is nearly allowed: a pass of what must run, one job too many, an early end."""
+    """A line that is nearly allowed: a pass of what must run, one job too many, an early end, a
+    break of what needn't run."""
     twin = copied(world)
     twin.pass_without_recipe()
     ready = [name for name in twin.ready() if world.graph.nodes[name].recipe]
     lines = [b"done " + name for name in sorted(world.running)]
+    lines += [b"break " + name + rng.choice([b"", b" removed"]) for name in sorted(world.running)]
     lines += [b"pass " + name for name in ready]
     if len(world.running) >= world.jobs:
         lines += [b"begin " + name for name in ready] * 2
@@ -136,13 +146,14 @@ def wrong_line(rng: Random, world: World) -> bytes:
     if world.making:
         fitting = [b"begin", b"pass", b"run", b"end", b"stop"]
     if world.running:
-        fitting = [b"look", b"put", b"done", b"finish", b"begin", b"end", b"stop"]
+        fitting = [b"look", b"put", b"done", b"break", b"finish", b"begin", b"end", b"stop"]
     if rng.random() < 0.25:
         fitting = [
             b"begin",
             b"look",
             b"put",
             b"done",
+            b"break",
             b"finish",
             b"run",
             b"pass",
@@ -165,8 +176,11 @@ def wrong_line(rng: Random, world: World) -> bytes:
     elif word not in (b"end", b"stop"):
         twin = copied(world)
         twin.pass_without_recipe()
-        likely = sorted(world.running) if word in (b"done", b"finish") else twin.ready()
+        of_running = word in (b"done", b"break", b"finish")
+        likely = sorted(world.running) if of_running else twin.ready()
         line.append(rng.choice(likely if likely and rng.random() < 0.7 else names))
+        if word == b"break" and rng.random() < 0.4:
+            line.append(b"removed")
     return b" ".join(line)
 
 

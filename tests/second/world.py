@@ -68,12 +68,15 @@ class World:
         self.goals: list[bytes] = []
         self.done: set[bytes] = set()
         self.running: dict[bytes, Running] = {}
+        self.broken: set[bytes] = set()
 
     # What holds.
 
     def ready(self) -> list[bytes]:
         return [
-            name for name in turns(self.graph, self.goals, self.done) if name not in self.running
+            name
+            for name in turns(self.graph, self.goals, self.done)
+            if name not in self.running and name not in self.broken
         ]
 
     def must_run(self, name: bytes) -> bool:
@@ -117,6 +120,7 @@ class World:
         self.goals = goals
         self.done = set()
         self.running = {}
+        self.broken = set()
 
     def begin(self, name: bytes) -> None:
         need(self.making, 61)
@@ -146,6 +150,16 @@ class World:
         self.outcomes[self.seen_of(name, run.seen)] = outcome
         del self.running[name]
         self.done.add(name)
+
+    def break_off(self, name: bytes, removed: bool) -> None:
+        self.is_running(name)
+        if removed:
+            need(name in self.writes[name], 78)
+            self.files.pop(name, None)
+        else:
+            need(self.must_run(name), 78)
+        del self.running[name]
+        self.broken.add(name)
 
     def pass_by(self, name: bytes) -> None:
         need(self.making, 61)
@@ -190,17 +204,19 @@ class World:
 
 
 class PlanLine(NamedTuple):
-    """A line of a plan: its word, its names, and its number of jobs or the content that it puts."""
+    """A line of a plan: its word, its names, its number of jobs or the content that it puts, and
+    whether it removes the target of a recipe that breaks off."""
 
     word: bytes
     names: list[bytes]
     number: int | None = None
+    removes: bool = False
 
     def text(self) -> bytes:
         """The line as a plan has it."""
         number = [] if self.number is None else [b"%d" % self.number]
         told = number + self.names if self.word == b"make" else self.names + number
-        return b" ".join([self.word] + told)
+        return b" ".join([self.word] + told + [b"removed"] * self.removes)
 
 
 # The lines of a plan, each with its number.
@@ -213,6 +229,7 @@ SHAPES = {
     b"look": (2, 2),
     b"put": (2, 3),
     b"done": (1, 1),
+    b"break": (1, 2),
     b"finish": (1, 1),
     b"run": (1, 1),
     b"pass": (1, 1),
@@ -241,6 +258,10 @@ def plan_line(told: list[bytes]) -> PlanLine:
     if told[0] in (b"put", b"edit"):
         content = told_number(told[-1]) if len(told) - 1 == most else None
         return PlanLine(told[0], told[1:most], content)
+    if told[0] == b"break":
+        if told[2:] not in ([], [b"removed"]):
+            raise ValueError
+        return PlanLine(told[0], told[1:2], removes=len(told) == 3)
     return PlanLine(told[0], told[1:])
 
 
@@ -276,7 +297,7 @@ def known_names(world: World, line: PlanLine) -> None:
 def take(world: World, line: PlanLine) -> None:
     """The steps of one line."""
     known_names(world, line)
-    word, names, number = line
+    word, names, number, removes = line
     if word in (b"begin", b"run", b"pass", b"end"):
         world.pass_without_recipe()
     if word == b"make":
@@ -291,6 +312,8 @@ def take(world: World, line: PlanLine) -> None:
         world.put(names[0], names[1], number)
     elif word == b"edit":
         world.edit(names[0], number)
+    elif word == b"break":
+        world.break_off(names[0], removes)
     elif word in (b"stop", b"end"):
         {b"stop": world.stop, b"end": world.end_make}[word]()
     else:

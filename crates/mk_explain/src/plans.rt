@@ -128,7 +128,8 @@ the world.
     make 0
 
 A make has 1 to 4,096 jobs. The lines of plans begin with `make`, `begin`,
-`look`, `put`, `done`, `break`, `finish`, `run`, `pass`, `end`, `stop` or `edit`.
+`look`, `put`, `done`, `break`, `finish`, `run`, `pass`, `end`, `stop` or
+`edit`.
 ";
 
 /// `NotEditable` (70).
@@ -152,9 +153,9 @@ Name a goal of the command line, or give the target as a goal there.
 
 /// `NotLeftToRun` (78).
 pub const NOT_LEFT_TO_RUN: &str = "\
-`refused 78 line N`: a recipe is to break off, and would not have to run again:
-its target isn't removed and it need not run, or the target that is removed
-isn't among the files that it writes by its record.
+`refused 78 line N`: a recipe is to break off, and would not have to run
+again: its target isn't removed and it need not run, or the target that is
+removed isn't among the files that it writes by its record.
 
     make 1
     run b
