@@ -67,10 +67,11 @@ impl Judge for CheckBuild {
 /// The verdict on the build of the goals, for `mkcheck check`: yes, with a way for each read of a
 /// file that can change, or no, with the findings.
 ///
-/// After a yes every legal history of source edits, makes of any of the goals, and stops between
-/// recipes, with any number of jobs and in any order that make allows, is right: after each
-/// finished make, each file that a recipe reached from its goals writes holds what a clean serial
-/// build of these goals gives from the sources as they are then (IEEE Std 1003.1-2024, XCU make).
+/// After a yes every legal history of source edits, makes of any of the goals, stops between
+/// recipes, and recipes that fail or are killed, with any number of jobs and in any order that make
+/// allows, is right: after each finished make, each file that a recipe reached from its goals writes
+/// holds what a clean serial build of these goals gives from the sources as they are then (IEEE Std
+/// 1003.1-2024, XCU make).
 ///
 /// Without a footprint file there are no records, and only the makefile's texts are given.
 ///

@@ -19,9 +19,9 @@ from mkcheck_tools.report.style import SCRIPT, STYLE
 # As the README has it; a test compares.
 PROMISE = (
     "For every number of jobs, every order of steps that make allows, and every list of source"
-    " edits, makes of any of the goals and stops between recipes: after each finished make, every"
-    " file that a recipe reached from its goals writes holds what a clean serial build of those"
-    " goals from the present sources gives."
+    " edits, makes of any of the goals, stops between recipes, and recipes that fail or are killed:"
+    " after each finished make, every file that a recipe reached from its goals writes holds what a"
+    " clean serial build of those goals from the present sources gives."
 )
 PRESUMED = (
     "It is proved of makefile, goals and footprints. That the real build is as these say is"
