@@ -1,9 +1,9 @@
 -- Every history can go on.
-use Rattle.std.proofs.Common.{append-nil, ◌≡◌, ℕ, ◌+◌, ◌<◌, ◌≤◌, List, [], ◌∷◌, ◌++◌, length, reverse, map, filter, Bool, true, false, Option, Some, None, ◌⊎◌, inl, inr, ⊎_elim, refl, sym, ◌∙◌, ap, subst, arith}
+use Rattle.std.proofs.Common.{append-nil, ◌≡◌, ℕ, ◌+◌, ◌≤◌, List, [], ◌∷◌, ◌++◌, length, reverse, map, filter, Bool, true, false, Option, Some, None, ◌⊎◌, inl, inr, ⊎_elim, refl, sym, ◌∙◌, ap, subst, arith}
 use Rattle.std.specs.Prelude.{unwrap_or}
 use Rattle.std.proofs.lemmas.Bool.{cases_Bool}
 use Rattle.std.proofs.lemmas.List.{length-map}
-use Rattle.mk_graph.specs.Membership.{Has, has}
+use Rattle.mk_graph.specs.Membership.{has}
 use Rattle.mk_graph.specs.Graph.{Graph, node, HasNoCycle}
 use Rattle.mk_graph.specs.Serial.{visits, order_from}
 use Rattle.mk_graph.specs.Schedules.{HasAll, CanStart, IsSchedule, IsPart}
@@ -16,7 +16,7 @@ use Rattle.mk_build.specs.SerialMake.{whole_run, one_make}
 use Rattle.mk_build.specs.NodeByNode.{next_stamps, to_put}
 use Rattle.mk_build.proofs.InOrder.{kept}
 use Rattle.mk_build.proofs.Outcomes.{cases_outcome, noted_cases}
-use Rattle.mk_build.proofs.WholeRuns.{legal_append, after_append, quiet, Agree, Ran, whole_run_legal}
+use Rattle.mk_build.proofs.WholeRuns.{legal_append, after_append, quiet, Agree, whole_run_legal}
 use Rattle.mk_build.proofs.SerialHistory.{TurnOn, turn_on, done_behind, clock_behind}
 use Rattle.mk_build.proofs.MakesBut.{AreByName, next_stamps_many}
 use Rattle.mk_build_progress.specs.GoingOn.{MakesInTurn, ends, passes, spares, runs}
