@@ -228,6 +228,29 @@ EXAMPLES = {
         "makefile:1: NotALine (25): no rule, macro or include line; commands begin with a tab\n"
         "  x\n",
     ),
+    "a yes as JSON": (
+        {"makefile": PLAIN_RULES, "B": RECORDED},
+        ["check", "--json", "-b", "B"],
+        0,
+        f'{{"answer":"yes","certificate":{CERTIFICATE}]}},"format":1,"reads":2,"recipes":2}}\n',
+    ),
+    "a no as JSON": (
+        {"makefile": PLAIN_RULES, "B": SHARING},
+        ["check", "--json", "-b", "B"],
+        1,
+        '{"answer":"no","findings":[{"number":1,"text":"no stale a.o h.h"}],"format":1,"groups":[{'
+        '"add":"a.o: h.h\\n","do":null,"files":["h.h"],"kind":"stale","place":{"file":"makefile",'
+        '"line":3},"sentence":"a.o reads h.h, but doesn\'t depend on it: when it changes, a.o stays'
+        ' old","targets":["a.o"]}],"later":[]}\n',
+    ),
+    "a refusal as JSON": (
+        {"makefile": "x\n", "B": BOTH},
+        ["check", "--json", "-b", "B"],
+        2,
+        '{"answer":"refused","format":1,"name":"NotALine","number":25,"place":{"file":"makefile",'
+        '"line":1},"sentence":"makefile:1: NotALine (25): no rule, macro or include line; commands'
+        ' begin with a tab","text":"refused 25 makefile:1"}\n',
+    ),
     "a mended makefile": (
         {"makefile": TRIED_RULES, "B": TRIED},
         ["repair", "-b", "B"],
@@ -279,8 +302,8 @@ EXAMPLES = {
 
 
 # Those of the gate: a graph, includes at their limit, a plan that is refused, a yes, a certificate,
-# a race, plans that show what was found, findings and a refusal in words, lines that mend a makefile
-# in two rounds, and a certificate that is judged.
+# a race, plans that show what was found, findings and a refusal in words, findings as JSON, lines
+# that mend a makefile in two rounds, and a certificate that is judged.
 GATE = [
     "plain rules",
     "includes to the last level",
@@ -294,6 +317,7 @@ GATE = [
     "a plan of a stale read",
     "findings in words",
     "a refusal in words",
+    "a no as JSON",
     "a mended makefile",
     "a yes verified",
 ]

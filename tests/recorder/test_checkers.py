@@ -40,6 +40,18 @@ class CheckerTest(unittest.TestCase):
         reply = self.checker('pwd; echo "$@"').ask("check", "-w")
         self.assertEqual(reply.lines, [self.folder, "check -f m -b B -w -- A=b all"])
 
+    def test_json(self) -> None:
+        """An answer as JSON is asked for in front of the words of the build; a program that doesn't
+        know it is one of another release."""
+        reply = self.checker('echo "$@"').check()
+        self.assertEqual(reply.lines, ["check -f m -b B --json -- A=b all"])
+        for said, wanted in (
+            ("error: unexpected argument '--json' found", "has no `check --json`; install the "),
+            ("error: frob", "stand-in check: error: frob"),
+        ):
+            with self.assertRaisesRegex(Fault, wanted):
+                self.checker(f'echo "{said}" >&2; exit 2').check()
+
     def test_status(self) -> None:
         """A no and a refusal are replies."""
         for status in (0, 1, 2):

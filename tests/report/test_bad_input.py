@@ -12,15 +12,16 @@ from report.project import MKCHECK, REPORT, ReportTest
 MARKUP = "x<script>alert(1)</script>&\"'.h"
 TURNED = "a\u202eb\u2028.h"
 LONG = "n" * 4096
-HELP = """\
+STAND_IN = """\
 #!/bin/sh
 case "$1" in
 --version) echo mkcheck 0.9.9 ;;
---help) printf '  check  Judges\\n  explain  Explains\\n' ;;
-check) [ "$2" = --help ] && echo '  -w...  Sentences' && exit 0; {then} ;;
+check) {check} ;;
 *) {then} ;;
 esac
 """
+YES = """\
+{"answer":"yes","certificate":{"format":1,"goals":[],"ways":[]},"format":1,"reads":0,"recipes":0}"""
 
 
 class NamesTest(ReportTest):
@@ -84,9 +85,10 @@ class MissingTest(ReportTest):
         super().setUp()
         self.race()
 
-    def stand_in(self, then: str) -> str:
-        """A program that has all that a report needs, but that answers otherwise."""
-        path = self.write("stand-in", HELP.replace("{then}", then))
+    def stand_in(self, check: str, then: str = "exit 2") -> str:
+        """A program that answers `check` by a script, and by another one what else is asked."""
+        text = STAND_IN.replace("{check}", check).replace("{then}", then)
+        path = self.write("stand-in", text)
         path.chmod(0o755)
         return str(path)
 
@@ -98,10 +100,14 @@ class MissingTest(ReportTest):
         )
 
     def test_old_program(self) -> None:
-        """A program without `check -w` and `explain`."""
-        path = self.write("old", "#!/bin/sh\necho '  -e <N>  Plan'\n")
-        path.chmod(0o755)
-        self.assertIn("has no `check -w` and no `explain`: install", self.fault(program=str(path)))
+        """A program without `check --json`."""
+        program = self.stand_in("echo \"error: unexpected argument '--json' found\" >&2; exit 2")
+        said = self.fault(program=program)
+        self.assertEqual(
+            said,
+            f"{program} has no `check --json`; install the mkcheck of the release that these tools"
+            " come from",
+        )
 
     def test_other_program(self) -> None:
         """A program that can't be run."""
@@ -110,21 +116,40 @@ class MissingTest(ReportTest):
         self.assertIn("can't be run", self.fault(program=str(path)))
 
     def test_program_dies(self) -> None:
-        """A program that a signal stops, that has no memory, or that prints nothing."""
-        for then, said in (
+        """A program that a signal stops, that has no memory, or that is another one."""
+        for check, said in (
             ("kill -9 $$", "was stopped by SIGKILL"),
             ("echo want of memory >&2; exit 3", "ran out of memory"),
             ("exit 9", "isn't mkcheck: its status is 9"),
-            ("exit 1", "printed nothing"),
+            ("echo frob >&2; exit 2", "check: frob"),
+        ):
+            self.assertIn(said, self.fault(program=self.stand_in(check)), check)
+
+    def test_other_answers(self) -> None:
+        """A program that prints no answer, or one of another form."""
+        for text, said in (
+            ("", "printed nothing"),
+            ("nonsense", "printed no JSON, but 'nonsense'"),
+            ("[]", "printed no JSON object"),
+            ('{"format":2,"answer":"yes"}', "answers in form 2, and these tools read form 1"),
+            ('{"answer":"yes"}', "in which format is no number"),
+            ('{"format":1,"answer":"no"}', "answers 'no' with status 0"),
+            (YES.replace('"reads":0', '"reads":"0"'), "in which reads is no number"),
+            (YES.replace('"ways":[]', '"ways":[0]'), "in which ways is no list of objects"),
+        ):
+            said_all = self.fault(program=self.stand_in(f"printf '%s' '{text}'; exit 0"))
+            self.assertIn(said, said_all)
+            self.assertTrue(said_all.endswith("; install the mkcheck of the release that these"
+                                              " tools come from"), said_all)
+
+    def test_other_graphs(self) -> None:
+        """A program that answers, and then has no graph."""
+        for then, said in (
             ("echo nonsense; exit 1", "mkcheck graph: nonsense"),
             ("echo goals; exit 0", "mkcheck graph printed no goals"),
-            ("echo refused 1; exit 2", "check -w gives another answer than check"),
-            (
-                '[ "$4" = -w ] && exit 0; echo no; exit 1',
-                "check -w gives another answer than check",
-            ),
         ):
-            self.assertIn(said, self.fault(program=self.stand_in(then)), then)
+            program = self.stand_in(f"echo '{YES}'; exit 0", then)
+            self.assertIn(said, self.fault(program=program), then)
 
     def test_unwritable(self) -> None:
         """There is no such folder, or the name is a folder's."""

@@ -6,7 +6,7 @@ import re
 import shutil
 import unittest
 
-from report.project import HIDING, ROOT, ReportTest
+from report.project import HIDING, RACE, ROOT, ReportTest
 
 drawn = unittest.skipUnless(shutil.which("dot"), "no Graphviz (dot)")
 
@@ -75,11 +75,10 @@ class RaceTest(ReportTest):
         self.assertRegex(page.text, r"What \nstale\n means")
 
     def test_goal_and_macro(self) -> None:
-        """Goals and macros are those of the command line; main.o alone has no race: version.h is
-        then a file that nothing reached writes."""
-        page = self.page(1, "main.o", "CC=gcc")
-        self.assertIn("CC=gcc", page.text)
-        self.assertIn("no unknown main.o version.h", page.text)
+        """Goals and macros are those of the command line."""
+        text = self.page(1, "main.o", "CC=gcc").text
+        self.assertIn("Goals\nmain.o\n", text)
+        self.assertIn("CC=gcc", text)
 
 
 class YesTest(ReportTest):
@@ -158,6 +157,19 @@ class RefusalTest(ReportTest):
         text = self.page(2, "50%").text
         self.assertIn("goal:1:\n BadGoal (27)\n", text)
         self.assertIn("A goal is no name, or is", text)
+
+    def test_line_of_another_project(self) -> None:
+        """The line of a file that lies elsewhere, and that a makefile includes, isn't shown."""
+        self.race()
+        other = self.folder.parent / f"{self.folder.name}.mk"
+        other.write_text("KEY=0\nsecret of nobody here\n")
+        self.addCleanup(other.unlink)
+        self.write("makefile", f"include {other}\n{RACE}")
+        text = self.page(2).text
+        self.assertIn("NotALine (25)", text)
+        self.assertNotIn("secret", text)
+        outcome = self.report("--sarif")
+        self.assertNotIn("secret", outcome.output)
 
     def test_words_like_a_place(self) -> None:
         """A file whose name ends as a line's number would has no place."""
@@ -295,6 +307,30 @@ class KindsTest(ReportTest):
         ):
             self.assertIn(f"1 finding, as mkcheck check prints it\n{number}: no {line}\n", text)
         self.assertNotIn("m.o: p.h", text)
+
+
+class MakersTest(ReportTest):
+    """Findings whose recipes the goals don't reach, or that no line mends."""
+
+    def test_unknown_file_with_a_maker(self) -> None:
+        """main.o alone reads version.h, whose recipe the goals don't reach: the line to add has its
+        rule's target, and the rule of main.o gets the word."""
+        self.race()
+        page = self.page(1, "main.o")
+        self.assertIn("\n1: no unknown main.o version.h\n", page.text + "\n")
+        self.assertIn("which the recipe of version.h makes", page.text)
+        self.assertIn("main.o: version.h", page.text)
+        self.assertEqual(page.inserted, ["version.h"])
+        self.assertIn("The missing prerequisite", page.text)
+
+    def test_loose_name_that_its_writer_needs(self) -> None:
+        """No line is to be added, so no word is marked and no prerequisite drawn as missing."""
+        self.build("prog: v\n\tmk\nv:\n", [("prog", ["mk"], [], ["v", "prog"])], [])
+        page = self.page(1)
+        self.assertIn("1 finding, as mkcheck check prints it\n1: no loose v prog", page.text)
+        self.assertIn("Give v a rule of its own, or take it out of the prerequisites", page.text)
+        self.assertEqual(page.inserted, [])
+        self.assertNotIn("The missing prerequisite", page.text)
 
 
 class LargeTest(ReportTest):

@@ -15,6 +15,9 @@ from mkcheck_tools.run.places import Place, refuse_unentered
 
 NO, REFUSED, NO_MEMORY = 1, 2, 3
 NO_PLAN = ["no plan"]
+JSON = "--json"
+# The release of the tools is that of mkcheck.
+INSTALL = "install the mkcheck of the release that these tools come from"
 
 
 @dataclass(frozen=True)
@@ -106,6 +109,16 @@ class Checker:
         """Asks a command about the build."""
         book = ("-b", self.book) if self.book else ()
         return self.run(command, *self.options, *book, *more, "--", *self.words)
+
+    def check(self) -> Reply:
+        """Asks `check --json` about the build."""
+        words = [*self.options, *(("-b", self.book) if self.book else ()), JSON, "--", *self.words]
+        reply, said = self.reply_and_errors("check", *words)
+        if reply.output or reply.status != REFUSED:
+            return reply
+        if JSON in said:
+            raise Fault(f"{self.program} has no `check {JSON}`; {INSTALL}")
+        raise Fault(f"{self.program} check: {said.split(chr(10))[0] or 'no answer'}")
 
     def version(self) -> str:
         """What the program says of itself."""

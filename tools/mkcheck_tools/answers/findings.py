@@ -1,13 +1,19 @@
-"""What `mkcheck check` prints, line by line and in words (`-w`): ways, findings and groups."""
+"""What `mkcheck check --json` answers, as values: ways, findings in groups, or a refusal."""
 
 from __future__ import annotations
 
-import re
-from dataclasses import dataclass, field
+from dataclasses import dataclass, replace
+from functools import cached_property
 
-from mkcheck_tools.answers.checkers import NO, Reply
+from mkcheck_tools.answers.checkers import INSTALL, NO, REFUSED, Reply
+from mkcheck_tools.answers.members import Members
+from mkcheck_tools.answers.refusals import Refusal, refusal_of
 from mkcheck_tools.faults import Fault
 
+# The form of answers that is read here.
+FORMAT = 1
+YES_WORD, NO_WORD, REFUSED_WORD = "yes", "no", "refused"
+WORDS = {0: YES_WORD, NO: NO_WORD, REFUSED: REFUSED_WORD}
 # The kinds of findings, worst first.
 KINDS = (
     "race",
@@ -25,11 +31,9 @@ KINDS = (
 )
 # How many names a finding of a kind has.
 NAMES = {"race": 3, "writers": 3, "record": 1, "commands": 1, "varying": 1, "target": 1}
-# A group in words: its place with a line or without one, its sentence, and its kind.
-HEAD = re.compile(r"(([^ ]+?)(?::([0-9]+))?): (.*) \[([a-z]+)\]", re.DOTALL)
-ADD, DO, LISTS = "  add: ", "  do: ", ("  targets: ", "  files: ")
-# The line before the groups of races and stale reads that other findings hide.
-THEN = "once these are mended, as far as can be seen now:"
+# Findings of other kinds hide those of these.
+HIDDEN = ("race", "stale")
+PHONY = ".PHONY"
 
 
 @dataclass(frozen=True)
@@ -67,104 +71,168 @@ class Way:
 
 
 @dataclass(frozen=True)
-class Answer:
-    """What `check` answers: a yes, its line and its ways, or a no, its findings."""
+class Group:
+    """Findings of a kind in one sentence, at their rule line if there is one, and what mends them:
+    lines to add to the end of the makefile, or else what to do."""
 
-    yes: str = ""
-    ways: tuple[Way, ...] = ()
+    kind: str
+    sentence: str
+    targets: tuple[str, ...]
+    files: tuple[str, ...]
+    file: str = ""
+    line: int | None = None
+    adds: tuple[str, ...] = ()
+    advice: str = ""
     findings: tuple[Finding, ...] = ()
 
-    @property
-    def recipes(self) -> int:
-        """Over how many recipes it is a yes."""
-        return int(self.yes.split(" ")[1]) if self.yes else 0
-
-    @property
-    def reads(self) -> int:
-        """How many files these read."""
-        return int(self.yes.split(" ")[3]) if self.yes else 0
-
-
-@dataclass
-class Group:
-    """Findings of a kind in one sentence, where they are in the makefile, and what mends them."""
-
-    file: str
-    line: int | None
-    kind: str
-    text: str
-    adds: list[str] = field(default_factory=list)
-    advice: str = ""
-    lists: list[str] = field(default_factory=list)
-    findings: list[Finding] = field(default_factory=list)
-
-    def pairs(self) -> list[tuple[frozenset[str], frozenset[str]]]:
-        """The targets and the prerequisites of each line to add."""
-        found = []
+    @cached_property
+    def lacking(self) -> dict[str, list[str]]:
+        """For each target of the lines to add, special ones too, the prerequisites that it gets."""
+        found: dict[str, list[str]] = {}
         for line in self.adds:
-            targets, _, prerequisites = line.partition(":")
-            found.append((frozenset(targets.split(" ")), frozenset(prerequisites.split(" ")[1:])))
+            targets, _, prerequisites = line.partition(": ")
+            for target in targets.split(" "):
+                found.setdefault(target, []).extend(prerequisites.split(" "))
         return found
 
     def missing(self) -> list[str]:
         """The prerequisites of the lines to add, each once; none of a special target."""
-        lines = [line for line in self.adds if not line.startswith(".PHONY:")]
-        words = (word for line in lines for word in line.partition(":")[2].split(" "))
-        return list(dict.fromkeys(filter(None, words)))
+        lists = [names for target, names in self.lacking.items() if target != PHONY]
+        return list(dict.fromkeys(name for names in lists for name in names))
+
+    def lacks(self, finding: Finding) -> str:
+        """The prerequisite by which a line to add mends a finding: one of its names, if there is
+        one. It is empty where no line mends it."""
+        names = self.lacking.get(finding.names[0], [])
+        return next((name for name in finding.names[1:] if name in names), next(iter(names), ""))
+
+
+@dataclass(frozen=True)
+class Answer:
+    """What `check` answers: a yes with its counts and ways; a no with its findings, and the groups
+    of these and of what they hide; or a refusal."""
+
+    word: str
+    recipes: int = 0
+    reads: int = 0
+    ways: tuple[Way, ...] = ()
+    findings: tuple[Finding, ...] = ()
+    groups: tuple[Group, ...] = ()
+    later: tuple[Group, ...] = ()
+    refusal: Refusal | None = None
+
+    @property
+    def is_yes(self) -> bool:
+        """Whether it is a yes."""
+        return self.word == YES_WORD
+
+    @property
+    def hides(self) -> bool:
+        """Whether findings hide races and stale reads, of which `later` has those that can be seen
+        already."""
+        return any(group.kind not in HIDDEN for group in self.groups)
+
+    @property
+    def ungrouped(self) -> list[Finding]:
+        """The findings that are in no group."""
+        known = {one.number for group in self.groups for one in group.findings}
+        return [one for one in self.findings if one.number not in known]
 
 
 def answer_of(reply: Reply) -> Answer:
-    """The answer in a reply of `check` that is no refusal."""
-    if reply.status == NO:
-        return Answer(findings=tuple(findings_of(reply.lines)))
-    return Answer(reply.lines[0], tuple(ways_of(reply.lines)))
+    """The answer in a reply to `check --json`."""
+    value = Members.read(reply.output)
+    if value.number("format") != FORMAT:
+        raise Fault(
+            f"mkcheck check --json answers in form {value.number('format')}, and these tools read"
+            f" form {FORMAT}; {INSTALL}"
+        )
+    word = value.text("answer")
+    if word != WORDS[reply.status]:
+        raise Fault(
+            f"mkcheck check --json answers {word!r} with status {reply.status}; {INSTALL}"
+        )
+    if word == REFUSED_WORD:
+        return Answer(word, refusal=refusal_of(value))
+    if word == YES_WORD:
+        ways = tuple(map(way_of, value.inner("certificate").objects("ways")))
+        return Answer(word, value.number("recipes"), value.number("reads"), ways)
+    findings = tuple(map(finding_of, value.objects("findings")))
+    return Answer(
+        word,
+        findings=findings,
+        groups=with_findings(tuple(map(group_of, value.objects("groups"))), findings),
+        later=tuple(map(group_of, value.objects("later"))),
+    )
 
 
-def varying_in(answer: Answer) -> list[str]:
-    """The targets whose commands use `$?`, by a no."""
-    return [one.names[0] for one in answer.findings if one.kind == "varying"]
+def way_of(value: Members) -> Way:
+    """A way."""
+    return Way(value.text("recipe"), value.text("file"), value.text("end"), value.texts("path"))
 
 
-def findings_of(lines: list[str]) -> list[Finding]:
-    """The findings of a no."""
-    found = []
-    for number, line in enumerate(lines, 1):
-        words = line.split(" ")
-        is_known = words[0] == "no" and len(words) > 2
-        if not is_known or (words[1] in KINDS and len(words) - 2 != NAMES.get(words[1], 2)):
-            raise Fault(f"mkcheck printed a line that no finding has: {line[:80]!r}")
-        found.append(Finding(number, words[1], tuple(words[2:])))
-    return found
+def finding_of(value: Members) -> Finding:
+    """A finding. Its text is `no`, its kind and its names, which have no blanks."""
+    words = value.text("text").split(" ")
+    is_known = words[0] == "no" and len(words) > 2
+    if not is_known or (words[1] in KINDS and len(words) - 2 != NAMES.get(words[1], 2)):
+        raise Fault(f"mkcheck printed a line that no finding has: {value.text('text')[:80]!r}")
+    return Finding(value.number("number"), words[1], tuple(words[2:]))
 
 
-def ways_of(lines: list[str]) -> list[Way]:
-    """The ways of a yes."""
-    words = [line.split(" ") for line in lines if line.startswith("way ")]
-    return [Way(one[1], one[2], one[3], tuple(one[4:])) for one in words if len(one) > 4]
+def group_of(value: Members) -> Group:
+    """A group, without its findings."""
+    place = None if value.is_null("place") else value.inner("place")
+    added = "" if value.is_null("add") else value.text("add")
+    return Group(
+        value.text("kind"),
+        value.text("sentence"),
+        value.texts("targets"),
+        value.texts("files"),
+        file=place.text("file") if place else "",
+        line=place.number("line") if place else None,
+        adds=tuple(added.split("\n")[:-1]),
+        advice="" if value.is_null("do") else value.text("do"),
+    )
 
 
-def hidden_from(lines: list[str]) -> tuple[list[str], list[str]]:
-    """The lines of the findings, and those of the races and stale reads that they hide."""
-    end = lines.index(THEN) if THEN in lines else len(lines)
-    return lines[:end], lines[end + 1 :]
+# A kind, the targets of a finding and its file.
+Key = tuple[str, tuple[str, ...], str]
 
 
-def groups_of(lines: list[str], makefile: str) -> tuple[list[Group], list[str]]:
-    """The groups that `check -w` printed, and lines that are about all of them."""
-    groups: list[Group] = []
-    notes = []
-    for line in lines:
-        if groups and line.startswith(ADD):
-            groups[-1].adds.append(line[len(ADD) :])
-        elif groups and line.startswith(DO):
-            groups[-1].advice = line[len(DO) :]
-        elif groups and line.startswith(LISTS):
-            groups[-1].lists.append(line.strip())
-        else:
-            head = HEAD.fullmatch(line)
-            if head is None:
-                notes.append(line)
-                continue
-            file, number = (makefile, None) if head[1] == makefile else (head[2], head[3])
-            groups.append(Group(file, int(number) if number else None, head[5], head[4]))
-    return groups, notes
+def key_of(finding: Finding) -> Key:
+    """By what the group of a finding is looked up. A group of `loose` has no writers."""
+    kind, names = finding.kind, finding.names
+    if kind == "writers":
+        return kind, names[:2], finding.file
+    if kind == "loose":
+        return kind, names[:1], names[0]
+    return kind, names[:1], finding.file if len(names) > 1 else ""
+
+
+def keys_of(group: Group) -> list[Key]:
+    """All of them that a group has."""
+    if group.kind == "writers":
+        return [(group.kind, group.targets, file) for file in group.files]
+    if group.kind == "loose":
+        return [(group.kind, (name,), name) for name in group.targets]
+    files = group.files or ("",)
+    return [(group.kind, (name,), file) for name in group.targets for file in files]
+
+
+def with_findings(groups: tuple[Group, ...], findings: tuple[Finding, ...]) -> tuple[Group, ...]:
+    """The groups, each with its findings."""
+    known: dict[Key, list[int]] = {}
+    for number, group in enumerate(groups):
+        for key in keys_of(group):
+            known.setdefault(key, []).append(number)
+    found: list[list[Finding]] = [[] for _ in groups]
+    for finding in findings:
+        numbers = known.get(key_of(finding), [])
+        if len(numbers) > 1:
+            # A name of which one writer can be added, and another one can't.
+            mended = [one for one in numbers if groups[one].lacks(finding) in finding.names[1:]]
+            numbers = mended or [one for one in numbers if not groups[one].adds] or numbers
+        if numbers:
+            found[numbers[0]].append(finding)
+    return tuple(replace(group, findings=tuple(own)) for group, own in zip(groups, found))

@@ -8,10 +8,10 @@ from dataclasses import dataclass, field, replace
 from pathlib import Path
 
 from mkcheck_tools.answers.checkers import Checker, Reply
-from mkcheck_tools.answers.findings import answer_of, varying_in
+from mkcheck_tools.answers.findings import Answer, answer_of
 from mkcheck_tools.answers.graphs import Graph, names_in, read_graph, target_that_is_not_utf8
 from mkcheck_tools.answers.meanings import IMPORT
-from mkcheck_tools.answers.refusals import BAD_NAME, NO_MAKEFILE, Refused, refusal_of
+from mkcheck_tools.answers.refusals import BAD_NAME, NO_MAKEFILE, Refused
 from mkcheck_tools.faults import Fault
 from mkcheck_tools.run.folders import is_plain_path
 
@@ -35,12 +35,20 @@ class Unrecorded:
     prefixes: list[str] = field(default_factory=list)
     """Those of the fixed prefixes that were asked for."""
 
-    def ask(self, command: str, *more: str) -> Reply:
-        """What mkcheck replies, over footprints without a record."""
+    def over_nothing(self) -> Checker:
+        """The build with footprints that have no record."""
         book = Path(self.scratch, "book.json")
         presumed = {"format": 1, "fixed": self.fixed, "sources": self.files, "records": []}
         book.write_text(json.dumps(presumed))
-        return replace(self.checker, book=str(book)).ask(command, *more)
+        return replace(self.checker, book=str(book))
+
+    def ask(self, command: str, *more: str) -> Reply:
+        """What mkcheck replies, over footprints without a record."""
+        return self.over_nothing().ask(command, *more)
+
+    def checked(self) -> Answer:
+        """What `check` answers, over footprints without a record."""
+        return answer_of(self.over_nothing().check())
 
     def said(self, command: str, *more: str) -> bytes:
         """What mkcheck prints, unless it refuses."""
@@ -52,7 +60,7 @@ class Unrecorded:
     def varying(self) -> list[str]:
         """The targets whose commands use `$?`, which mkcheck names also where no recipe has a
         record."""
-        return varying_in(answer_of(self.ask("check")))
+        return [one.names[0] for one in self.checked().findings if one.kind == "varying"]
 
     def graph(self) -> Graph:
         """The graph."""
@@ -69,18 +77,20 @@ class Unrecorded:
 
     def explained(self, refused: Refused) -> Refused:
         """A refusal with what else is known of it: the word that is no name, and the line of the
-        makefile, as `check -w` tells them; what the folder has in place of a makefile."""
+        makefile; what the folder has in place of a makefile."""
+        folder = self.checker.place.folder
         if refused.number == NO_MAKEFILE:
-            folder = self.checker.place.folder
             there = (name for name in NOT_READ if os.path.isfile(os.path.join(folder, name)))
             sentence = next((NOT_READ[name] for name in there), None)
             return Refused(refused.said, sentence=sentence)
         try:
-            told = refusal_of(refused.said, self.ask("check", "-w").shown.rstrip("\n"))
+            told = self.checked().refusal
         except Fault:
             return refused
+        if told is None or told.number != refused.number:
+            return refused
         word = told.words if told.number == BAD_NAME else ""
-        return Refused(refused.said, word, line=told.shown.strip())
+        return Refused(refused.said, word, line=told.shown(self.checker.makefile, folder).strip())
 
     def refuse_open_end(self, graph: Graph) -> None:
         """Refuses a command that ends in a backslash behind which no line comes: `graph -c` prints

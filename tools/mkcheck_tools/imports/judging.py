@@ -9,8 +9,8 @@ from collections.abc import Mapping
 from dataclasses import dataclass, field, replace
 from pathlib import Path
 
-from mkcheck_tools.answers.checkers import NO, REFUSED, Checker, Reply
-from mkcheck_tools.answers.findings import THEN, answer_of
+from mkcheck_tools.answers.checkers import Checker, Reply
+from mkcheck_tools.answers.findings import Answer, answer_of
 from mkcheck_tools.answers.graphs import read_graph
 from mkcheck_tools.answers.refusals import CYCLE, NO_RULE, numbered
 from mkcheck_tools.book.footprint_files import Footprints, Record, read_footprints
@@ -61,6 +61,9 @@ class BuildFinding:
 
     in_later: bool
 
+    lacks: str = ""
+    """The prerequisite of a line to add that mends it; empty where mkcheck knows no such line."""
+
 
 @dataclass
 class BuildVerdict:
@@ -74,7 +77,7 @@ class BuildVerdict:
 
     refused: str = ""
     hides: bool = False
-    """Whether `check -w` sees races and stale reads that these findings hide."""
+    """Whether mkcheck sees races and stale reads that these findings hide."""
 
     @property
     def is_yes(self) -> bool:
@@ -200,6 +203,14 @@ class Judge:
         if number == NO_RULE:
             return f"nothing makes {words}, and it isn't there"
         return f"mkcheck doesn't read {name}, the translated makefile: {said}"
+
+    def answer(self, name: str) -> Answer:
+        """What `check` answers of one of the makefiles."""
+        options, book = ("-f", self.path(name)), self.path("footprint.json")
+        checker = Checker(
+            self.mkcheck, self.place, options, book=book, environment=self.environment
+        )
+        return answer_of(checker.check())
 
     def ask(self, *words: str) -> Reply:
         """Asks mkcheck, in the folder of the project."""
@@ -333,9 +344,7 @@ class Judge:
         later.findings += self.unaware(later)
         later.findings += self.check_through(later)
         if not first:
-            later.findings = [
-                BuildFinding(found.kind, found.words, True, True) for found in later.findings
-            ]
+            later.findings = [replace(found, in_first=True) for found in later.findings]
             return later
         one = self.check_one(FIRST)
         later.refused = later.refused or one.refused
@@ -345,11 +354,11 @@ class Judge:
         verdict.hides, verdict.targets = later.hides, later.targets
         for found in kept:
             in_later = (found.kind, found.words) in both
-            verdict.findings.append(BuildFinding(found.kind, found.words, True, in_later))
+            verdict.findings.append(replace(found, in_first=True, in_later=in_later))
         seen = {(found.kind, found.words) for found in kept}
         for found in later.findings:
             if (found.kind, found.words) not in seen:
-                verdict.findings.append(BuildFinding(found.kind, found.words, False, True))
+                verdict.findings.append(found)
         return verdict
 
     def unaware(self, later: BuildVerdict) -> list[BuildFinding]:
@@ -390,25 +399,23 @@ class Judge:
 
     def check_one(self, name: str) -> BuildVerdict:
         """Checks one of the makefiles."""
-        words = ["check", "-f", self.path(name), "-b", self.path("footprint.json")]
-        reply = self.ask(*words)
-        verdict = BuildVerdict()
+        answer = self.answer(name)
+        verdict = BuildVerdict(answer.recipes, answer.reads, hides=bool(answer.later))
         names = self.names()
         back = {word: node for node, word in names.written.items() if "\0" not in node}
-        if reply.status == REFUSED:
-            verdict.refused = self.refusal(reply.shown.strip(), name)
-        else:
-            answer = answer_of(reply)
-            verdict.recipes, verdict.reads = answer.recipes, answer.reads
-            for one in answer.findings:
-                found = tuple(back.get(word, word) for word in one.names)
-                verdict.findings.append(BuildFinding(one.kind, found, False, True))
+        if answer.refusal is not None:
+            verdict.refused = self.refusal(answer.refusal.text, name)
+        needs = {one.number: group.lacks(one) for group in answer.groups for one in group.findings}
+        for one in answer.findings:
+            words = tuple(back.get(word, word) for word in one.names)
+            lacks = needs.get(one.number, "")
+            found = BuildFinding(one.kind, words, False, True, back.get(lacks, lacks))
+            verdict.findings.append(found)
         records = read_footprints(self.path("footprint.json")).records.values()
         reached = {names[name] for name in self.build.reached(True)}
         used = [record for record in records if record.target in reached]
         verdict.targets = {back.get(record.target, record.target) for record in used}
-        if reply.status == NO:
-            verdict.hides = THEN in self.ask("check", "-w", *words[1:]).lines
+        if answer.findings:
             verdict.recipes, verdict.reads = len(used), sum(len(record.reads) for record in used)
         # What only hands a file on is no recipe of the project.
         own = [

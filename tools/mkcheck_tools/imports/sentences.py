@@ -24,6 +24,20 @@ OTHERS = {
     " makes; take it into the project, or give --fixed for its folder if it never changes",
     "selection": "{r} would be made from {f} once that is there; write the rule out",
 }
+# A file that isn't judged by its own recipe, since the build doesn't run that.
+UNREACHED = (
+    "the recipe of {r} reads {f}, which the recipe of {w} makes, and this build doesn't run that;"
+    " let {r} need {w}"
+)
+UNREACHED_BOTH = (
+    "the recipe of {r} reads {f}, which the recipes of {w} write, and this build runs neither; let"
+    " {r} need the one that is meant"
+)
+# A target without a recipe that the recipe needs which writes it.
+CIRCULAR = (
+    "{r} has no recipe, and the one of {w} ({p}) writes it, though it is a prerequisite of {w}; give"
+    " {r} a recipe of its own, or take it out of these prerequisites"
+)
 TAKEN_AWAY = (
     "the recipe of {r} reads {f}, which another recipe makes, and takes it away, so the next run"
     " doesn't find it; let it leave that file there"
@@ -333,6 +347,9 @@ class Sentences:
             return f"{text}; these are recipes of two makes: {self.apart(recipe, writer)}"
         if finding.kind == "loose":
             target, writer = finding.words
+            if not finding.lacks:
+                said = {"r": self.called(target), "w": self.called(writer), "p": self.place(writer)}
+                return f"{self.place(target)}: {CIRCULAR.format(**said)}{when}"
             self.need(target, self.called(writer))
             return (
                 f"{self.place(target)}: {self.called(target)} has no recipe, the one of"
@@ -383,16 +400,22 @@ class Sentences:
         """A finding of another kind."""
         words = list(finding.words)
         values = {"r": self.called(words[0]), "f": words[-1]}
-        text = OTHERS.get(finding.kind, finding.kind + " {r} {f}").format(**values)
+        text = OTHERS.get(finding.kind, finding.kind + " {r} {f}")
+        makers = [self.called(name) for name in self.writers.get(words[-1], [])]
         if finding.kind == "own" and self.is_taken_away(words[-1]):
-            text = TAKEN_AWAY.format(**values)
-        return f"{self.place(words[0])}: {text}"
+            text = TAKEN_AWAY
+        elif finding.kind == "unknown" and finding.lacks:
+            self.need(words[0], finding.lacks)
+            text, makers = UNREACHED, [self.called(finding.lacks)]
+        elif finding.kind == "unknown" and len(makers) > 1:
+            text = UNREACHED_BOTH
+        return f"{self.place(words[0])}: {text.format(**values, w=listed(makers, 'and'))}"
 
 
 def listed(names: list[str], word: str = "or", noun: str = "files") -> str:
     """Names in a sentence: a few, and how many more."""
-    if len(names) == 1:
-        return names[0]
+    if len(names) < 2:
+        return "".join(names)
     if len(names) > 6:
         one = "one of " if word == "or" else ""
         return f"{', '.join(names[:5])} {word} {one}{len(names) - 5} more {noun}"

@@ -4,23 +4,14 @@ from __future__ import annotations
 
 from dataclasses import dataclass, field
 
-from mkcheck_tools.answers.checkers import NO, REFUSED, Checker
-from mkcheck_tools.answers.findings import (
-    KINDS,
-    Finding,
-    Group,
-    Way,
-    answer_of,
-    groups_of,
-    hidden_from,
-)
+from mkcheck_tools.answers.checkers import Checker
+from mkcheck_tools.answers.findings import KINDS, Answer, Finding, Group, answer_of
 from mkcheck_tools.answers.graphs import Graph, read_graph
-from mkcheck_tools.answers.refusals import CHANGED, Refusal, Refused, refusal_of
+from mkcheck_tools.answers.refusals import Refusal, Refused
 from mkcheck_tools.book.note_files import Noted, read_notes
 from mkcheck_tools.faults import Fault
 from mkcheck_tools.report.books import Reached, book_of
 from mkcheck_tools.report.escaping import counted, visible
-from mkcheck_tools.report.grouping import Grouping
 
 
 @dataclass
@@ -31,16 +22,9 @@ class Judged:
     version: str
     makefile: str
     status: int
+    checked: Answer
     graph: Graph = field(default_factory=Graph)
     book: Reached = field(default_factory=lambda: Reached((), frozenset(), {}, {}))
-    refusal: Refusal | None = None
-    yes: str = ""
-    ways: list[Way] = field(default_factory=list)
-    findings: list[Finding] = field(default_factory=list)
-    groups: list[Group] = field(default_factory=list)
-    hidden: list[Group] = field(default_factory=list)
-    notes: list[str] = field(default_factory=list)
-    left_over: list[Finding] = field(default_factory=list)
     repair: str = ""
     noted: Noted = field(default_factory=Noted)
     """What the recorder knew beside the footprints."""
@@ -48,7 +32,33 @@ class Judged:
     @property
     def answer(self) -> str:
         """The answer in a word."""
-        return {0: "yes", NO: "no"}.get(self.status, "refused")
+        return self.checked.word
+
+    @property
+    def yes(self) -> str:
+        """A yes in a line, as `check` prints it; nothing for another answer."""
+        one = self.checked
+        return f"yes {one.recipes} recipes {one.reads} reads" if one.is_yes else ""
+
+    @property
+    def refusal(self) -> Refusal | None:
+        """The refusal, if it is one."""
+        return self.checked.refusal
+
+    @property
+    def findings(self) -> tuple[Finding, ...]:
+        """The findings of a no."""
+        return self.checked.findings
+
+    @property
+    def groups(self) -> tuple[Group, ...]:
+        """The groups of these."""
+        return self.checked.groups
+
+    @property
+    def hidden(self) -> tuple[Group, ...]:
+        """The groups of races and stale reads that these hide."""
+        return self.checked.later
 
     @property
     def counts(self) -> str:
@@ -78,45 +88,16 @@ def graph_and_book(checker: Checker) -> tuple[Graph, Reached]:
     return graph, book_of(checker.book, graph)
 
 
-def probe(checker: Checker) -> None:
-    """Tests that the program has what a report needs."""
-    commands, options = checker.run("--help").lines, checker.run("check", "--help").lines
-    lacks = [] if any(line.startswith("  -w") for line in options) else ["`check -w`"]
-    lacks += [] if any(line.startswith("  explain ") for line in commands) else ["`explain`"]
-    if lacks:
-        raise Fault(
-            f"{checker.program} has no {' and no '.join(lacks)}: install the mkcheck of the release"
-            " that this mkcheck-report comes from"
-        )
-
-
 def judge(checker: Checker) -> Judged:
     """Has a build judged."""
-    probe(checker)
-    reply = checker.ask("check")
-    judged = Judged(checker, checker.version(), checker.makefile, reply.status)
+    reply = checker.check()
+    answer = answer_of(reply)
+    judged = Judged(checker, checker.version(), checker.makefile, reply.status, answer)
     judged.noted = read_notes(checker.book)
-    if not reply.text:
-        raise Fault("mkcheck check printed nothing")
-    if reply.status not in (NO, REFUSED):
+    if answer.refusal is None:
         judged.graph, judged.book = graph_and_book(checker)
-        answer = answer_of(reply)
-        judged.yes, judged.ways = answer.yes, list(answer.ways)
-        return judged
-    in_words = checker.ask("check", "-w")
-    if in_words.status != reply.status:
-        raise Fault(CHANGED)
-    if reply.status == REFUSED:
-        judged.refusal = refusal_of(reply.text[:-1], in_words.text[:-1])
-        return judged
-    judged.graph, judged.book = graph_and_book(checker)
-    judged.findings = list(answer_of(reply).findings)
-    lines, hidden = hidden_from(in_words.lines)
-    judged.groups, judged.notes = groups_of(lines, judged.makefile)
-    judged.hidden = groups_of(hidden, judged.makefile)[0]
-    grouping = Grouping(judged.groups, judged.book, judged.graph)
-    judged.left_over = grouping.assign(judged.findings)
-    judged.repair = repair_of(checker)
+    if answer.findings:
+        judged.repair = repair_of(checker)
     return judged
 
 

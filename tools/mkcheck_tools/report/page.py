@@ -5,7 +5,7 @@ from __future__ import annotations
 from collections.abc import Iterable
 
 from mkcheck_tools import VERSION
-from mkcheck_tools.answers.refusals import Refusal
+from mkcheck_tools.answers.refusals import OPERAND, Refusal
 from mkcheck_tools.book.note_files import Noted, with_doubts
 from mkcheck_tools.judge.notes import Note
 from mkcheck_tools.report.escaping import as_sentence, clipped, counted, markup, prose, shortened
@@ -120,7 +120,7 @@ def refusal(judged: Judged) -> str:
     parts = [
         f"<h3>{place_of(refused)}{refused.name} ({refused.number}){words}</h3>",
         f"<p>{prose(as_sentence(refused.sentence))}</p>",
-        line_of(refused, judged.checker.words),
+        line_of(refused, judged),
     ]
     rest = judged.checker.explain(refused.name).partition("\n")[2].strip("\n")
     if rest:
@@ -129,14 +129,15 @@ def refusal(judged: Judged) -> str:
     return f'<h2>Why there is no answer</h2>\n<section class="panel">{"".join(parts)}</section>\n'
 
 
-def line_of(refused: Refusal, words: tuple[str, ...]) -> str:
+def line_of(refused: Refusal, judged: Judged) -> str:
     """The lines of the makefile around a refusal, or the word of the command line."""
     if refused.file is None or refused.line is None:
         return ""
-    if refused.file not in ("operand", "goal"):
-        alone = f"<pre>{markup(refused.shown)}</pre>" if refused.shown else ""
-        return Makefiles({}).excerpt(refused.file, refused.line, []) or alone
-    alike = [word for word in words if ("=" in word) == (refused.file == "operand")]
+    if refused.is_of_file:
+        is_shown = refused.is_shown(judged.makefile)
+        return Makefiles({}).excerpt(refused.file, refused.line, []) if is_shown else ""
+    words = judged.checker.words
+    alike = [word for word in words if ("=" in word) == (refused.file == OPERAND)]
     return "".join(f"<pre>{markup(clipped(word))}</pre>" for word in alike[refused.line - 1 :][:1])
 
 
@@ -153,10 +154,10 @@ def paragraphs(texts: Iterable[str]) -> str:
 
 def ways(judged: Judged) -> str:
     """The table of ways."""
-    if not judged.ways:
+    if not judged.checked.ways:
         return ""
     rows, budget = [], Budget(WAYS_BYTES)
-    for way in judged.ways[:WAYS_AT_MOST]:
+    for way in judged.checked.ways[:WAYS_AT_MOST]:
         path = " → ".join(shortened(name, 100) for name in way.path)
         row = (
             f"<tr><td>{markup(shortened(way.recipe, 200))}</td>"
@@ -167,12 +168,12 @@ def ways(judged: Judged) -> str:
         if not budget.takes(row):
             break
         rows.append(row)
-    more = len(judged.ways) - len(rows)
+    more = len(judged.checked.ways) - len(rows)
     left = ""
     if more:
         left = f"<p>{counted(more, 'more way')}: <code>mkcheck check</code> prints all.</p>"
     return (
-        f"<h2>{counted(len(judged.ways), 'way')}</h2>\n{paragraphs(ENDS)}"
+        f"<h2>{counted(len(judged.checked.ways), 'way')}</h2>\n{paragraphs(ENDS)}"
         '<div><table class="ways"><thead><tr><th>recipe</th><th>reads</th><th>end</th>'
         f"<th>over these recipes</th></tr></thead><tbody>{''.join(rows)}</tbody></table></div>\n"
         + left

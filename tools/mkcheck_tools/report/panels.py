@@ -3,6 +3,7 @@
 from __future__ import annotations
 
 import os
+from collections.abc import Iterator, Sequence
 from concurrent.futures import ThreadPoolExecutor
 from dataclasses import dataclass, field
 from functools import partial
@@ -24,9 +25,9 @@ DETAILED_BYTES = 2_000_000
 BARE_BYTES = 800_000
 BRIEF_BYTES = 800_000
 LINES_BYTES = 40_000
-# Kinds that have a schedule, and kinds of which a prerequisite is missing.
+COLUMNS = 4_000
+# Kinds that have a schedule.
 PICTURED = ("race", "stale")
-LACKING = ("race", "stale", "loose")
 KEY = (
     '<p class="key"><span><svg class="time" width="12" height="12"><circle class="look" cx="6"'
     ' cy="6" r="4"/></svg>reads</span><span><svg class="time" width="12" height="12"><rect'
@@ -41,6 +42,7 @@ HIDDEN = (
     " once the findings above are mended. These can be seen already. They are advice: mending the"
     " findings may change them.</p>\n"
 )
+CHECK_AGAIN = "Once these are mended, check again: races and stale reads may show."
 
 
 @dataclass
@@ -74,10 +76,11 @@ def findings(judged: Judged) -> str:
     for kind in judged.kinds:
         parts.append(kind_head(kind, *shown.explained[kind]))
         parts += panels(judged, judged.of_kind(kind), shown)
-    if judged.left_over:
-        lines = bare_lines(judged.left_over, shown.bare, is_open=True)
+    if judged.checked.ungrouped:
+        lines = bare_lines(judged.checked.ungrouped, shown.bare, is_open=True)
         parts.append(f"<h2>Findings in no group</h2>\n{lines}")
-    parts += [f'<p class="note">{prose(as_sentence(note))}</p>\n' for note in judged.notes]
+    if judged.checked.hides and not judged.hidden:
+        parts.append(f'<p class="note">{CHECK_AGAIN}</p>\n')
     parts += [hidden(judged, shown), repairs(judged)]
     return "".join(parts)
 
@@ -91,7 +94,7 @@ def hidden(judged: Judged, shown: Shown) -> str:
     return "".join([HIDDEN, *meanings, *panels(judged, judged.hidden, shown)])
 
 
-def panels(judged: Judged, groups: list[Group], shown: Shown) -> list[str]:
+def panels(judged: Judged, groups: Sequence[Group], shown: Shown) -> list[str]:
     """Groups in full or in brief, as far as there is room for them, and how many are left out."""
     parts, left = [], 0
     for group in groups:
@@ -153,23 +156,31 @@ def prepare(judged: Judged, groups: list[Group]) -> Shown:
     explained = {kind: judged.checker.explained(kind) for kind in kinds}
     shown = Shown(explained, drawn_plans, frozenset(map(id, groups)))
     for group in groups:
-        if group.kind in LACKING and group.findings:
+        other = lacking(judged, group)
+        if other:
             first = group.findings[0]
-            other = first.names[1]
-            if group.kind != "loose":
-                other = judged.book.provider(first.file, judged.graph)
             shown.drawings[id(group)] = around(judged.graph, first.reader, other, first.file)
     texts = drawn(list(shown.drawings.values()))
     shown.pictures = dict(zip(shown.drawings, texts))
     return shown
 
 
+def lacking(judged: Judged, group: Group) -> str:
+    """The prerequisite that the first finding of a group lacks; nothing where it lacks none."""
+    missing = group.missing()
+    if not group.findings or not (missing or group.kind in PICTURED):
+        return ""
+    file = group.findings[0].file
+    if missing:
+        return file if file in missing else missing[0]
+    return judged.book.provider(file, judged.graph)
+
+
 def panel(judged: Judged, group: Group, shown: Shown) -> str:
     """A group in full."""
     parts = [sentence(group)]
     if group.line is not None:
-        missing = group.missing() if group.kind in LACKING else []
-        parts.append(shown.makefiles.excerpt(group.file, group.line, missing))
+        parts.append(shown.makefiles.excerpt(group.file, group.line, group.missing()))
     parts.append(remedy(group, judged.makefile))
     figures = [shown.timelines.get(one.number, "") for one in group.findings]
     figures.append(graph_around(group, shown))
@@ -186,7 +197,7 @@ def panel(judged: Judged, group: Group, shown: Shown) -> str:
 
 def sentence(group: Group) -> str:
     """The sentence of a group, at its place."""
-    return f"<h3>{place_of(group)}{prose(clipped(group.text))}</h3>"
+    return f"<h3>{place_of(group)}{prose(clipped(group.sentence))}</h3>"
 
 
 def remedy(group: Group, makefile: str) -> str:
@@ -201,11 +212,26 @@ def advice(group: Group) -> str:
     """What to do where no line mends a group, and the names that its sentence leaves out."""
     if not group.advice:
         return ""
-    lists = f"<pre>{clipped_lines(group.lists)}</pre>" if group.lists else ""
+    left_out = list(names_left_out(group))
+    lists = f"<pre>{clipped_lines(left_out)}</pre>" if left_out else ""
     return f'<p class="do">{prose(as_sentence(clipped(group.advice)))}</p>{lists}'
 
 
-def clipped_lines(lines: list[str]) -> str:
+def names_left_out(group: Group) -> Iterator[str]:
+    """All targets and all files, in lines, where the sentence tells of two and how many more."""
+    lists = [("targets", group.targets), ("files", group.files)]
+    for word, names in lists[:1] if group.kind == "loose" else lists:
+        if len(names) > 2:
+            line = f"{word}:"
+            for name in names:
+                if len(line) + len(name) > COLUMNS:
+                    yield line
+                    line = f"{word}:"
+                line += f" {name}"
+            yield line
+
+
+def clipped_lines(lines: Sequence[str]) -> str:
     """Lines as markup, as many as there is room for."""
     budget, shown = Budget(LINES_BYTES), []
     for line in lines:
@@ -223,7 +249,7 @@ def short_panel(group: Group) -> str:
     return f'<section class="panel brief">{sentence(group)}{adds}{advice(group)}</section>\n'
 
 
-def bare_lines(findings: list[Finding], budget: Budget, is_open: bool = False) -> str:
+def bare_lines(findings: Sequence[Finding], budget: Budget, is_open: bool = False) -> str:
     """Findings as `check` prints them, folded."""
     if not findings:
         return ""

@@ -7,6 +7,7 @@ from __future__ import annotations
 
 import json
 import os
+from collections.abc import Sequence
 from typing import Any
 from urllib.parse import quote
 
@@ -123,13 +124,14 @@ def level_of(kind: str) -> str:
 
 def result(judged: Judged, group: Group, level: str, index: int, makefiles: Makefiles) -> Value:
     """A group as a result, with the lines that mend it."""
-    said = f"{group.text}\n{as_sentence(group.advice)}" if group.advice else group.text
+    said = group.sentence
+    said += f"\n{as_sentence(group.advice)}" if group.advice else ""
     found = {
         "ruleId": group.kind,
         "ruleIndex": index,
         "level": level,
         "message": text(said),
-        "locations": [location(group.file, group.line)],
+        "locations": [location(group.file or judged.makefile, group.line)],
         "partialFingerprints": {"mkcheckGroup/v1": fingerprint(group)},
     }
     related = writers(judged, group, makefiles)
@@ -142,7 +144,7 @@ def result(judged: Judged, group: Group, level: str, index: int, makefiles: Make
 
 def fingerprint(group: Group) -> str:
     """What stays the same of a group when lines above it change."""
-    first = group.findings[0].text if group.findings else group.text
+    first = group.findings[0].text if group.findings else group.sentence
     return visible(clipped(first, 400))
 
 
@@ -170,7 +172,7 @@ def writers(judged: Judged, group: Group, makefiles: Makefiles) -> list[Value]:
     return found
 
 
-def fix(adds: list[str], makefile: str, makefiles: Makefiles) -> Value:
+def fix(adds: Sequence[str], makefile: str, makefiles: Makefiles) -> Value:
     """Lines at the end of the makefile."""
     lines = makefiles.lines(makefile) or [""]
     number = len(lines) if lines[-1] or len(lines) == 1 else len(lines) - 1
@@ -215,10 +217,11 @@ def result_of_note(note: Note, index: int, judged: Judged) -> Value:
 
 def result_of_refusal(refusal: Refusal, index: int, makefile: str) -> Value:
     """A refusal as a result."""
-    is_file = refusal.file is not None and refusal.file not in ("operand", "goal")
-    file = refusal.file if is_file and os.path.isfile(refusal.file or "") else None
+    is_there = refusal.is_of_file and os.path.isfile(refusal.file or "")
+    file = refusal.file if is_there else None
     words = f"{refusal.words}: " if refusal.words else ""
-    shown = f"\n{refusal.shown}" if refusal.shown else ""
+    line = refusal.shown(makefile)
+    shown = f"\n{line}" if line else ""
     return {
         "ruleId": refusal.name,
         "ruleIndex": index,
