@@ -12,6 +12,7 @@ import sys
 import time
 import unittest
 from collections.abc import Callable
+from concurrent.futures import ThreadPoolExecutor
 from pathlib import Path
 
 from mkcheck_tools.book import states
@@ -586,6 +587,30 @@ class StampsTest(UpdateTest):
     def test_what_is_the_same_under_another_stamp(self) -> None:
         (self.folder / "s").touch()
         self.assertIsNotNone(self.looked_only())
+
+    def changed_meanwhile(self, recipe: str, change: dict[str, str]) -> int:
+        """Changes files while another recipe runs than this one of `a`, and long before its end;
+        how many recipes the next update records, which has to be right."""
+        mark = self.scratch / "mark"
+        rules = f"b: a\n\t: > {mark}; sleep 4; rm {mark}; cp a b\na: s\n\t{recipe}\n"
+        self.write({"makefile": rules})
+        with ThreadPoolExecutor(1) as pool:
+            running = pool.submit(self.update)
+            while not mark.exists():
+                self.assertFalse(running.done())
+                time.sleep(0.02)
+            self.write(change)
+            self.assertGreater(self.count(running.result()), 0)
+        count = self.count(self.update())
+        self.assert_as_full()
+        return count
+
+    def test_an_edit_while_recipes_run(self) -> None:
+        """The stamps at the end are those of files that no recipe has seen."""
+        self.assertEqual(self.changed_meanwhile("cp s a", {"s": "2\n"}), 2)
+
+    def test_a_name_that_comes_while_recipes_run(self) -> None:
+        self.assertEqual(self.changed_meanwhile("ls > l; cp s a", {"new": ""}), 1)
 
     def test_other_names(self) -> None:
         (self.folder / "d" / "new").touch()

@@ -11,7 +11,7 @@ import json
 import os
 import stat
 from collections.abc import Collection, Iterable, Mapping
-from dataclasses import asdict, dataclass, field
+from dataclasses import asdict, dataclass, field, replace
 
 from mkcheck_tools.book.choices import Choice
 from mkcheck_tools.book.paths import path_of_stamps, path_of_state
@@ -110,8 +110,9 @@ class Premises:
             return False
         return names_in(path, hidden) == digest
 
-    def stamped(self) -> Premises:
-        """The same, with the stamps of now. They have to hold then still."""
+    def stamped(self, hidden: Collection[str]) -> Premises | None:
+        """The same, with the stamps of now; None where not all stands as it stood. The stamps come
+        first, so a file that is changed meanwhile has another one."""
         stamps: dict[str, Stamp] = {}
         files = (name for name, one in self.looks.items() if one is not None and one.kind == FILE)
         folders = (name for name in self.lists if not has_links(os.path.join(self.folder, name)))
@@ -123,17 +124,8 @@ class Premises:
                 continue
             if is_settled(stamp):
                 stamps[path] = stamp
-        return Premises(
-            self.folder,
-            self.choice,
-            self.asked,
-            self.looks,
-            self.lists,
-            self.recipes,
-            self.salt,
-            self.variables,
-            stamps,
-        )
+        # Nothing is taken by its stamp here, since that may be the one of other bytes.
+        return replace(self, stamps=stamps) if replace(self, stamps={}).hold(hidden) else None
 
     def know(self) -> None:
         """From now on the digests of files are known by their stamps."""

@@ -86,8 +86,9 @@ def keep_premises(
     path = path_of_stamps(updating.book)
     with contextlib.suppress(Fault, OSError):
         premises = premises_of(shop, build, recorded, updating, before)
-        premises = None if premises is None else premises.stamped()
-        if premises is not None and premises.hold(shop.request.hidden_paths):
+        if premises is not None:
+            premises = premises.stamped(shop.request.hidden_paths)
+        if premises is not None:
             write_text(premises.text(), path)
             return
     with contextlib.suppress(OSError):

@@ -10,6 +10,7 @@ import stat
 import tempfile
 import time
 from collections.abc import Callable, Iterator, Mapping
+from contextlib import AbstractContextManager, nullcontext
 from dataclasses import dataclass, field, replace
 
 from mkcheck_tools.answers.graphs import Ancestors, Command, Recipe
@@ -227,14 +228,10 @@ class Bench:
         """Puts down the footprint of a recipe, which runs unless it is known."""
         updating = self.shop.updating if done.world is not None else None
         if updating is not None:
-            kept = updating.kept(recipe, self.tree)
-            if kept is not None:
-                done.footprints.append(kept)
-                done.contents.append({})
-                if self.early is not None:
-                    self.early.wrote(recipe.target, kept.writes)
-                return
-            updating.lay(self.tree)
+            with self.changing():
+                if self.is_kept(recipe, updating, done):
+                    return
+                updating.lay(self.tree)
             warn = updating.noting(recipe, warn)
         begun, stamp = time.time(), stamp_now(self.shop.scratch)
         accesses = Accesses(self.tree)
@@ -251,14 +248,36 @@ class Bench:
         warn_of_stamps(footprint, accesses, self.naming, stamp, warn)
         if done.world is not None:
             effects = effects_of(footprint, accesses, self.naming)
-            left = done.world.took(recipe, effects, begun).after
+            with self.changing():
+                left = done.world.took(recipe, effects, begun).after
+                self.wrote(footprint)
         else:
             left = self.left(footprint)
         done.footprints.append(footprint)
         done.contents.append({name: content_of(left[name]) for name in footprint.writes})
         if self.early is not None and done.world is not None:
-            self.early.wrote(recipe.target, footprint.writes)
             self.early.start(done.world, accesses)
+
+    def is_kept(self, recipe: Recipe, updating: Updating, done: Recorded) -> bool:
+        """Whether the footprint of a recipe is known, which then counts as recorded."""
+        kept = updating.kept(recipe, self.tree)
+        if kept is None:
+            return False
+        done.footprints.append(kept)
+        done.contents.append({})
+        self.wrote(kept)
+        return True
+
+    def changing(self) -> AbstractContextManager[bool | None]:
+        """What keeps replays from looking at the world while it changes."""
+        if self.early is None:
+            return nullcontext()
+        return self.early.changing
+
+    def wrote(self, footprint: Footprint) -> None:
+        """Tells what starts replays which files a recipe writes."""
+        if self.early is not None:
+            self.early.wrote(footprint.recipe.target, footprint.writes)
 
     def refuse_disturbed(self, accesses: Accesses) -> None:
         """Raises Disturbed where a replay may have disturbed a recipe."""

@@ -20,11 +20,10 @@ import tempfile
 import threading
 from collections.abc import Callable, Iterable, Iterator, Mapping
 from concurrent import futures
-from concurrent.futures import ThreadPoolExecutor
+from concurrent.futures import Future, ThreadPoolExecutor
 from dataclasses import dataclass, field
 
 from mkcheck_tools.replay.replays import Replay, Started, processors
-from mkcheck_tools.replay.runs import Outcome
 from mkcheck_tools.replay.worlds import Trial, World
 from mkcheck_tools.run import places
 from mkcheck_tools.run.memory import Memory, memory
@@ -53,7 +52,10 @@ class Early:
     memory: Memory | None
     slots: threading.Semaphore
     stopped: threading.Event = field(default_factory=threading.Event)
-    started: dict[int, Started] = field(default_factory=dict)
+    changing: threading.Lock = field(default_factory=threading.Lock)
+    """Held while the world of the recording changes, and while a replay takes a copy of it."""
+
+    started: dict[int, Future[Started]] = field(default_factory=dict)
     """Replays that began, by the place of the recipe among those that were recorded."""
 
     writers: dict[Name, list[str]] = field(default_factory=dict)
@@ -67,7 +69,7 @@ class Early:
 
     def begin(self) -> None:
         """The recording begins, for the first time or anew."""
-        left = {one.outcome for one in self.started.values()}
+        left = {one for one in self.started.values() if not one.cancel()}
         while left:
             left = futures.wait(left, MOMENT).not_done
         self.started.clear()
@@ -84,18 +86,19 @@ class Early:
         if self.is_off or has_to_be_alone(accesses):
             return
         trial, number = world.trials[-1], len(world.trials) - 1
-        writers: dict[Name, list[str]] = {target: [target] for target in self.targets}
-        writers.update((name, list(targets)) for name, targets in self.writers.items())
-        own = self.replay(world.as_now(), writers, self)
         self.used.update(outside(accesses, [*accesses.touched, *accesses.folders]))
-        premises = own.layout.premises(trial)
-        outcome = self.pool.submit(self.replayed, own, trial, number)
-        self.started[number] = Started(premises, outcome)
+        self.started[number] = self.pool.submit(self.replayed, world, trial, number)
 
-    def replayed(self, own: Replay, trial: Trial, number: int) -> Outcome:
-        """The outcome of a replay, which waits for a free processor."""
+    def replayed(self, world: World, trial: Trial, number: int) -> Started:
+        """A replay, which waits for a free processor, and takes the world as it is then."""
         with self.slots:
-            return own.replay_safely(trial, number, frozenset())
+            with self.changing:
+                now = world.as_now()
+                writers: dict[Name, list[str]] = {target: [target] for target in self.targets}
+                writers.update((name, [*targets]) for name, targets in self.writers.items())
+            own = self.replay(now, writers, self)
+            premises = own.layout.premises(trial)
+            return Started(premises, own.replay_safely(trial, number, frozenset()))
 
     def refuse_disturbed(self, accesses: Accesses) -> None:
         """Raises Disturbed where a recipe that was recorded may have met a replay."""

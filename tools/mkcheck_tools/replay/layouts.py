@@ -4,6 +4,7 @@ from __future__ import annotations
 
 import contextlib
 import functools
+import hashlib
 import os
 import stat
 import time
@@ -80,25 +81,24 @@ class Layout:
                 os.makedirs(path, exist_ok=True)
         self.liken(trial, folder)
 
-    def premises(self, trial: Trial) -> tuple[object, ...]:
-        """All that a replay of a recipe takes from what other recipes did: where this is the same
-        in the end, the outcome of one that began earlier is what a later one would show."""
+    def premises(self, trial: Trial) -> str:
+        """A digest of all that a replay of a recipe takes from what other recipes did: where it is
+        the same in the end, the outcome of one that began earlier is what a later one would show.
+        """
         made, given = self.world.glanced(trial)
         noticed = self.world.noticed(trial, True)
         listed = self.world.given_in_listed(trial)
-        folders = frozenset(self.folders_of(trial))
+        folders, gone = sorted(self.folders_of(trial)), sorted(self.taken_away(trial))
         names = {*trial.before, *trial.links, *folders, *made, *given, *noticed, *listed}
         for name in list(names):
             while name := above(name):
                 names.add(name)
-        makers = {
-            name: (tuple(self.world.makers.get(name, ())), tuple(self.writers.get(name, ())))
-            for name in names
-        }
         order = sorted(names, key=lambda name: (above(name), *self.listings.rank(name)))
-        looked = (list(made.items()), given, list(noticed.items()), listed)
-        stamps = self.folder_stamps
-        return folders, self.taken_away(trial), makers, order, looked, stamps
+        makers = [(self.world.makers.get(name), self.writers.get(name)) for name in order]
+        looked = [list(one.items()) for one in (made, given, noticed, listed)]
+        stamps = sorted(self.folder_stamps.items())
+        text = repr((folders, gone, order, makers, looked, stamps))
+        return hashlib.sha256(text.encode()).hexdigest()
 
     def liken(self, trial: Trial, folder: RealPath) -> None:
         """Gives folders the modes that they had when the recipe began, and folders of the project

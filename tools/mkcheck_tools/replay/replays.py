@@ -73,11 +73,11 @@ class Replayed:
 
 @dataclass(frozen=True)
 class Started:
-    """A replay that began while other recipes were recorded: from which premises, and its
-    outcome, once that is there."""
+    """A replay that began while other recipes were recorded: its premises, as `Layout` has them,
+    and its outcome."""
 
-    premises: tuple[object, ...]
-    outcome: Future[Outcome]
+    premises: str
+    outcome: Outcome
 
 
 @dataclass
@@ -124,7 +124,7 @@ class Replay:
     def run(
         self,
         trials: list[Trial],
-        started: Mapping[int, Started] | None = None,
+        started: Mapping[int, Future[Started]] | None = None,
         workers: ThreadPoolExecutor | None = None,
     ) -> Replayed:
         """Replays these recipes, several at a time where that can be, by `workers` where these are
@@ -163,36 +163,53 @@ class Replay:
         return Replayed(outcomes)
 
     def begun(
-        self, pool: ThreadPoolExecutor, trial: Trial, number: int, started: Started | None
+        self,
+        pool: ThreadPoolExecutor,
+        trial: Trial,
+        number: int,
+        started: Future[Started] | None,
     ) -> Future[Outcome]:
-        """A replay that begins now, or that began early and whose premises are still right. One
-        with late files, which are known only now, is run beside these yet."""
+        """A replay that begins now, or what comes of one that began early."""
         if started is None:
             return pool.submit(self.replay_safely, trial, number, frozenset())
-        if started.premises != self.layout.premises(trial):
-            return pool.submit(self.anew, started, trial, number)
-        if self.late.get(trial.recipe.target):
-            return pool.submit(self.with_late, started, trial, number)
-        return started.outcome
+        if started.done() and trial.recipe.target not in self.late:
+            outcome = self.shown_early(started, trial)
+            if outcome is not None:
+                known: Future[Outcome] = Future()
+                known.set_result(outcome)
+                return known
+        return pool.submit(self.settled, started, trial, number)
 
-    def anew(self, started: Started, trial: Trial, number: int) -> Outcome:
-        """A replay that begins once more, when the one that began early has ended."""
-        started.outcome.exception()
-        return self.replay_safely(trial, number, frozenset())
+    def settled(self, started: Future[Started], trial: Trial, number: int) -> Outcome:
+        """The outcome of a replay that began early, or of one that begins once more, where that
+        one doesn't count. Late files are known only now."""
+        outcome = self.shown_early(started, trial)
+        late = self.late.get(trial.recipe.target, ())
+        if outcome is not None and late:
+            outcome = self.with_late(outcome, number, late)
+        return outcome or self.replay_safely(trial, number, frozenset())
 
-    def with_late(self, started: Started, trial: Trial, number: int) -> Outcome:
-        """A replay that began early, with a run beside the late files."""
-        outcome = started.outcome.result()
-        late, place = self.late[trial.recipe.target], self.place_of(number)
+    def shown_early(self, started: Future[Started], trial: Trial) -> Outcome | None:
+        """The outcome of a replay that began early; None where an error ended it, or it took from
+        other recipes what isn't so in the end."""
+        if started.exception() is not None:
+            return None
+        early = started.result()
+        return early.outcome if early.premises == self.layout.premises(trial) else None
+
+    def with_late(self, outcome: Outcome, number: int, late: tuple[Name, ...]) -> Outcome | None:
+        """An outcome, with a run beside late files; None where the whole replay is needed."""
         if outcome.met is None or outcome.met.seen or not outcome.passed:
-            return self.replay_safely(trial, number, frozenset())
+            return None
+        trial, place = outcome.trial, self.place_of(number)
         try:
-            tried = with_later_stamps(self.world, trial)
-            self.layout.furnish(tried, place.folder, frozenset())
-            return replace(outcome, met=self.beside(tried, place, late))
-        except (Fault, OSError):
-            remove(place.folder)
-            return self.replay_safely(trial, number, frozenset())
+            with self.turns.turn(trial.recipe.target):
+                tried = with_later_stamps(self.world, trial)
+                self.layout.furnish(tried, place.folder, frozenset())
+                return replace(outcome, met=self.beside(tried, place, late))
+        except Exception:
+            # The whole replay tells what is wrong.
+            return None
         finally:
             remove(place.folder)
 
