@@ -3,7 +3,8 @@
 The makefiles of docs/FROM_GNU_MAKE.md are refused by their numbers or read, and so is our own; the
 sessions of README.md, examples/ and docs/ print what stands there; links lead somewhere; lengths in
 docs/WHY.md are those of the files; `mkcheck explain` and `mkcheck check -w` print what stands in
-docs/REFERENCE.md; wrong edits apply; and the manual pages can be read.
+docs/REFERENCE.md; wrong edits apply; the tools have the rooms that tools/README.md says; and the
+manual pages can be read.
 """
 
 from __future__ import annotations
@@ -19,6 +20,7 @@ from pages.edits import wrong_edits
 from pages.explained import wrong_explanations
 from pages.lengths import wrong_lengths
 from pages.links import broken_links
+from pages.rooms import wrong_imports, wrong_names
 from pages.sentences import wrong_sentences
 from pages.sessions import try_page
 
@@ -93,6 +95,12 @@ def test_lengths_are_those_of_the_files() -> None:
 def test_wrong_edits_apply() -> None:
     """Each has its file, and its old text stands there once."""
     assert wrong_edits() == 0
+
+
+def test_rooms_import_from_rooms_above_them() -> None:
+    """In the table of tools/README.md, which names all."""
+    assert wrong_imports() == 0
+    assert wrong_names() == 0
 
 
 def test_a_linter_reads_the_manual_pages() -> None:

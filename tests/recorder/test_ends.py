@@ -118,7 +118,7 @@ class MistakeTest(EndTest):
 
     @namespaces
     def test_while_a_replay_is_judged(self) -> None:
-        self.mistake("judge.verdicts", "notes_amid", "words[0].trial.recipe.target")
+        self.mistake("replay.verdicts", "notes_amid", "words[0].trial.recipe.target")
 
     def test_while_dates_are_looked_for(self) -> None:
         if places.namespace():

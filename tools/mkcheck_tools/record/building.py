@@ -35,7 +35,7 @@ from mkcheck_tools.gnu.texts import (
 from mkcheck_tools.gnu.waits import warn_of_wait
 from mkcheck_tools.judge.notes import Kind, Note, Warn
 from mkcheck_tools.judge.refusals import check_opaque
-from mkcheck_tools.judge.verdicts import check_trust
+from mkcheck_tools.replay.verdicts import check_trust
 from mkcheck_tools.record.request import Request
 from mkcheck_tools.run.folders import Naming, sources_in
 from mkcheck_tools.run.paths import RealPath, unbound

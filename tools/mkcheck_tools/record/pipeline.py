@@ -18,14 +18,14 @@ from mkcheck_tools.book.states import Unusable
 from mkcheck_tools.book.updating import FIRST_TIME, Conditions, Updating, believed
 from mkcheck_tools.faults import Failure, Fault, RecipeFault, failure_of, sentence_of
 from mkcheck_tools.gnu.unlooked import warn_of_unlooked
-from mkcheck_tools.judge.comparing import compare_again, compare_make
-from mkcheck_tools.judge.dates import dated, without_told
+from mkcheck_tools.record.comparing import compare_again, compare_make
+from mkcheck_tools.replay.dates import dated, without_told
 from mkcheck_tools.judge.footprints import Footprint
 from mkcheck_tools.judge.late import Late, with_met
 from mkcheck_tools.judge.leftovers import warn_of_left_over
 from mkcheck_tools.judge.modules import warn_of_modules
 from mkcheck_tools.judge.notes import Kind, Note, Notes, Warn, ignore
-from mkcheck_tools.judge.verdicts import ReplayVerdict, judge
+from mkcheck_tools.replay.verdicts import ReplayVerdict, judge
 from mkcheck_tools.record.answering import status_of, tell, tell_of_update
 from mkcheck_tools.record.building import Build, build_of, makefile_of, removes_on_error
 from mkcheck_tools.record.presuming import Beginning, keep_premises

@@ -25,10 +25,10 @@ from pathlib import Path
 
 from mkcheck_tools.faults import Fault
 from mkcheck_tools.run import stopping
+from mkcheck_tools.run.escapes import unescaped
 from mkcheck_tools.run.folders import temporary_folder
 from mkcheck_tools.run.paths import RealPath, SeenPath, unbound
 from mkcheck_tools.run.terminals import Terminal
-from mkcheck_tools.trace.calls import unescaped
 
 # Folders for temporary files, which stay open, and what no file system of a disk holds.
 TEMPORARY = ("/tmp", "/var/tmp")

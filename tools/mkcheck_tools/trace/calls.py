@@ -2,12 +2,12 @@
 
 from __future__ import annotations
 
-import os
 import re
 from collections.abc import Iterable
 from dataclasses import dataclass, field
 
 from mkcheck_tools.faults import Fault
+from mkcheck_tools.run.escapes import unescaped
 from mkcheck_tools.run.paths import SeenPath
 
 # What is traced: whatever opens, lists, starts, links, renames, removes, stamps or changes a file,
@@ -163,16 +163,6 @@ RESULT = re.compile(r"\s+= (?:0x[0-9a-f]+|-?\d+)")
 PART = re.compile(r'"(?:[^"\\]|\\.)*"(?:\.\.\.)?|<[^<>]*>|[(\[{]|[)\]}]|,|[^"<(\[{)\]},]+|.')
 DESCRIPTOR = re.compile(r"(?:AT_FDCWD|-?\d+)<([^<>]*)>")
 NUMBER = re.compile(r"-?\d+")
-ESCAPE = re.compile(rb"\\(x[0-9a-fA-F]{2}|[0-7]{1,3}|.)")
-LETTERS = {
-    b"n": b"\n",
-    b"t": b"\t",
-    b"r": b"\r",
-    b"v": b"\v",
-    b"f": b"\f",
-    b"a": b"\a",
-    b"b": b"\b",
-}
 
 
 @dataclass(frozen=True)
@@ -398,20 +388,3 @@ def path_of(argument: str) -> SeenPath | None:
     if found is None or not found.group(1).startswith("/"):
         return None
     return SeenPath(unescaped(found.group(1)))
-
-
-def unescaped(text: str) -> str:
-    """A text without strace's escapes."""
-    if "\\" not in text:
-        return text
-    return os.fsdecode(ESCAPE.sub(byte_of, text.encode("utf-8", "surrogateescape")))
-
-
-def byte_of(escape: re.Match[bytes]) -> bytes:
-    """The byte that an escape stands for."""
-    code = escape.group(1)
-    if code[:1] == b"x" and len(code) > 1:
-        return bytes([int(code[1:], 16)])
-    if code[:1].isdigit():
-        return bytes([int(code, 8) & 255])
-    return LETTERS.get(code, code)
