@@ -48,15 +48,8 @@ class EarlyTest(ProjectTest):
 
     replays = True
 
-    def test_each_recipe_is_replayed_once_beside_the_recording(self) -> None:
-        self.write(
-            {
-                "makefile": (
-                    "c: b\n\tsleep 2; cp b c\nb: a\n\tsleep 2; cp a b\na: s\n\tcp s a\n"
-                ),
-                "s": "1\n",
-            }
-        )
+    def events(self) -> list[str]:
+        """Records the project; which recipes were recorded and replayed, in this order."""
         words = ["-C", str(self.folder), "-o", str(self.book)]
         done = subprocess.run(
             [sys.executable, "-c", TOLD, *words],
@@ -66,7 +59,18 @@ class EarlyTest(ProjectTest):
             check=False,
         )
         self.assertEqual(done.returncode, 0, done.stderr)
-        events = done.stdout.splitlines()
+        return done.stdout.splitlines()
+
+    def test_each_recipe_is_replayed_once_beside_the_recording(self) -> None:
+        self.write(
+            {
+                "makefile": (
+                    "c: b\n\tsleep 2; cp b c\nb: a\n\tsleep 2; cp a b\na: s\n\tcp s a\n"
+                ),
+                "s": "1\n",
+            }
+        )
+        events = self.events()
         self.assertEqual(
             sorted(events),
             [
@@ -76,6 +80,20 @@ class EarlyTest(ProjectTest):
         )
         self.assertLess(events.index("replay of a"), events.index("recorded b"))
         self.assertLess(events.index("replay of b"), events.index("recorded c"))
+
+    def test_a_recipe_that_looks_through_processes(self) -> None:
+        """It may have seen a replay, so all is recorded once more, and then replayed."""
+        self.write(
+            {
+                "makefile": "b: a\n\tsleep 1; ls /proc > /dev/null; cp a b\na: s\n\tcp s a\n",
+                "s": "1\n",
+            }
+        )
+        events = self.events()
+        recorded = ["recorded a", "recorded b"]
+        self.assertEqual([one for one in events if one in recorded], recorded * 2)
+        self.assertEqual(events[-4:-2], recorded)
+        self.assertEqual(sorted(events[-2:]), ["replay of a", "replay of b"])
 
     def test_a_folder_in_which_a_later_recipe_writes(self) -> None:
         """Its stamp is another one in each build, so a recipe that stores it is found."""

@@ -196,6 +196,15 @@ class SignalTest(EndTest):
             self.assertIn(f"stopped by {number.name}, what was recorded is kept", errors)
             self.assertEqual(self.kept(), {"a"})
 
+    @namespaces
+    def test_while_a_recipe_runs_beside_a_replay(self) -> None:
+        makefile = MAKEFILE.replace("cat s", f"sleep 2; touch {self.mark}; sleep 60; cat s")
+        self.write({"makefile": makefile.replace("cp s a", "sleep 4; cp s a")})
+        for number in (signal.SIGINT, signal.SIGTERM):
+            errors = self.stopped("", number)
+            self.assertIn(f"stopped by {number.name}, what was recorded is kept", errors)
+            self.assertEqual(self.kept(), {"a"})
+
     def test_while_footprints_are_made(self) -> None:
         condition = "words[0].target == 'c'"
         self.kept_after("record.recording:footprint_of", condition, "--no-replay")

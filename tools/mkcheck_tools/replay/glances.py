@@ -8,6 +8,7 @@ import time
 from collections.abc import Container, Iterable, Mapping
 from dataclasses import dataclass, replace
 
+from mkcheck_tools.faults import Fault
 from mkcheck_tools.replay.differences import Difference, changed
 from mkcheck_tools.replay.layouts import lay_other
 from mkcheck_tools.replay.runs import LOOKED, Outcome, Runner
@@ -16,7 +17,7 @@ from mkcheck_tools.replay.surroundings import NAMES, Surroundings, beside
 from mkcheck_tools.replay.versions import Version, lay
 from mkcheck_tools.replay.worlds import GIVEN, Trial, stamp_of, stamps_of
 from mkcheck_tools.run.folders import remove
-from mkcheck_tools.run.paths import Name, real_in
+from mkcheck_tools.run.paths import Name, RealPath, real_in
 from mkcheck_tools.run.places import Place
 
 # Between the stamps of files that a recipe only looks at, in nanoseconds.
@@ -130,6 +131,7 @@ class Glances:
                     lay_other(look.size, path, full.mode, stamp)
             if place.is_bound:
                 Surroundings(frozenset({NAMES})).name_again(place.folder, list(others))
+        self.refuse_changed([(name, source) for name, source, _ in found])
         around = {name: stamp_of(real_in(place.folder, name)) for name in others}
         outcome = self.runner.one(trial, place, LOOKED, stamps_of(trial, place.folder))
         rest = [one for one in outcome.differences if one.name not in around]
@@ -141,6 +143,14 @@ class Glances:
         remove(place.folder)
         remove(beside(place.folder))
         return replace(outcome, differences=tuple(rest))
+
+    def refuse_changed(self, laid: Iterable[tuple[Name, RealPath]]) -> None:
+        """Refuses to go on where a recipe that is recorded just now changed a file that was laid
+        from where it lies."""
+        world = self.runner.layout.world
+        for name, source in laid:
+            if source == real_in(world.place, name) and not world.is_untouched(name):
+                raise Fault(f"{name} was changed while it was laid for a replay: record again")
 
     def needs_any(self, name: Name, others: Iterable[Name]) -> bool:
         """Whether one of some files is always made before a file that recipes make."""
