@@ -126,6 +126,7 @@ bench: proved
 	@python3 bench/sentences.py
 	@python3 bench/plans.py
 	@python3 bench/hostile.py
+	@python3 bench/recording.py
 
 # Installs the proved program, where it was built and is up to date, else the quick one.
 install: build
