@@ -9,7 +9,7 @@ use Rattle.mk_build.specs.World.{Disk, Idle, IsOfWorld, World}
 use Rattle.mk_subject.specs.Subject.{Subject, footprints}
 use Rattle.mk_find.specs.declared.finding.Finding.{Finding}
 use Rattle.mk_find.specs.declared.finding.Finding.TheVariants.{Race, Stale}
-use Rattle.mk_world.specs.NamedStep.{Step, Edit, Make, Begin, Look, Put, End, Pass, Stop, EndMake}
+use Rattle.mk_world.specs.NamedStep.{Step, Edit, Make, Begin, Look, Put, End, Break, Pass, Stop, EndMake}
 use Rattle.mk_world.specs.RunLaws.{AreLegal}
 use Rattle.mk_world.specs.State.{Scene, disk_of, setting, world_in, world_of}
 use Rattle.mk_world.specs.Steps.{IsFirstOf, step_of}
@@ -27,6 +27,7 @@ readable (Begin t) h = tt
 readable (Look t f) h = tt
 readable (Put t f c) h = h
 readable (End t) h = tt
+readable (Break t removed) h = tt
 readable (Pass t) h = tt
 readable Stop h = tt
 readable EndMake h = tt
