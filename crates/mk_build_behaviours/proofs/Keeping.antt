@@ -1,0 +1,259 @@
+-- Each undisturbed step keeps a disk coherent. It follows a step of today's world over footprints without reads, in which the known outcome
+-- of each recipe is the result of its last run.
+use Rattle.std.proofs.Common.{◌≡◌, ℕ, ◌≤◌, List, [], ◌∷◌, Bool, true, false, Option, Some, map, ◌⊎◌, inl, inr, ⊎_elim, refl, sym, ◌∙◌, ap, subst, arith}
+use Rattle.std.specs.Prelude.{◌+◌, IfSome, if◌then◌else◌}
+use Rattle.std.specs.Option.{option_map}
+use Rattle.std.proofs.lemmas.Bool.{cases_Bool, cases_eq, cond-true, cond-false}
+use Rattle.mk_graph.specs.Membership.{Has}
+use Rattle.mk_graph.specs.Graph.{Graph, node, IsGraph}
+use Rattle.mk_build.specs.Setting.{FileName, Setting, name, reads, writes}
+use Rattle.mk_build.specs.World.{File, Outcome, Disk, Making, World, Idle, Busy, disk_of, content, written, without, outcome}
+use Rattle.mk_build.specs.Steps.{Step, Edit, Make, Begin, Look, Put, End, Break, Pass, Stop, EndMake, Allowed, after, MayEnd, IsLeftToRun, noted, seen_by, put_by, HasPutWhatIsKnown}
+use Rattle.mk_build.specs.Runs.{WholeRun, Runs, run_of, runs_after}
+use Rattle.mk_build.specs.Ways.{CanChange}
+use Rattle.mk_build.specs.Right.{AreSound, HaveNoRace}
+use Rattle.mk_build.specs.Coherent.{ContainsOrChanged}
+use Rattle.mk_build.proofs.Changes.{cases_name, changed_there, changed_at_here, changed_at_there}
+use Rattle.mk_build.proofs.Writing.{content_there, stamp_here, stamp_kept}
+use Rattle.mk_build.proofs.Putting.{look_holds}
+use Rattle.mk_build.proofs.Outcomes.{noted_new, noted_old}
+use Rattle.mk_build.proofs.Removing.{gone_here, stays_there, none_still}
+use Rattle.mk_build.proofs.Invariant.{RanWhole, Holds, IsInvariant, start_after}
+use Rattle.mk_build.proofs.Histories.{step_keeps}
+use Rattle.mk_build_behaviours.specs.Behaviours.{Behaviours, behaviour, path, result}
+use Rattle.mk_build_behaviours.specs.StepsBy.{saw_in, MayEndBy, AllowedBy, after_by, IsLegalBy, after_all_by, IsUndisturbed, AreUndisturbed}
+use Rattle.mk_build_behaviours.specs.CoherentBy.{without_reads}
+use Rattle.mk_build_behaviours.specs.Straight.{with_outcomes}
+use Rattle.mk_build_behaviours.proofs.Known.{outcome_here, outcome_other}
+
+-- a footprint without reads has none
+pub reads_none : (g : Graph) (s : Setting) (t : ℕ) (f : FileName) → ¬ (Has (reads g (without_reads s) t) f)
+reads_none g s t f h =
+    ⊎_elim (λ e. subst (λ (l : List FileName). Has l f) (cond-true (node g t).recipe [] [] e) h) (λ e. subst (λ (l : List FileName). Has l f) (cond-false (node g t).recipe [] [] e) h) (cases_Bool (node g t).recipe)
+
+-- so there is no race
+pub none_races : (g : Graph) (s : Setting) → HaveNoRace g (without_reads s)
+none_races g s t o f differ read wrote = absurd (reads_none g s t f read)
+
+module _ (g : Graph) (s : Setting) (d : Disk) (f : FileName) where
+  -- what was there or changed is there or changed after a writing
+  pub changed_written : (c : ℕ) (h : FileName) (saw : Option ℕ) (clock : ℕ) → CanChange s f → clock ≤ d.clock → ContainsOrChanged g s d h saw clock → ContainsOrChanged g s (written d f c) h saw clock
+  changed_written c h saw clock can came before =
+      ⊎_elim (λ same. inr (inl (subst (λ (k : FileName). CanChange s k) same can, (d.clock + 1, stamp_here d f c h same, omega arith))))
+      (λ differ. ⊎_elim (λ sees. inl (content_there d f c h differ ∙ sees))
+      (λ changed. ⊎_elim
+      (λ late. inr (inl (late.0, (late.1.0, stamp_kept d f c h late.1.0 differ late.1.1, late.1.2))))
+      (λ missing. inr (inr (changed_there d.files f h (Some (record { content = c; stamp = d.clock + 1 })) differ ∙ missing.0, missing.1))) changed) before)
+      (cases_name f h)
+
+  -- and after a removal of what a recipe writes
+  pub changed_without : (x : ℕ) → Has (writes g s x) f → (h : FileName) (saw : Option ℕ) (clock : ℕ) → ContainsOrChanged g s d h saw clock → ContainsOrChanged g s (without d f) h saw clock
+  changed_without x wrote h saw clock before =
+      ⊎_elim (λ same. inr (inr (gone_here d f h same, (x, subst (λ (k : FileName). Has (writes g s x) k) same wrote))))
+      (λ differ. ⊎_elim (λ sees. inl (ap (λ (o : Option File). option_map (λ (file : File). file.content) o) (stays_there d f h differ) ∙ sees))
+      (λ changed. ⊎_elim
+      (λ late. inr (inl (late.0, (late.1.0, ap (λ (o : Option File). option_map (λ (file : File). file.stamp) o) (stays_there d f h differ) ∙ late.1.1, late.1.2))))
+      (λ missing. inr (inr (none_still d f h missing.0, missing.1))) changed) before)
+      (cases_name f h)
+
+-- what last runs saw on their paths is there or has changed since, and what they wrote is known
+pub record AreKnown (g : Graph) (s : Setting) (b : Behaviours) (p : Runs) (known : List Outcome) (d : Disk) : Type 0 where
+  pub saw : (t : ℕ) (run : WholeRun) → p.last t ≡ Some run → (f : FileName) → Has (path (behaviour g b t) run.saw) f → ContainsOrChanged g s d f (run.saw f) run.ended
+  pub wrote : (t : ℕ) (run : WholeRun) → p.last t ≡ Some run → outcome known t (map run.saw (reads g (without_reads s) t)) ≡ Some (result (behaviour g b t) run.saw)
+
+-- a world is as some runs left it
+pub record IsKept (g : Graph) (s : Setting) (b : Behaviours) (w : World) : Type 0 where
+  pub runs : Runs
+  pub start : ℕ
+  pub known : List Outcome
+  pub is : IsInvariant g (without_reads s) runs start (with_outcomes w known)
+  pub are : AreKnown g s b runs known (disk_of w)
+
+module _ (g : Graph) (s : Setting) (b : Behaviours) (graph : IsGraph g) (sound : AreSound g (without_reads s)) where
+  -- what is known of running recipes doesn't matter
+  ran_with : (p : Runs) (d : Disk) (known more : List Outcome) (t : ℕ) (run : WholeRun) → ((seen : List (Option ℕ)) → outcome more t seen ≡ outcome known t seen) → RanWhole g (without_reads s) p run (record d { known = known }) t → RanWhole g (without_reads s) p run (record d { known = more }) t
+  ran_with p d known more t run same ran = record {
+    is_last = ran.is_last;
+    begin_step = ran.begin_step;
+    in_order = ran.in_order;
+    whole = record {
+      written = ran.whole.written;
+      known = same (map run.saw (reads g (without_reads s) t)) ∙ ran.whole.known;
+      holds = ran.whole.holds;
+      early = ran.whole.early;
+    };
+    after_begin = ran.after_begin;
+  }
+
+  holds_with : (p : Runs) (start : ℕ) (m : Making) (d : Disk) (known more : List Outcome) → ((t : ℕ) → ¬ (Has m.running t) → (seen : List (Option ℕ)) → outcome more t seen ≡ outcome known t seen) → Holds g (without_reads s) p start m (record d { known = known }) → Holds g (without_reads s) p start m (record d { known = more })
+  holds_with p start m d known more same is = record {
+    fits = record {
+      stamped = is.fits.stamped;
+      began = is.fits.began;
+      ended = is.fits.ended;
+      end_step = is.fits.end_step;
+      whole = λ t recipe stopped. ⊎_elim (λ bound. inl bound) (λ ran. inr (ran.0, ran_with p d known more t ran.0 (same t stopped) ran.1)) (is.fits.whole t recipe stopped);
+      saw = is.fits.saw;
+      apart = λ o t before. ⊎_elim (λ one. inl (record { stopped = one.stopped; early = one.early; ended = one.ended; end_step = one.end_step })) (λ two. inr (record { stopped = two.stopped; early = two.early; ended = two.ended; end_step = two.end_step })) (is.fits.apart o t before);
+    };
+    make = record {
+      order = is.make.order;
+      start_came = is.make.start_came;
+      seen = is.make.seen;
+      put = is.make.put;
+      put_late = is.make.put_late;
+      waits = is.make.waits;
+      runs = is.make.runs;
+    };
+  }
+
+  module _ (m : Making) (d : Disk) (kept : IsKept g s b (Busy m d)) (x : ℕ) (may : MayEndBy g s b m x) where
+    -- its outcome
+    abbrev own : Outcome
+    own = record { recipe = x; seen = seen_by g (without_reads s) m x; written = put_by g (without_reads s) m x }
+
+    -- noted before it ends
+    abbrev before_end : Disk
+    before_end = record d { known = own ∷ kept.known }
+
+    holds_before : Holds g (without_reads s) kept.runs kept.start m before_end
+    holds_before = holds_with kept.runs kept.start m d kept.known (own ∷ kept.known) (λ t stopped seen. outcome_other own kept.known t seen (λ same. stopped (subst (λ (k : ℕ). Has m.running k) same may.runs))) kept.is
+
+    -- it agrees with what is known
+    agrees : HasPutWhatIsKnown g (without_reads s) m before_end x
+    agrees = subst (λ (o : Option (List ℕ)). IfSome o (λ known. known ≡ put_by g (without_reads s) m x)) (sym (outcome_here own kept.known)) refl
+
+    -- so it may end
+    may_end : MayEnd g (without_reads s) m before_end x
+    may_end = record { runs = may.runs; seen = λ f read none. reads_none g s x f read; put = may.put; agrees = agrees }
+
+    -- the runs after it
+    abbrev runs_then : Runs
+    runs_then = runs_after (Busy m before_end) (End x) kept.runs
+
+    -- a last run is this one, or that of another recipe
+    last_cases : (t : ℕ) (run : WholeRun) → runs_then.last t ≡ Some run → ((x ≡ t) × (run_of kept.runs m before_end x ≡ run)) ⊎ ((¬ (x ≡ t)) × (kept.runs.last t ≡ Some run))
+    last_cases t run e =
+        ⊎_elim (λ same. let both : Some (run_of kept.runs m before_end x) ≡ Some run = sym (changed_at_here kept.runs.last x t (Some (run_of kept.runs m before_end x)) same) ∙ e in inl (same, cc))
+        (λ differ. inr (differ, sym (changed_at_there kept.runs.last x t (Some (run_of kept.runs m before_end x)) differ) ∙ e))
+        (cases_eq x t)
+
+    known_then : (undisturbed : (f : FileName) → Has (path (behaviour g b x) (saw_in m x)) f → content d f ≡ saw_in m x f) → AreKnown g s b runs_then (noted before_end own).known d
+    known_then undisturbed = record {
+      saw = λ t run e f on. ⊎_elim
+          (λ here. subst (λ (r : WholeRun). Has (path (behaviour g b t) r.saw) f → ContainsOrChanged g s d f (r.saw f) r.ended) here.1
+          (subst (λ (k : ℕ). Has (path (behaviour g b k) (saw_in m x)) f → ContainsOrChanged g s d f (saw_in m x f) d.clock) here.0 (λ own_on. inl (undisturbed f own_on))) on)
+          (λ there. kept.are.saw t run there.1 f on) (last_cases t run e);
+      wrote = λ t run e. ⊎_elim
+          (λ here. subst (λ (r : WholeRun). outcome (noted before_end own).known t (map r.saw (reads g (without_reads s) t)) ≡ Some (result (behaviour g b t) r.saw)) here.1
+          (subst (λ (k : ℕ). outcome (noted before_end own).known k (map (saw_in m x) (reads g (without_reads s) k)) ≡ Some (result (behaviour g b k) (saw_in m x))) here.0
+          (noted_new before_end own agrees ∙ ap (λ (l : List ℕ). Some l) may.agrees)))
+          (λ there. noted_old before_end own t (map run.saw (reads g (without_reads s) t)) (result (behaviour g b t) run.saw) (outcome_other own kept.known t (map run.saw (reads g (without_reads s) t)) there.0 ∙ kept.are.wrote t run there.1)) (last_cases t run e);
+    }
+
+  -- what the last runs saw stays over a writing and a removal
+  are_written : (p : Runs) (known : List Outcome) (d : Disk) (f : FileName) (c : ℕ) → ((t : ℕ) (run : WholeRun) → p.last t ≡ Some run → run.ended ≤ d.clock) → CanChange s f → AreKnown g s b p known d → AreKnown g s b p known (written d f c)
+  are_written p known d f c ended can are = record { saw = λ t run e h on. changed_written g s d f c h (run.saw h) run.ended can (ended t run e) (are.saw t run e h on); wrote = are.wrote }
+
+  are_removed : (p : Runs) (known : List Outcome) (d : Disk) (x : ℕ) (removed : Bool) → IsLeftToRun g s d x removed → AreKnown g s b p known d → AreKnown g s b p known (if removed then without d (name g x) else d)
+  are_removed p known d x true wrote are = record { saw = λ t run e h on. changed_without g s d (name g x) x wrote h (run.saw h) run.ended (are.saw t run e h on); wrote = are.wrote }
+  are_removed p known d x false must are = are
+
+  -- and over steps that end no recipe
+  are_later : (p q : Runs) (known : List Outcome) (d : Disk) → ((t : ℕ) → q.last t ≡ p.last t) → AreKnown g s b p known d → AreKnown g s b q known d
+  are_later p q known d same are = record { saw = λ t run e. are.saw t run (sym (same t) ∙ e); wrote = λ t run e. are.wrote t run (sym (same t) ∙ e) }
+
+  -- today's invariant after a step of today's world
+  next : (w : World) (p : Runs) (start : ℕ) (step : Step) → IsInvariant g (without_reads s) p start w → Allowed g (without_reads s) w step → IsInvariant g (without_reads s) (runs_after w step p) (start_after w step start) (after g (without_reads s) w step)
+  next w p start step is may = step_keeps g (without_reads s) graph sound (none_races g s) p start w step is may
+
+  -- each undisturbed step keeps a world
+  pub keep : (w : World) (step : Step) → IsKept g s b w → AllowedBy g s b w step → IsUndisturbed g s b w step → IsKept g s b (after_by g s w step)
+  keep (Idle d) (Edit f c) kept may still = record {
+    runs = runs_after (Idle d) (Edit f c) kept.runs;
+    start = kept.start;
+    known = kept.known;
+    is = next (Idle (record d { known = kept.known })) kept.runs kept.start (Edit f c) kept.is may;
+    are = are_later kept.runs (runs_after (Idle d) (Edit f c) kept.runs) kept.known (written d f c) (λ t. refl) (are_written kept.runs kept.known d f c kept.is.ended (inl may.0) kept.are);
+  }
+  keep (Idle d) (Make jobs goals) kept may still = record {
+    runs = runs_after (Idle d) (Make jobs goals) kept.runs;
+    start = d.clock;
+    known = kept.known;
+    is = next (Idle (record d { known = kept.known })) kept.runs kept.start (Make jobs goals) kept.is may;
+    are = are_later kept.runs (runs_after (Idle d) (Make jobs goals) kept.runs) kept.known d (λ t. refl) kept.are;
+  }
+  keep (Idle d) (Begin t) kept may still = absurd may
+  keep (Idle d) (Look t f) kept may still = absurd may
+  keep (Idle d) (Put t f c) kept may still = absurd may
+  keep (Idle d) (End t) kept may still = absurd may
+  keep (Idle d) (Break t removed) kept may still = absurd may
+  keep (Idle d) (Pass t) kept may still = absurd may
+  keep (Idle d) Stop kept may still = absurd may
+  keep (Idle d) EndMake kept may still = absurd may
+  keep (Busy m d) (Edit f c) kept may still = absurd may
+  keep (Busy m d) (Make jobs goals) kept may still = absurd may
+  keep (Busy m d) (Begin t) kept may still = record {
+    runs = runs_after (Busy m (record d { known = kept.known })) (Begin t) kept.runs;
+    start = kept.start;
+    known = kept.known;
+    is = next (Busy m (record d { known = kept.known })) kept.runs kept.start (Begin t) kept.is may;
+    are = are_later kept.runs (runs_after (Busy m (record d { known = kept.known })) (Begin t) kept.runs) kept.known d (λ t. refl) kept.are;
+  }
+  keep (Busy m d) (Look t f) kept may still = record {
+    runs = kept.runs;
+    start = kept.start;
+    known = kept.known;
+    is = look_holds g (without_reads s) kept.runs kept.start m (record d { known = kept.known }) kept.is.fits kept.is.make t f;
+    are = kept.are;
+  }
+  keep (Busy m d) (Put t f c) kept may still = record {
+    runs = runs_after (Busy m (record d { known = kept.known })) (Put t f c) kept.runs;
+    start = kept.start;
+    known = kept.known;
+    is = next (Busy m (record d { known = kept.known })) kept.runs kept.start (Put t f c) kept.is may;
+    are = are_later kept.runs (runs_after (Busy m (record d { known = kept.known })) (Put t f c) kept.runs) kept.known (written d f c) (λ t. refl) (are_written kept.runs kept.known d f c kept.is.fits.ended (inr (sound.not_given t f may.1)) kept.are);
+  }
+  keep (Busy m d) (End t) kept may still = record {
+    runs = runs_then m d kept t may;
+    start = kept.start;
+    known = (noted (before_end m d kept t may) (own m d kept t may)).known;
+    is = next (Busy m (before_end m d kept t may)) kept.runs kept.start (End t) (holds_before m d kept t may) (may_end m d kept t may);
+    are = known_then m d kept t may still;
+  }
+  keep (Busy m d) (Break t removed) kept may still = record {
+    runs = runs_after (Busy m (record d { known = kept.known })) (Break t removed) kept.runs;
+    start = kept.start;
+    known = kept.known;
+    is = broken removed may;
+    are = are_later kept.runs (runs_after (Busy m (record d { known = kept.known })) (Break t removed) kept.runs) kept.known (if removed then without d (name g t) else d) (λ t. refl) (are_removed kept.runs kept.known d t removed may.1 kept.are);
+  } where
+    broken : (removed : Bool) → Has m.running t × IsLeftToRun g s d t removed → IsInvariant g (without_reads s) (runs_after (Busy m (record d { known = kept.known })) (Break t removed) kept.runs) kept.start (with_outcomes (after_by g s (Busy m d) (Break t removed)) kept.known)
+    broken true may = next (Busy m (record d { known = kept.known })) kept.runs kept.start (Break t true) kept.is may
+    broken false may = next (Busy m (record d { known = kept.known })) kept.runs kept.start (Break t false) kept.is may
+  keep (Busy m d) (Pass n) kept may still = record {
+    runs = runs_after (Busy m (record d { known = kept.known })) (Pass n) kept.runs;
+    start = kept.start;
+    known = kept.known;
+    is = next (Busy m (record d { known = kept.known })) kept.runs kept.start (Pass n) kept.is may;
+    are = are_later kept.runs (runs_after (Busy m (record d { known = kept.known })) (Pass n) kept.runs) kept.known d (λ t. refl) kept.are;
+  }
+  keep (Busy m d) Stop kept may still = record {
+    runs = runs_after (Busy m (record d { known = kept.known })) Stop kept.runs;
+    start = kept.start;
+    known = kept.known;
+    is = next (Busy m (record d { known = kept.known })) kept.runs kept.start Stop kept.is may;
+    are = are_later kept.runs (runs_after (Busy m (record d { known = kept.known })) Stop kept.runs) kept.known d (λ t. refl) kept.are;
+  }
+  keep (Busy m d) EndMake kept may still = record {
+    runs = runs_after (Busy m (record d { known = kept.known })) EndMake kept.runs;
+    start = kept.start;
+    known = kept.known;
+    is = next (Busy m (record d { known = kept.known })) kept.runs kept.start EndMake kept.is may;
+    are = are_later kept.runs (runs_after (Busy m (record d { known = kept.known })) EndMake kept.runs) kept.known d (λ t. refl) kept.are;
+  }
+
+  -- so do undisturbed traces
+  pub keep_all : (w : World) (steps : List Step) → IsKept g s b w → IsLegalBy g s b w steps → AreUndisturbed g s b w steps → IsKept g s b (after_all_by g s w steps)
+  keep_all w [] kept legal still = kept
+  keep_all w (first ∷ steps) kept legal still = keep_all (after_by g s w first) steps (keep w first kept legal.0 still.0) legal.1 still.1

@@ -1,0 +1,12 @@
+pub mod Paths
+pub mod Putting
+pub mod CleanContents
+pub mod CleanEnd
+pub mod Known
+pub mod Seeing
+pub mod Following
+pub mod Present
+pub mod Keeping
+pub mod Coherence
+pub mod OneJob
+pub mod Straight
