@@ -144,9 +144,9 @@ module _ (h g : Graph) (s : Setting) (is_h : IsGraph h) (is_g : IsGraph g) (part
         let q = is_some (outcome d.known t a) in
         let first : outcome (noted (with_known d known) other).known (there u) saw ≡ outcome (if q then known else (other ∷ known)) (there u) saw = ap (λ (c : Bool). outcome (if c then known else (other ∷ known)) (there u) saw) both_known in
         ⊎_elim
-            (λ yes. first ∙ (ap (λ (l : List Outcome). outcome l (there u) saw) (cond-true q known (other ∷ known) yes) ∙ (knows u u_low saw ∙ sym (ap (λ (l : List Outcome). outcome l u saw) (cond-true q d.known (own ∷ d.known) yes)))))
-            (λ no. first ∙ (ap (λ (l : List Outcome). outcome l (there u) saw) (cond-false q known (other ∷ known) no) ∙ (found_there u u_low saw ∙ sym (ap (λ (l : List Outcome). outcome l u saw) (cond-false q d.known (own ∷ d.known) no)))))
-            (cases_Bool q) where
+        (λ yes. first ∙ (ap (λ (l : List Outcome). outcome l (there u) saw) (cond-true q known (other ∷ known) yes) ∙ (knows u u_low saw ∙ sym (ap (λ (l : List Outcome). outcome l u saw) (cond-true q d.known (own ∷ d.known) yes)))))
+        (λ no. first ∙ (ap (λ (l : List Outcome). outcome l (there u) saw) (cond-false q known (other ∷ known) no) ∙ (found_there u u_low saw ∙ sym (ap (λ (l : List Outcome). outcome l u saw) (cond-false q d.known (own ∷ d.known) no)))))
+        (cases_Bool q) where
           found_there : (u : ℕ) → u < length h.nodes → (saw : List (Option ℕ)) → outcome (other ∷ known) (there u) saw ≡ outcome (own ∷ d.known) u saw
           found_there u u_low saw =
               ap (λ (c : Bool). if c && same_seen a saw then Some b else outcome known (there u) saw) (same_test h g is_h is_g part t u low u_low) ∙ ap (λ (o : Option (List ℕ)). if nat_eq t u && same_seen a saw then Some b else o) (knows u u_low saw)
@@ -179,8 +179,7 @@ module _ (h g : Graph) (s : Setting) (is_h : IsGraph h) (is_g : IsGraph g) (part
     unfolding other_make other_disk
     begin_follows t may =
         let ready = ready_there m d v tw t may.0 in
-        let is = same h g is_h is_g part t ready.0 in
-        (
+        let is = same h g is_h is_g part t ready.0 in (
           Begin (there t),
           begins is.name,
           (ready.1, sym is.recipe ∙ may.1, let many = length-map m.running there in let free = may.2 in omega arith),
@@ -203,8 +202,7 @@ module _ (h g : Graph) (s : Setting) (is_h : IsGraph h) (is_g : IsGraph g) (part
     look_follows : (t : ℕ) (f : FileName) → Allowed h s (Busy m d) (Look t f) → Follows (Busy m d) (Look t f) (Busy other_make other_disk)
     unfolding other_make other_disk
     look_follows t f may =
-        let low = tw.running t may.0 in
-        (
+        let low = tw.running t may.0 in (
           Look (there t) f,
           looks (same h g is_h is_g part t low).name,
           (has_mapped there m.running t may.0, subst (λ (l : List FileName). Has l f) (sym (reads_are h g is_h is_g part s t low)) may.1),
@@ -227,8 +225,7 @@ module _ (h g : Graph) (s : Setting) (is_h : IsGraph h) (is_g : IsGraph g) (part
     put_follows : (t : ℕ) (f : FileName) (c : ℕ) → Allowed h s (Busy m d) (Put t f c) → Follows (Busy m d) (Put t f c) (Busy other_make other_disk)
     unfolding other_make other_disk
     put_follows t f c may =
-        let low = tw.running t may.0 in
-        (
+        let low = tw.running t may.0 in (
           Put (there t) f c,
           puts (same h g is_h is_g part t low).name,
           (has_mapped there m.running t may.0, subst (λ (l : List FileName). Has l f) (sym (writes_are h g is_h is_g part s t low)) may.1, may.2),
@@ -273,8 +270,7 @@ module _ (h g : Graph) (s : Setting) (is_h : IsGraph h) (is_g : IsGraph g) (part
         let result : Outcome = record { recipe = there t; seen = seen_by g s (twin m tw.seen tw.put) (there t); written = put_by g s (twin m tw.seen tw.put) (there t) } in
         let known = (noted (with_known d tw.known) result).known in
         let seen = changed_at tw.seen (there t) (λ f. None) in
-        let put = changed_at tw.put (there t) (λ f. None) in
-        (
+        let put = changed_at tw.put (there t) (λ f. None) in (
           End (there t),
           ends (same h g is_h is_g part t low).name,
           may_end t low may,
@@ -317,8 +313,7 @@ module _ (h g : Graph) (s : Setting) (is_h : IsGraph h) (is_g : IsGraph g) (part
     unfolding other_make other_disk
     removed_follows t may =
         let low = tw.running t may.0 in
-        let is = same h g is_h is_g part t low in
-        (
+        let is = same h g is_h is_g part t low in (
           Break (there t) true,
           breaks is.name,
           (
@@ -332,8 +327,7 @@ module _ (h g : Graph) (s : Setting) (is_h : IsGraph h) (is_g : IsGraph g) (part
     stayed_follows : (t : ℕ) → Allowed h s (Busy m d) (Break t false) → Follows (Busy m d) (Break t false) (Busy other_make other_disk)
     unfolding other_make other_disk
     stayed_follows t may =
-        let low = tw.running t may.0 in
-        (
+        let low = tw.running t may.0 in (
           Break (there t) false,
           breaks (same h g is_h is_g part t low).name,
           (has_mapped there m.running t may.0, must_to h g is_h is_g part d t low may.1),
@@ -348,8 +342,7 @@ module _ (h g : Graph) (s : Setting) (is_h : IsGraph h) (is_g : IsGraph g) (part
         let low = ready.0 in
         let is = same h g is_h is_g part n low in
         let seen = changed_at tw.seen (there n) (λ f. None) in
-        let put = changed_at tw.put (there n) (λ f. None) in
-        (
+        let put = changed_at tw.put (there n) (λ f. None) in (
           Pass (there n),
           passes is.name,
           (ready.1, ⊎_elim (λ no. inl (sym is.recipe ∙ no)) (λ need_not. inr (λ must. need_not (must_from h g is_h is_g part d n low must))) may.1),

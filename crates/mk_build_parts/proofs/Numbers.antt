@@ -140,8 +140,7 @@ module _ (h g : Graph) (is_h : IsGraph h) (is_g : IsGraph g) (part : IsPartOf h 
     wanted_to : {n : ℕ} → Wanted h goals done n → (n < length h.nodes) × Wanted g (map to goals) (map to done) (to n)
     wanted_to (goal {n = n} is) = (goals_low n is, goal (has_mapped to goals n is))
     wanted_to (onward {p = p} {n = n} wanted in_open) =
-        let before = wanted_to wanted in
-        (
+        let before = wanted_to wanted in (
           is_h.sound.edges p n (open_has done (node h p).groups n in_open),
           onward before.1
               (subst (λ (gs : List (List ℕ)). InOpenGroup (map to done) gs (to n)) (groups_are p before.0) (open_to done (node h p).groups n in_open)),
@@ -150,8 +149,7 @@ module _ (h g : Graph) (is_h : IsGraph h) (is_g : IsGraph g) (part : IsPartOf h 
     -- what can start
     pub start_to : (n : ℕ) → AreLow done → CanStart h goals done n → (n < length h.nodes) × CanStart g (map to goals) (map to done) (to n)
     start_to n done_low can =
-        let wanted = wanted_to can.wanted in
-        (
+        let wanted = wanted_to can.wanted in (
           wanted.0,
           record {
             wanted = wanted.1;

@@ -175,14 +175,14 @@ module _ (g : Graph) (s : Setting) where
       makes_all (n ∷ ns) done limit w turns room rests =
           let behind = clock_behind g s [] 1 goals limit n ns in
           let pass = λ (why : ((node g n).recipe ≡ false) ⊎ (¬ (MustRun g (disk_of w) n))) (makes : (steps : List Step) → MakesInTurn g s spared (after g s w (Pass n)) ns steps → MakesInTurn g s spared w (n ∷ ns) (Pass n ∷ steps)).
-              let now = one_pass n done limit w turns.0 rests why in
-              let rest = makes_all ns (n ∷ done) (limit + length (writes g s n)) (after g s w (Pass n)) turns.1 (omega arith) now.1 in
-              then_others n ns done (Pass n ∷ []) w limit now.0 rest (makes rest.steps rest.makes) in
+          let now = one_pass n done limit w turns.0 rests why in
+          let rest = makes_all ns (n ∷ done) (limit + length (writes g s n)) (after g s w (Pass n)) turns.1 (omega arith) now.1 in
+          then_others n ns done (Pass n ∷ []) w limit now.0 rest (makes rest.steps rest.makes) in
           let run = λ (recipe : (node g n).recipe ≡ true) (why : (spared n ≡ false) ⊎ MustRun g (disk_of w) n).
-              let first = whole_run g s n (to_put g s (disk_of w) n) in
-              let now = one_run n done limit w recipe turns.0 (omega arith) rests in
-              let rest = makes_all ns (n ∷ done) (limit + length (writes g s n)) (after_all g s w first) turns.1 (omega arith) now.1 in
-              then_others n ns done first w limit now.0 rest (runs recipe why rest.makes) in
+          let first = whole_run g s n (to_put g s (disk_of w) n) in
+          let now = one_run n done limit w recipe turns.0 (omega arith) rests in
+          let rest = makes_all ns (n ∷ done) (limit + length (writes g s n)) (after_all g s w first) turns.1 (omega arith) now.1 in
+          then_others n ns done first w limit now.0 rest (runs recipe why rest.makes) in
           ⊎_elim (λ recipe. ⊎_elim (λ yes. ⊎_elim (λ must. run recipe (inr must)) (λ need_not. pass (inr need_not) (λ steps more. spares recipe yes need_not more)) (must_or_not g (disk_of w) n)) (λ no. run recipe (inl no)) (cases_Bool (spared n))) (λ none. pass (inl none) (λ steps more. passes none more)) (cases_Bool (node g n).recipe)
 
     -- the nodes of the order may turn one after another
@@ -208,8 +208,7 @@ module _ (g : Graph) (s : Setting) where
         let begin = Busy (make_of 1 goals) now in
         let by_name = subst (λ (w : World). AreByName g s (disk_of w)) e (by_name_after d steps start legal) in
         let made = makes_all spared (order_from g goals) [] now.clock begin (turns is) room (record { seen = λ t f. None; put = λ t f. None; disk = now; is = refl; by_name = by_name; low = omega arith }) in
-        let end : IsLegal g s (after_all g s begin made.steps) (EndMake ∷ []) = subst (λ (w : World). IsLegal g s w (EndMake ∷ [])) (sym made.rests.is) ((goals_are_done is part, refl), tt) in
-        (
+        let end : IsLegal g s (after_all g s begin made.steps) (EndMake ∷ []) = subst (λ (w : World). IsLegal g s w (EndMake ∷ [])) (sym made.rests.is) ((goals_are_done is part, refl), tt) in (
           made.steps,
           made.makes,
           legal_append g s (Idle d) steps (one_make goals made.steps) legal
