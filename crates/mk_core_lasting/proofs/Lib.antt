@@ -1,0 +1,2 @@
+mod Verified
+mod Promised
