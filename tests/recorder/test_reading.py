@@ -166,6 +166,49 @@ class CallsTest(unittest.TestCase):
 OTHERS = (*FORKS, *SIGNALS)
 
 
+class RepeatedLooksTest(unittest.TestCase):
+    """Lines that come again with the same process, name and result."""
+
+    LOOK = '12 readlink("/nowhere/p/a", 0x7ffd1f1c, 1023) = -1 ENOENT (No such file or directory)'
+
+    def found(self, *lines: str) -> list[str]:
+        """The names of the calls that are kept."""
+        trace = Trace(looking=True)
+        for line in lines:
+            trace.feed(line)
+        return [call.name for call in trace.calls()]
+
+    def test_a_look_that_comes_again_is_one_look(self) -> None:
+        read = '12 openat(AT_FDCWD</nowhere/p>, "b", O_RDONLY) = 3</nowhere/p/b>'
+        self.assertEqual(self.found(self.LOOK, read, self.LOOK), ["readlink", "openat"])
+
+    def test_a_look_of_another_process_is_another_one(self) -> None:
+        other = self.LOOK.replace("12 ", "13 ")
+        self.assertEqual(self.found(self.LOOK, other), ["readlink", "readlink"])
+
+    def test_a_look_after_a_writing_is_another_one(self) -> None:
+        for change in (
+            '13 symlink("b", "/nowhere/p/a") = 0',
+            '13 openat(AT_FDCWD</nowhere/p>, "a", O_RDWR|O_CREAT, 0666) = 3</nowhere/p/a>',
+            '13 unlink("/nowhere/p/a") = 0',
+            '13 rename("/nowhere/p/b", "/nowhere/p/a") = 0',
+            '12 chdir("/nowhere") = 0',
+        ):
+            name = change[3:].partition("(")[0]
+            kept = self.found(self.LOOK, change, self.LOOK)
+            self.assertEqual(kept, ["readlink", name, "readlink"], change)
+
+    def test_a_look_while_another_process_writes_is_another_one(self) -> None:
+        begun = '13 mkdir("/nowhere/p/a", 0777 <unfinished ...>'
+        ended = "13 <... mkdir resumed>) = 0"
+        kept = self.found(begun, self.LOOK, ended, self.LOOK)
+        self.assertEqual(kept, ["readlink", "mkdir", "readlink"])
+
+    def test_a_look_of_a_later_process_of_the_same_number_is_another_one(self) -> None:
+        kept = self.found(self.LOOK, "12 +++ exited with 0 +++", self.LOOK)
+        self.assertEqual(kept, ["readlink", "readlink"])
+
+
 class TracedTest(unittest.TestCase):
     """What strace is asked for."""
 

@@ -61,6 +61,10 @@ TRACED = (
     *CHANNELS,
     *FORKS,
 )
+# What only opens. Programs repeat such calls, and looks, hundreds of times.
+OPENS = ("open", "openat", "openat2")
+# Flags by which an open makes or changes a file.
+WRITING = ("O_WRONLY", "O_RDWR", "O_CREAT", "O_TRUNC", "O_TMPFILE")
 # What is traced besides where the words of commands are: by these a command gets its output.
 DUPLICATIONS = ("dup2", "dup3")
 # What is traced besides where it is to be known at which names a recipe looked: each call with the
@@ -82,6 +86,8 @@ LOOKS_IN_VAIN: dict[str, tuple[int | None, int]] = {
     "symlink": (None, 1),
     "symlinkat": (1, 2),
 }
+# All calls that tell at which names a recipe looked when they fail.
+LOOKING = frozenset((*LOOKS, *LOOKS_IN_VAIN))
 # Calls that write, with the arguments that have the folder, if any, and the name. A name of None
 # stands for a file that is open. Where a file system is read-only, they fail by that error, and
 # these failures are kept.
@@ -197,6 +203,9 @@ class Trace:
     `signalled` each process to which another one sent a signal that ends it by default. A line that
     strace wouldn't write is a fault, since it was cut. `looking` keeps calls that look in vain,
     too; removals in vain and writings to what is read-only are always kept.
+
+    `repeated` has the looks since the last call that may change what a look finds, or where: such a
+    line tells nothing when it comes again.
     """
 
     looking: bool = False
@@ -208,10 +217,13 @@ class Trace:
     signalled: set[int] = field(default_factory=set)
     pending: dict[int, tuple[int, str]] = field(default_factory=dict)
     lines: int = 0
+    repeated: set[str] = field(default_factory=set)
 
     def feed(self, line: str) -> None:
         """Takes the next line."""
         self.lines += 1
+        if line in self.repeated:
+            return
         matched = LINE.match(line)
         if matched is None:
             raise cut(line)
@@ -223,12 +235,17 @@ class Trace:
         elif not NOTE.match(text):
             self.alive.add(process)
             self.take(process, text)
+            if is_look(text):
+                self.repeated.add(line)
+            elif not changes_nothing(text):
+                self.repeated.clear()
 
     def end(self, process: int, text: str) -> None:
         """A process ends.
 
         Where a thread starts a program, its process goes on under the process's first number.
         """
+        self.repeated.clear()
         superseded = SUPERSEDED.match(text)
         if superseded:
             thread = int(superseded.group(1))
@@ -278,7 +295,7 @@ class Trace:
         elif name in CONNECTIONS and error != NOTHING_THERE:
             arguments, _ = split(text, begun.end())
             self.found.append(Call(self.lines, process, name, tuple(arguments), error, True))
-        elif removes or (self.looking and name in (*LOOKS, *LOOKS_IN_VAIN)):
+        elif removes or (self.looking and name in LOOKING):
             arguments, _ = split(text, begun.end(), NAMES_IN_VAIN)
             self.found.append(Call(self.lines, process, name, tuple(arguments), error, True))
 
@@ -312,6 +329,20 @@ class Trace:
     def is_whole(self) -> bool:
         """Whether all processes have ended, and there was one."""
         return self.first is not None and not self.alive
+
+
+def is_look(text: str) -> bool:
+    """Whether a whole call only looks at a name, or fails to open one."""
+    name, _, rest = text.partition("(")
+    if name in LOOKS or name in OF_LINKS:
+        return not rest.endswith(UNFINISHED)
+    return name in OPENS and FAILED.search(rest, max(0, len(rest) - 160)) is not None
+
+
+def changes_nothing(text: str) -> bool:
+    """Whether a call opens a file and neither makes nor changes one."""
+    name, _, rest = text.partition("(")
+    return name in OPENS and not any(flag in rest for flag in WRITING)
 
 
 def cut(line: str) -> Fault:

@@ -1,0 +1,127 @@
+"""Runs of a replay that are joined show what each would show by itself."""
+
+from __future__ import annotations
+
+import os
+import subprocess
+import sys
+import unittest
+
+from mkcheck_tools.run import places
+from recorder.project import MKCHECK, ROOT, ProjectTest, traced
+
+namespaces = unittest.skipUnless(places.namespace(), "no mount namespace is allowed")
+
+# Runs the recorder, and tells the runs of replays.
+TOLD = """\
+import sys
+from mkcheck_tools.record import program
+from mkcheck_tools.replay.runs import Runner
+
+one = Runner.one
+
+
+def told(own, trial, place, run, *more, **others):
+    print(trial.recipe.target, run, flush=True)
+    return one(own, trial, place, run, *more, **others)
+
+
+Runner.one = told
+sys.exit(program.main(sys.argv[1:]))
+"""
+
+
+@traced
+@namespaces
+class JoinedTest(ProjectTest):
+    """Recipes that would pass a run over outputs with other bytes, or the bare run, alone."""
+
+    replays = True
+
+    def runs(self, makefile: str, files: dict[str, str]) -> list[str]:
+        """The target and the kind of each run, in their order."""
+        self.write({"makefile": makefile, **files})
+        words = ["-C", str(self.folder), "-o", str(self.book)]
+        done = subprocess.run(
+            [sys.executable, "-c", TOLD, *words],
+            env={**os.environ, "MKCHECK": MKCHECK, "PYTHONPATH": str(ROOT / "tools")},
+            capture_output=True,
+            text=True,
+            check=False,
+        )
+        self.assertEqual(done.returncode, 0, done.stderr)
+        return done.stdout.splitlines()
+
+    def refused(self, makefile: str, files: dict[str, str], what: str) -> None:
+        """Records, which has to be refused for the recipe of `out`."""
+        self.write({"makefile": makefile, **files})
+        outcome = self.record()
+        self.assertTrue(outcome.lacks("out"), outcome.errors)
+        self.assertIn(what, outcome.errors)
+
+    def reads(self, makefile: str, files: dict[str, str]) -> set[str]:
+        """What the recipe of `out` is recorded to read."""
+        self.write({"makefile": makefile, **files})
+        return set(self.recorded().own("out")[0])
+
+    def test_a_recipe_that_looks_at_nothing_else_runs_twice(self) -> None:
+        runs = self.runs("out: a\n\tcat a > out\n", {"a": "1\n"})
+        self.assertEqual(runs, ["out damaged", "out again"])
+
+    def test_runs_are_repeated_apart_where_the_joined_one_shows_something(self) -> None:
+        """It fails over other bytes, which a make doesn't meet unless it was stopped."""
+        makefile = "out: a\n\tif test -e out; then grep -q 1 out || exit 1; fi; cat a > out\n"
+        runs = self.runs(makefile, {"a": "1\n"})
+        self.assertEqual(runs, ["out damaged", "out bare", "out again", "out damaged"])
+
+    def test_a_source_that_it_looks_at_only_without_its_output(self) -> None:
+        makefile = "out: a\n\ttest -e out || test -e flag || exit 1; cat a > out\n"
+        self.assertEqual(self.reads(makefile, {"a": "1\n", "flag": ""}), {"a", "flag"})
+
+    def test_a_folder_that_it_lists_only_without_its_output(self) -> None:
+        makefile = 'out: a\n\ttest -e out || test "$$(ls d)" = x || exit 1; cat a > out\n'
+        self.assertEqual(self.reads(makefile, {"a": "1\n", "d/x": ""}), {"a", "d/x"})
+
+    def test_a_link_that_it_looks_at_only_without_its_output(self) -> None:
+        (self.folder / "l").symlink_to("nowhere")
+        makefile = "out: a\n\ttest -e out || test -h l || exit 1; cat a > out\n"
+        self.refused(makefile, {"a": "1\n"}, "it looks in vain for l, which was there")
+
+    def test_a_folder_that_another_recipe_makes(self) -> None:
+        makefile = (
+            "all: other out\nother: a\n\tmkdir obj; cat a > other\n"
+            "out: a\n\ttest -e out || test -d obj || exit 1; cat a > out\n"
+        )
+        self.refused(makefile, {"a": "1\n"}, "it looks in vain for obj, which was there")
+
+    def test_an_output_in_a_folder_that_another_recipe_makes(self) -> None:
+        makefile = (
+            "all: other out\nother: a\n\tmkdir obj; cat a > other\n"
+            "out: a\n\tcat a > obj/x && cat a > out\n"
+        )
+        self.refused(makefile, {"a": "1\n"}, "the folder obj is made by the recipe of other")
+
+    def test_an_output_that_was_there_when_it_was_recorded(self) -> None:
+        makefile = (
+            "out: a\n\tif test -e side; then cat a; else echo none; fi > out; cat a > side\n"
+        )
+        self.refused(makefile, {"a": "1\n", "side": "0\n"}, "writes out with other contents")
+
+    def test_the_order_of_stamps_with_other_bytes(self) -> None:
+        """With the right bytes a stamp is enough, and in the order of the recording no file stays
+        as it is."""
+        makefile = (
+            "out: a b\n\tif test a -nt b && test -e out; then touch out;"
+            " else cat a b > out; fi\n"
+            "a: s\n\tcp s a\nb: s\n\tsleep 0.1; cp s b\n"
+        )
+        self.refused(makefile, {"s": "1\n"}, "writes out with other contents")
+
+    def test_a_read_that_it_changes(self) -> None:
+        makefile = "out: a\n\tcat a > out; echo 2 > a\na: s\n\tcp s a\n"
+        runs = [run for run in self.runs(makefile, {"s": "1\n"}) if run.startswith("out ")]
+        self.assertEqual(runs, ["out bare", "out again", "out damaged"])
+
+
+if __name__ == "__main__":
+    unittest.main()
