@@ -13,7 +13,7 @@ from recorder.project import MKCHECK, ROOT, ProjectTest, traced
 namespaces = unittest.skipUnless(places.namespace(), "no mount namespace is allowed")
 
 # Runs the recorder, and tells the runs of replays.
-TOLD = """\
+TOLD = r"""
 import sys
 from mkcheck_tools.record import program
 from mkcheck_tools.replay.runs import Runner
@@ -22,7 +22,8 @@ one = Runner.one
 
 
 def told(own, trial, place, run, *more, **others):
-    print(trial.recipe.target, run, flush=True)
+    sys.stdout.write(f"{trial.recipe.target} {run}\n")
+    sys.stdout.flush()
     return one(own, trial, place, run, *more, **others)
 
 

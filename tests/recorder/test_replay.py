@@ -57,8 +57,6 @@ class ReplayTest(ProjectTest):
 
     replays = True
 
-    replays = True
-
     def refused(
         self, makefile: str, what: str, run: str, files: dict[str, str] | None = None
     ) -> str:

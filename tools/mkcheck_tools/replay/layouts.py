@@ -8,7 +8,7 @@ import hashlib
 import os
 import stat
 import time
-from collections.abc import Iterator, Mapping
+from collections.abc import Container, Iterator, Mapping
 from dataclasses import dataclass, field
 
 from mkcheck_tools.answers.graphs import Ancestors
@@ -16,7 +16,16 @@ from mkcheck_tools.replay import orders
 from mkcheck_tools.replay.listings import Listings, age_of, as_laid
 from mkcheck_tools.replay.stamps import made_since
 from mkcheck_tools.replay.versions import FILE, LINK, Version, lay
-from mkcheck_tools.replay.worlds import GIVEN, OTHER_BYTES, Trial, World, above, stamp_of, stamps_of
+from mkcheck_tools.replay.worlds import (
+    EMPTY,
+    GIVEN,
+    OTHER_BYTES,
+    Trial,
+    World,
+    above,
+    stamp_of,
+    stamps_of,
+)
 from mkcheck_tools.run.folders import remove
 from mkcheck_tools.run.paths import Name, RealPath, real_in
 
@@ -130,6 +139,45 @@ class Layout:
             if there and self.ancestors.any_before(makers, trial.recipe.target):
                 yield name
 
+    def joins(self, trial: Trial, folders: frozenset[Name]) -> bool:
+        """Whether the bare run and the damaged one can be one, beside these further folders.
+
+        The recording was a run without the outputs. Where all at which the recipe looked in it is
+        laid for the bare run too, or wasn't there, a bare run can't go another way. So outputs with
+        other bytes hide nothing that a bare run alone would show.
+        """
+        there = {*self.folders_of(trial), *folders}
+        for name in list(there):
+            while name := above(name):
+                there.add(name)
+        there.add(Name(""))
+        return (
+            self.world.watching
+            and bool(trial.writes)
+            and all(self.is_plain_output(trial, name, there) for name in trial.writes)
+            and trial.after.keys() == {*trial.before, *trial.writes}
+            and all(trial.after[name] is version for name, version in trial.before.items())
+            and not (trial.made or trial.given or trial.listed or trial.caches)
+            and not any(
+                self.world.was_there(name, trial)
+                for name in trial.looked
+                if name not in trial.before and name not in trial.links and name not in there
+            )
+        )
+
+    def is_plain_output(self, trial: Trial, name: Name, folders: Container[Name]) -> bool:
+        """Whether a file that a recipe wrote holds something, wasn't there before, and lies in one
+        of these folders."""
+        version = trial.after.get(name)
+        return (
+            version is not None
+            and version.kind == FILE
+            and version.content != EMPTY
+            and name not in trial.before
+            and not self.world.was_there(name, trial)
+            and above(name) in folders
+        )
+
     def taken_away(self, trial: Trial) -> frozenset[Name]:
         """The folders that other recipes take away and hadn't made."""
         own = {trial.recipe.target}
@@ -227,10 +275,10 @@ def aged(path: RealPath) -> tuple[int, ...]:
     return stamp_of(path)
 
 
-def damage(path: RealPath) -> None:
-    """Gives an output other bytes and the newest stamp; its mode stays."""
-    mode = stat.S_IMODE(os.lstat(path).st_mode)
-    os.unlink(path)
+def damage(path: RealPath, mode: int) -> None:
+    """Lays an output with other bytes and the newest stamp, in place of what is there."""
+    with contextlib.suppress(FileNotFoundError):
+        os.unlink(path)
     with open(path, "xb") as file:
         file.write(OTHER_BYTES)
     os.chmod(path, mode)

@@ -10,6 +10,8 @@ Three runs, and for some recipes more, each in a folder that appears at the proj
 - *late*: where there are late files. The folder of the bare run, with a short file for each late
   one. Traced, since it tells which of them the recipe uses.
 
+The bare run and the damaged one are one run where that can hide nothing (`Layout.joins`).
+
 Folders that no recipe made are there too, folders that recipes make which always run before, and
 the links over which the recipe went when it was recorded.
 """
@@ -601,10 +603,19 @@ class Bench:
     folders: frozenset[Name]
 
     def tried(self, order: str, amid: Surroundings = AS_RECORDED) -> Outcome:
-        """The runs of the recipe in a folder that is made for them, with this order of stamps."""
-        self.runner.layout.furnish(self.trial, self.place.folder, self.folders)
-        outcome = self.runner.runs(self.trial, self.place, order, amid)
-        remove(self.place.folder)
+        """The runs of the recipe in a folder that is made for them, with this order of stamps.
+
+        Two of the runs are joined where that can hide nothing.
+        """
+        layout, outcome = self.runner.layout, None
+        if layout.joins(self.trial, self.folders):
+            layout.furnish(self.trial, self.place.folder, self.folders)
+            outcome = self.runner.joined(self.trial, self.place, order, amid)
+            remove(self.place.folder)
+        if outcome is None:
+            layout.furnish(self.trial, self.place.folder, self.folders)
+            outcome = self.runner.runs(self.trial, self.place, order, amid)
+            remove(self.place.folder)
         return outcome
 
     def without(self, kind: str, others: Surroundings) -> Outcome:

@@ -5,7 +5,7 @@ from __future__ import annotations
 import os
 import threading
 import time
-from collections.abc import Mapping
+from collections.abc import Mapping, Sequence
 from dataclasses import dataclass, field, replace
 from pathlib import Path
 
@@ -115,16 +115,11 @@ class Runner:
     def runs(self, trial: Trial, place: Place, order: str, amid: Surroundings) -> Outcome:
         """The runs of a recipe in a folder, up to the first that shows something. `order` tells
         which stamps its reads get when its outputs are there, and `amid` what else it finds."""
-        while int(time.time()) <= int(trial.ended):
-            places.pause(0.05)
-        laid = stamps_of(trial, place.folder)
-        outcome = self.one(trial, place, BARE, laid)
+        self.wait(trial)
+        outcome = self.one(trial, place, BARE, stamps_of(trial, place.folder))
         if not outcome.passed:
             return outcome
-        left = frozenset(
-            name for name, entry in entries(place.folder) if entry.is_dir(follow_symlinks=False)
-        )
-        outcome = Outcome(trial, folders=left)
+        outcome = Outcome(trial, folders=folders_in(place))
         outputs = [
             name
             for name in trial.writes
@@ -135,6 +130,46 @@ class Runner:
         laid = self.layout.restore(trial, place.folder)
         if self.layout.reorder(trial, place.folder, order):
             laid = stamps_of(trial, place.folder)
+        found = self.again(trial, place, laid, outputs, amid)
+        if not found.passed:
+            return found
+        damaged = [name for name in outputs if is_file(trial.after[name])]
+        if not damaged:
+            return outcome
+        laid = self.layout.restore(trial, place.folder)
+        found = self.damaged(trial, place, laid, damaged)
+        if found.failed:
+            return replace(outcome, warning=found.failed)
+        return outcome if found.passed else found
+
+    def joined(self, trial: Trial, place: Place, order: str, amid: Surroundings) -> Outcome | None:
+        """The same by two runs, where `Layout.joins` allows that: the bare one and the damaged one
+        are one, which comes first. None where that one shows something: then each has to be run by
+        itself."""
+        self.wait(trial)
+        self.layout.reorder(trial, place.folder, order)
+        laid = stamps_of(trial, place.folder)
+        outputs = list(trial.writes)
+        if not self.damaged(trial, place, laid, outputs).passed:
+            return None
+        outcome = Outcome(trial, folders=folders_in(place))
+        found = self.again(trial, place, laid, outputs, amid)
+        return outcome if found.passed else found
+
+    def wait(self, trial: Trial) -> None:
+        """Waits until the clock shows another second than when the recipe ended."""
+        while int(time.time()) <= int(trial.ended):
+            places.pause(0.05)
+
+    def again(
+        self,
+        trial: Trial,
+        place: Place,
+        laid: Mapping[Name, tuple[int, ...]],
+        outputs: Sequence[Name],
+        amid: Surroundings,
+    ) -> Outcome:
+        """A run where the outputs of one before are there, amid other surroundings."""
         paths = {name: real_in(place.folder, name) for name in outputs}
         old = {name: aged(path) for name, path in paths.items()}
         self.layout.close(trial, place.folder)
@@ -144,34 +179,34 @@ class Runner:
         remove(beside(place.folder))
         self.layout.liken(trial, place.folder)
         kept = [name for name, path in paths.items() if old[name] == stamp_of(path)]
-        if found.passed and kept:
-            found = replace(
-                found,
-                differences=tuple(
-                    Difference(name, f"doesn't write {name} anew", (), True) for name in kept
-                ),
-            )
-        if not found.passed:
+        if not (found.passed and kept):
             return found
-        damaged = [name for name in outputs if is_file(trial.after[name])]
-        if not damaged:
-            return outcome
-        laid = self.layout.restore(trial, place.folder)
-        for name in damaged:
-            damage(paths[name])
-            old[name] = aged(paths[name])
+        differences = (Difference(name, f"doesn't write {name} anew", (), True) for name in kept)
+        return replace(found, differences=tuple(differences))
+
+    def damaged(
+        self,
+        trial: Trial,
+        place: Place,
+        laid: Mapping[Name, tuple[int, ...]],
+        outputs: Sequence[Name],
+    ) -> Outcome:
+        """A run where these outputs, which are files, hold other bytes and have later stamps."""
+        paths = {name: real_in(place.folder, name) for name in outputs}
+        old: dict[Name, tuple[int, ...]] = {}
+        for name, path in paths.items():
+            version = trial.after[name]
+            damage(path, version.mode if version is not None else 0o666)
+            old[name] = aged(path)
         self.layout.close(trial, place.folder)
         found = self.one(trial, place, DAMAGED, laid)
         touched = {
             name
-            for name in damaged
-            if old[name] != stamp_of(paths[name]) and only_touched(trial.after[name], paths[name])
+            for name, path in paths.items()
+            if old[name] != stamp_of(path) and only_touched(trial.after[name], path)
         }
         rest = tuple(one for one in found.differences if one.name not in touched)
-        found = replace(found, differences=rest)
-        if found.failed:
-            return Outcome(trial, warning=found.failed, folders=left)
-        return outcome if found.passed else found
+        return replace(found, differences=rest)
 
     def one(
         self,
@@ -241,6 +276,13 @@ class Runner:
                     [f"status {ended.status}, at {first_line(command.text)}", *shown(output)]
                 )
         return ""
+
+
+def folders_in(place: Place) -> frozenset[Name]:
+    """The folders that are there."""
+    return frozenset(
+        name for name, entry in entries(place.folder) if entry.is_dir(follow_symlinks=False)
+    )
 
 
 def shown(output: str) -> list[str]:
