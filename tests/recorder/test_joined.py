@@ -1,14 +1,18 @@
-"""Runs of a replay that are joined show what each would show by itself."""
+"""Runs of a replay that are joined show what each would show by itself; and recipes that are alike
+aren't all run where writes fail.
+"""
 
 from __future__ import annotations
 
+import json
 import os
 import subprocess
 import sys
 import unittest
+from pathlib import Path
 
 from mkcheck_tools.run import places
-from recorder.project import MKCHECK, ROOT, ProjectTest, traced
+from recorder.project import MKCHECK, ROOT, ProjectTest, compiled, traced
 
 namespaces = unittest.skipUnless(places.namespace(), "no mount namespace is allowed")
 
@@ -122,6 +126,96 @@ class JoinedTest(ProjectTest):
         makefile = "out: a\n\tcat a > out; echo 2 > a\na: s\n\tcp s a\n"
         runs = [run for run in self.runs(makefile, {"s": "1\n"}) if run.startswith("out ")]
         self.assertEqual(runs, ["out bare", "out again", "out damaged"])
+
+
+# Runs the recorder, and tells which recipes are run where writes to their target fail.
+FAILING = r"""
+import sys
+from mkcheck_tools.record import program
+from mkcheck_tools.replay.runs import Runner
+
+leaves_half = Runner.leaves_half
+
+
+def told(own, trial, place):
+    sys.stdout.write(f"{trial.recipe.target}\n")
+    sys.stdout.flush()
+    return leaves_half(own, trial, place)
+
+
+Runner.leaves_half = told
+sys.exit(program.main(sys.argv[1:]))
+"""
+
+
+@traced
+@namespaces
+@compiled
+class AlikeTest(ProjectTest):
+    """Recipes with the same commands but for the names of their files."""
+
+    replays = True
+    SOURCES = {f"{name}.c": f"int {name};\n" * count for name, count in zip("abcd", (3, 1, 9, 5))}
+
+    def tried(self, makefile: str, files: dict[str, str]) -> tuple[set[str], set[str]]:
+        """The targets whose recipes are run where writes fail, and those that are noted for it."""
+        self.write({"makefile": makefile, **files})
+        words = ["-C", str(self.folder), "-o", str(self.book)]
+        done = subprocess.run(
+            [sys.executable, "-c", FAILING, *words],
+            env={**os.environ, "MKCHECK": MKCHECK, "PYTHONPATH": str(ROOT / "tools")},
+            capture_output=True,
+            text=True,
+            check=False,
+        )
+        self.assertEqual(done.returncode, 0, done.stderr)
+        notes = json.loads(Path(f"{self.book}.notes").read_text())["notes"]
+        noted = {note["target"] for note in notes if note["kind"] == "half-written"}
+        return set(done.stdout.split()), noted
+
+    def rules(self, command: str, names: str = "abcd") -> str:
+        """A makefile with a recipe for each of these objects."""
+        rules = (f"{name}.o: {name}.c\n\t{command.replace('%', name)}\n" for name in names)
+        return f"all: {' '.join(f'{name}.o' for name in names)}\n{''.join(rules)}"
+
+    def test_the_smallest_and_the_largest_target_are_tried(self) -> None:
+        sizes = {"b": 1, "a": 30, "d": 300, "c": 3000}
+        files = {
+            f"{name}.c": "".join(f"int {name}{i} = 1;\n" for i in range(count))
+            for name, count in sizes.items()
+        }
+        tried, noted = self.tried(self.rules("cc -c -o %.o %.c"), files)
+        self.assertEqual((tried, noted), ({"b.o", "c.o"}, set()))
+
+    def test_all_are_tried_where_one_of_these_is_left_half_written(self) -> None:
+        command = "cc -c -o %.o %.c || { echo > %.o; false; }"
+        tried, noted = self.tried(self.rules(command), self.SOURCES)
+        self.assertEqual(tried, {"a.o", "b.o", "c.o", "d.o"})
+        self.assertEqual(noted, tried)
+
+    def test_what_starts_the_compiler_may_be_another_script(self) -> None:
+        plain = "cc -c -o $1.o $1.c\n"
+        scripts = {f"{name}.sh": plain for name in "abcd"}
+        scripts["d.sh"] = "cc -c -o $1.o $1.c || { echo > $1.o; exit 1; }\n"
+        makefile = "all: a.o b.o c.o d.o\n" + "".join(
+            f"{name}.o: {name}.c {name}.sh\n\tsh {name}.sh {name}\n" for name in "abcd"
+        )
+        tried, noted = self.tried(makefile, {**self.SOURCES, **scripts})
+        self.assertEqual((tried, noted), ({"a.o", "b.o", "c.o", "d.o"}, {"d.o"}))
+
+    def test_what_another_program_writes_is_tried(self) -> None:
+        tried, noted = self.tried(self.rules("cc -c -o %.o %.c; strip -g %.o"), self.SOURCES)
+        self.assertEqual(tried, {"a.o", "b.o", "c.o", "d.o"})
+        tried, noted = self.tried(self.rules("cat %.c > %.o"), self.SOURCES)
+        self.assertEqual((tried, noted), ({"a.o", "b.o", "c.o", "d.o"},) * 2)
+
+    def test_other_options_are_other_recipes(self) -> None:
+        makefile = self.rules("cc -c -o %.o %.c", "ab") + "".join(
+            f"{name}.o: {name}.c\n\tcc -c -D{name}x -o {name}.o {name}.c\n" for name in "cd"
+        )
+        makefile = makefile.replace("all: a.o b.o", "all: a.o b.o c.o d.o")
+        tried, _ = self.tried(makefile, self.SOURCES)
+        self.assertEqual(tried, {"a.o", "b.o", "c.o", "d.o"})
 
 
 if __name__ == "__main__":

@@ -323,6 +323,10 @@ def effects_of(footprint: Footprint, accesses: Accesses, naming: Naming) -> Effe
         if not is_unwritten(path, naming) and not is_cache(path)
     ]
     steady = named((path for path in accesses.reads if naming.is_steady(path)), naming)
+    assembled: tuple[SeenPath, ...] = ()
+    for path, found in accesses.assembled.items():
+        if naming.name(path) == footprint.recipe.target:
+            assembled = found
     return Effects(
         (*footprint.reads, *steady),
         tuple(footprint.writes),
@@ -340,6 +344,7 @@ def effects_of(footprint: Footprint, accesses: Accesses, naming: Naming) -> Effe
         tuple(sorted(filter(is_own, footprint.dropped))),
         footprint.locked,
         frozenset(filter(is_own, named(filter(is_cache, accesses.reads), naming))),
+        tuple(map(naming.name_or_path, assembled)),
     )
 
 

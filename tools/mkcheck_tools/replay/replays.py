@@ -31,6 +31,7 @@ from mkcheck_tools.answers.graphs import Ancestors
 from mkcheck_tools.faults import FULL, Fault, mistake_of
 from mkcheck_tools.judge.late import Late, Met, folders_of
 from mkcheck_tools.replay import orders
+from mkcheck_tools.replay.alike import groups_of, way_of
 from mkcheck_tools.replay.differences import is_file
 from mkcheck_tools.replay.glances import Glances
 from mkcheck_tools.replay.layouts import Layout
@@ -153,13 +154,14 @@ class Replay:
                 outcomes = self.with_folders(pool, outcomes)
                 beside = jobs > 1 and (len(trials) > 1 or bool(started))
                 outcomes = self.alone(outcomes) if beside else outcomes
+                outcomes = self.with_halves(pool, outcomes)
             except BaseException as end:
                 ended = [one for one in waiting if one.done() and one.exception() is None]
                 self._stopped.set()
                 places.end_all()
                 pool.shutdown(wait=True, cancel_futures=True)
                 passed = [one.result() for one in ended if one.result().passed]
-                return Replayed(passed, end)
+                return Replayed([one for one in passed if one.half is not None], end)
             finally:
                 progress.clear()
         return Replayed(outcomes)
@@ -264,6 +266,42 @@ class Replay:
         finally:
             remove(place.folder)
 
+    def with_halves(self, pool: ThreadPoolExecutor, outcomes: list[Outcome]) -> list[Outcome]:
+        """The outcomes, with what recipes leave where a write fails. Of those that are alike two
+        are tried, and the others where one of these leaves its target half-written."""
+        waiting = [
+            (number, outcome.trial, self.size_of_target(outcome.trial))
+            for number, outcome in enumerate(outcomes)
+            if outcome.half is None
+        ]
+        groups = groups_of(waiting)
+        left = {number: False for number, _, _ in waiting}
+        for numbers in ([group[:2] for group in groups], [group[2:] for group in groups]):
+            tried = {
+                number: pool.submit(self.half_of, outcomes[number], number)
+                for group, wanted in zip(groups, numbers)
+                for number in wanted
+                if wanted == group[:2] or any(left[one] for one in group[:2])
+            }
+            left.update((number, one.result()) for number, one in tried.items())
+        return [
+            replace(outcome, half=left.get(number, outcome.half))
+            for number, outcome in enumerate(outcomes)
+        ]
+
+    def half_of(self, outcome: Outcome, number: int) -> bool:
+        """Whether a recipe that passed leaves its target half-written if a write fails."""
+        trial = outcome.trial
+        with self.turns.turn(trial.recipe.target):
+            tried = with_later_stamps(self.world, trial)
+            return self.leaves_half(tried, self.place_of(number), outcome.given)
+
+    def size_of_target(self, trial: Trial) -> int:
+        """How many bytes a recipe left in its target, a file."""
+        target = Name(trial.recipe.target)
+        version = trial.after.get(target)
+        return self.world.size(target, version) if version is not None else 0
+
     def place_of(self, number: int) -> Place:
         """The folder for a replay, and where the recipe sees it."""
         bound = places.namespace() is not None
@@ -364,8 +402,12 @@ class Replay:
                         self.layout.furnish(tried, folder, folders)
                         met = replace(self.beside(tried, place, late), seen=met.seen)
                         remove(folder)
-                    half = outcome.passed and self.leaves_half(tried, place, folders)
-                    return replace(outcome, trial=trial, met=met, half=half)
+                    outcome = replace(outcome, trial=trial, met=met)
+                    if not outcome.passed or not self.failing:
+                        return outcome
+                    if not seen and way_of(trial) is not None:
+                        return replace(outcome, half=None)
+                    return replace(outcome, half=self.leaves_half(tried, place, folders))
                 failed.append(outcome)
             absent = trial.known - {*self.layout.folders_of(trial), *folders}
             for outcome, seen in zip(failed, sets):

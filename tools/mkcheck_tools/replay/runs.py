@@ -72,8 +72,9 @@ class Outcome:
     met: Met | None = None
     """What it needed besides its reads."""
 
-    half: bool = False
-    """Whether it leaves its target half-written where a write to that fails."""
+    half: bool | None = False
+    """Whether it leaves its target half-written where a write to that fails; None where that isn't
+    known yet."""
 
     glanced: tuple[Name, ...] = ()
     """The files at which it only looked, where a run shows that it depends on one."""

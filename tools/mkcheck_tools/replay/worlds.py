@@ -73,6 +73,10 @@ class Effects:
     caches: frozenset[Name] = frozenset()
     """Files that it read and that decide nothing."""
 
+    assembled: tuple[Name, ...] = ()
+    """Where an assembler alone wrote its target: the assembler, and the files of the project that
+    the processes read by which it was started."""
+
 
 @dataclass(frozen=True)
 class Trial:

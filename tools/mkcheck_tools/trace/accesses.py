@@ -28,6 +28,8 @@ from mkcheck_tools.trace.programs import interpreters_of
 from mkcheck_tools.trace.trees import ROOT, Owner, Tree, moved_to
 
 INTERPRETERS_AT_MOST = 4
+# Programs in which what they read decides nothing of what they do where a write fails.
+ASSEMBLERS = re.compile(r"(?:.+-)?as")
 EXCHANGE = "RENAME_EXCHANGE"
 DELETED = " (deleted)"
 SPACES = ("CLONE_NEWNS", "CLONE_NEWPID")
@@ -143,6 +145,10 @@ class Accesses:
     tried: dict[SeenPath, None] = field(default_factory=dict)
     """Those of them for whose lock it wouldn't have waited, or only for a while."""
 
+    assembled: dict[SeenPath, tuple[SeenPath, ...]] = field(default_factory=dict)
+    """Files that an assembler alone wrote, each with the assembler, and with the files of the
+    project that the processes read by which it was started."""
+
     def wrote(self, path: SeenPath) -> bool:
         """Whether the recipe wrote this file before, or moved a folder there that holds it."""
         if path in self.writes or not self.moved:
@@ -187,6 +193,7 @@ class Accesses:
 
     def change(self, path: SeenPath) -> None:
         """The recipe changes a stamp, a mode or a part of a file, and keeps the rest."""
+        self.assembled.pop(path, None)
         self.read(path)
         self.write(path)
 
@@ -223,6 +230,7 @@ class Accesses:
         self.tree.move(old, new)
         for path in files:
             goal = moved_to(path, old, new)
+            self.assembled.pop(goal, None)
             self.tree.there.add(goal)
             for kept in (self.writes, self.touched, self.made):
                 kept.setdefault(goal)
@@ -234,6 +242,7 @@ class Accesses:
 
     def lose(self, path: SeenPath) -> None:
         """A file leaves its path: it is removed, renamed or replaced."""
+        self.assembled.pop(path, None)
         self.writes.pop(path, None)
         self.moved.pop(path, None)
         self.touched.setdefault(path)
@@ -302,6 +311,18 @@ class Follower:
     held: dict[tuple[str, str], tuple[str, bool]] = field(default_factory=dict)
     """By its kind and number what it got by a key, and whether it asked to make it."""
 
+    parents: dict[int, int] = field(default_factory=dict)
+    """By which process each other one was started."""
+
+    running: dict[int, SeenPath] = field(default_factory=dict)
+    """The program that each process started last."""
+
+    own_reads: dict[int, dict[SeenPath, None]] = field(default_factory=dict)
+    """The files of the project that each process opened to read them, or started."""
+
+    writers: dict[SeenPath, int | None] = field(default_factory=dict)
+    """The process that opened a file to write it; None where others may write to it, too."""
+
     def follow(self, calls: Iterable[Call]) -> None:
         """Takes the calls, in their order."""
         for call in calls:
@@ -320,11 +341,37 @@ class Follower:
             taken = getattr(self, f"on_{SAME.get(call.name, call.name)}", None)
             if taken is not None:
                 taken(call)
+        self.note_assembled()
         for process, maker in self.makers.items():
             read = self.makefiles.get(process, ())
             works = bool(read) or process in self.starters
             if works and not is_part(read, self.accesses.touched, self.accesses.tree.root):
                 self.accesses.makes.setdefault(maker)
+
+    def note_assembled(self) -> None:
+        """Notes the files that an assembler alone wrote."""
+        for path, process in self.writers.items():
+            program = self.running.get(process, ROOT) if process is not None else ROOT
+            is_one = ASSEMBLERS.fullmatch(os.path.basename(program)) is not None
+            if is_one and path in self.accesses.writes and not self.accesses.tree.has(program):
+                above = self.parents.get(process or 0)
+                found: dict[SeenPath, None] = {}
+                while above is not None:
+                    found.update(self.own_reads.get(above, {}))
+                    above = self.parents.get(above)
+                self.accesses.assembled[path] = (program, *found)
+
+    def opened_to_write(self, path: SeenPath, process: int) -> None:
+        """A process opens a file to write it."""
+        is_first = path not in self.accesses.touched
+        is_own = self.writers.get(path) == process
+        self.writers[path] = process if is_first or is_own else None
+        self.accesses.assembled.pop(path, None)
+
+    def hand_on(self, process: int) -> None:
+        """A process starts another one or a program, which may write to what it has open."""
+        for path in [path for path, one in self.writers.items() if one == process]:
+            self.writers[path] = None
 
     def looked_at(self, call: Call) -> None:
         """A call that only looks at a name, or fails since nothing is there.
@@ -381,6 +428,10 @@ class Follower:
         """A new process begins in its parent's folder; a thread shares that of its process."""
         if call.process in self.makers:
             self.starters.add(call.process)
+        self.parents[call.number] = call.process
+        self.hand_on(call.process)
+        if call.process in self.running:
+            self.running.setdefault(call.number, self.running[call.process])
         own = self.standing(call)
         shared = any("CLONE_FS" in argument for argument in call.arguments)
         self.standings[call.number] = own if shared else Standing(own.path)
@@ -465,19 +516,22 @@ class Follower:
         if "O_PATH" in flags or "O_DIRECTORY" in flags or "O_TMPFILE" in flags:
             self.accesses.look(name)
             return
+        written = "O_WRONLY" in flags or "O_RDWR" in flags
         if self.accesses.tree.has(real):
             self.at_work.add(call.process)
+            if not written:
+                self.own_reads.setdefault(call.process, {}).setdefault(real)
         if "O_EXCL" in flags and "O_CREAT" in flags:
             self.accesses.fresh.setdefault(real)
         new = self.accesses.is_new(real, flags)
         if real.startswith(SHARED_MEMORY) and not new and not self.accesses.wrote(real):
             self.accesses.channels.setdefault(f"{MEMORY} {real}")
-        written = "O_WRONLY" in flags or "O_RDWR" in flags
         if call.process in self.makers and not written and not is_system(real):
             self.makefiles.setdefault(call.process, []).append(real)
         if not new and not (written and "O_TRUNC" in flags):
             self.accesses.read(real)
         if written or new:
+            self.opened_to_write(real, call.process)
             self.accesses.write(real)
 
     def on_getdents(self, call: Call) -> None:
@@ -514,6 +568,10 @@ class Follower:
     def started(self, call: Call, name: SeenPath) -> None:
         """A program is read, and the interpreters and loaders that programs name."""
         real = self.accesses.reach(name)
+        self.running[call.process] = real
+        self.hand_on(call.process)
+        if self.accesses.tree.has(real):
+            self.own_reads.setdefault(call.process, {}).setdefault(real)
         if is_make(name) or is_make(real):
             self.makers[call.process] = (os.path.basename(name), self.standing(call).path)
             self.at_work.discard(call.process)
