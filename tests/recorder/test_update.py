@@ -612,6 +612,19 @@ class StampsTest(UpdateTest):
     def test_a_name_that_comes_while_recipes_run(self) -> None:
         self.assertEqual(self.changed_meanwhile("ls > l; cp s a", {"new": ""}), 1)
 
+    def test_a_prerequisite_outside_of_the_folder(self) -> None:
+        """No recipe looks at it, and by this name it lies under no fixed prefix."""
+        other = self.scratch / "fixed" / "x"
+        other.parent.mkdir()
+        other.touch()
+        self.write({"makefile": "a: s ../fixed/x\n\tcp s a\n"})
+        self.assertEqual(self.update().status, 0)
+        self.assertIsNotNone(self.looked_only())
+        other.unlink()
+        outcome = self.update()
+        self.assertEqual(outcome.status, 2)
+        self.assertIn("no rule makes", outcome.errors)
+
     def test_other_names(self) -> None:
         (self.folder / "d" / "new").touch()
         self.assertIsNone(self.looked_only())

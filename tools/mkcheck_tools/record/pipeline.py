@@ -71,6 +71,7 @@ def record_folder(request: Request, scratch: RealPath) -> int:
     tracing.strace()
     before = Beginning.of(request)
     build = build_of(request, scratch, notes.add)
+    before = None if before is None else before.with_outside(request, build.graph.names)
     shop = workshop(request, build, scratch, notes.add)
     with early_replays_of(shop, build) as early:
         status = recorded_and_written(shop, build, early, notes, before)

@@ -8,7 +8,7 @@ import os
 import re
 import secrets
 from collections.abc import Iterable, Iterator
-from dataclasses import dataclass
+from dataclasses import dataclass, replace
 
 from mkcheck_tools.book.paths import path_of_notes, path_of_stamps, path_of_state, path_of_store
 from mkcheck_tools.book.premises import OF_SESSION, Premises, names_in, variables_now
@@ -67,6 +67,14 @@ class Beginning:
             return cls(looks, lists, texts, None if git is None else found_at(folder, git))
         except Fault:
             return None
+
+    def with_outside(self, request: Request, names: Iterable[str]) -> Beginning:
+        """The same, with what is in the folders elsewhere in which some of these names of a graph
+        lie: which of them are there decides of the rules."""
+        folders = {os.path.dirname(name) for name in names if not is_own(name)}
+        hidden = request.hidden_paths
+        found = {one: names_in(os.path.join(request.folder, one), hidden) for one in folders}
+        return replace(self, lists={**self.lists, **found})
 
 
 def found_at(folder: RealPath, names: Iterable[str]) -> dict[str, Version | None]:
