@@ -11,11 +11,11 @@ use Rattle.mk_subject.specs.Subject.{Subject}
 use Rattle.mk_find.specs.declared.finding.Finding.{Finding}
 use Rattle.mk_cert_text.proofs.WrittenTexts.{names_have_no_float}
 use Rattle.mk_read.specs.Reading.{Makefile}
-use Rattle.mk_sentences.specs.Claims.{claim_of}
-use Rattle.mk_sentences.specs.Grouping.{Group}
+use Rattle.mk_sentences.specs.Claims.{Claim, claim_of}
+use Rattle.mk_sentences.specs.Grouping.{Group, groups}
 use Rattle.mk_sentences.specs.Places.{rule_shown}
 use Rattle.mk_sentences.specs.Text.{shown_name}
-use Rattle.mk_core_json.specs.GroupValue.{added_value, files_of, group_value, targets_of, to_do_value}
+use Rattle.mk_core_json.specs.GroupValue.{files_of, group_value, targets_of}
 use Rattle.mk_core_json.specs.NoValue.{finding_values, groups_values, later_claims, no_value}
 use Rattle.mk_core_json.proofs.AnswerTexts.{place_has_no_float}
 
@@ -47,6 +47,12 @@ group_has_no_float m g =
     (names_have_no_float (files_of g.topic.kind g.who g.what))
     (place_has_no_float (option_map (λ rule. rule.place) (rule_shown m (shown_name g.topic g.who))))
     (names_have_no_float (targets_of g.topic.kind g.topic.first g.topic.second g.who))
+
+-- groups of claims, by what they are views of
+pub grouped_is : (m k : Makefile) (claims views : List Claim) (out all : List ℕ) → k ≡ m → views ≡ claims → all ≡ out ++ items_text false (items_of (map (group_value k) (groups views))) → all ≡ out ++ items_text false (items_of (groups_values m claims))
+grouped_is m k claims views out all same_makefile same_claims e =
+    e ∙ (ap (λ (j : Makefile). out ++ items_text false (items_of (map (group_value j) (groups views)))) same_makefile
+    ∙ ap (λ (l : List Claim). out ++ items_text false (items_of (groups_values m l))) same_claims)
 
 -- the whole text
 no_parts : (x : Subject) (found hidden : List Finding) → compact_text (no_value x found hidden)

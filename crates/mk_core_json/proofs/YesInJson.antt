@@ -9,7 +9,7 @@ use Rattle.mk_core_text.specs.declared.fault.Fault.{Fault}
 use Rattle.mk_core_text.specs.declared.verdict.Verdict.{Verdict}
 use Rattle.mk_core_text.specs.declared.verdict.Verdict.TheVariants as verdicts
 use Rattle.mk_core.specs.Answer.{Answers, Draws}
-use Rattle.mk_core.specs.CheckAnswer.{AnswersCheck, GivesVerdict, IsVerdict, IsYes}
+use Rattle.mk_core.specs.CheckAnswer.{AnswersCheck, GivesVerdict, IsYes}
 use Rattle.mk_core.specs.Laws.{YesIsRight}
 use Rattle.mk_core.specs.Ready.{Ready, ready_for}
 use Rattle.mk_core.specs.Right.{IsRightFor}

@@ -8,3 +8,4 @@ pub mod Cuts
 pub mod Amended
 pub mod Sufficing
 pub mod NeedRows
+mod Joined
