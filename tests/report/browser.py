@@ -49,6 +49,11 @@ window.addEventListener("load", function () {
       if (element.scrollWidth > element.clientWidth + 1 && element.clientWidth)
         wrong.push("is cut off: " + element.tagName + " " + element.textContent.slice(0, 40));
     });
+  var scrolled = [];
+  document.querySelectorAll("pre, .scroll").forEach(function (element) {
+    if (element.clientHeight && element.scrollHeight > element.clientHeight + 1)
+      scrolled.push(element.tagName + " " + element.textContent.slice(0, 40));
+  });
   var shown = function (selector) {
     return Array.prototype.filter.call(document.querySelectorAll(selector), function (element) {
       return element.getClientRects().length > 0;
@@ -60,7 +65,7 @@ window.addEventListener("load", function () {
     wide: document.documentElement.scrollWidth,
     behind: getComputedStyle(document.body).backgroundColor,
     graphs: shown("svg.graph"), lists: shown(".list"), inputs: shown("input"),
-    wrong: wrong
+    buttons: shown("button"), scrolled: scrolled, wrong: wrong
   }));
 });
 </script>

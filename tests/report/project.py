@@ -68,6 +68,10 @@ class Checked(HTMLParser):
     def handle_starttag(self, tag: str, attrs: list[tuple[str, str | None]]) -> None:
         """An element begins."""
         self.tags.append(tag)
+        known = dict(attrs)
+        is_named = known.get("role") == "img" and known.get("aria-label")
+        if tag == "svg" and not is_named and known.get("aria-hidden") != "true":
+            self.wrong.append("an <svg> has no role and name")
         for name, value in attrs:
             if name in ("src", "href", "xlink:href", "action", "data"):
                 self.links.append(value or "")

@@ -68,6 +68,18 @@ class BrowserTest(ReportTest):
                 self.assertGreater(found[1280]["graphs"], 0)
                 self.assertEqual(found[1280]["lists"], 0)
 
+    def test_print(self) -> None:
+        """By the rules for print, taken for the screen, all is unfolded, nothing is cut off, and
+        no field or button is left."""
+        self.build(MAKEFILE, records(), SOURCES)
+        self.page(1)
+        page = self.folder / "report.html"
+        text = page.read_text(encoding="utf-8").replace("@media print", "@media all")
+        page.write_text(text.replace("<details>", "<details open>"), encoding="utf-8")
+        found = browser.measured(page, (1280,), False)[1280]
+        self.assertEqual((found["wrong"], found["inputs"], found["buttons"]), ([], 0, 0))
+        self.assertEqual(found["scrolled"], [])
+
     def test_yes(self) -> None:
         """A yes: the script puts a field above the ways."""
         self.build("b: a\n\tcp a b\n", [("b", ["cp a b"], ["a"], ["b"])], ["a"])

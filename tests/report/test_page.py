@@ -6,7 +6,8 @@ import re
 import shutil
 import unittest
 
-from report.project import HIDING, RACE, ROOT, ReportTest
+from mkcheck_tools.report.style import STYLE
+from report.project import HIDING, RACE, RACE_BOOK, RACE_SOURCES, ROOT, ReportTest
 
 drawn = unittest.skipUnless(shutil.which("dot"), "no Graphviz (dot)")
 
@@ -19,12 +20,15 @@ class RaceTest(ReportTest):
         self.race()
 
     def test_says_no_and_where(self) -> None:
-        """Both findings stand at line 5, whose rule gets the missing word."""
+        """Both findings stand at line 5 in one panel, whose rule gets the missing word."""
         page = self.page(1)
         self.assertIn("2 findings in 2 groups", page.text)
-        self.assertEqual(page.text.count("makefile:5"), 2)
-        self.assertEqual(page.inserted, ["version.h", "version.h"])
-        self.assertIn("main.o: version.h", page.text)
+        self.assertEqual(page.text.count("makefile:5"), 1)
+        self.assertEqual(page.inserted, ["version.h"])
+        self.assertEqual(self.raw.count('class="panel"'), 1)
+        self.assertIn("but doesn't wait for it", page.text)
+        self.assertIn("but doesn't depend on it", page.text)
+        self.assertIn("stand with that race, above", page.text)
         self.assertLess(self.raw.index('<h2 id="race">'), self.raw.index('<h2 id="stale">'))
 
     def test_shows_bare_findings(self) -> None:
@@ -45,10 +49,12 @@ class RaceTest(ReportTest):
         self.assertEqual(self.raw.count('class="time" role="img"'), 2)
 
     def test_repair(self) -> None:
-        """One line mends both."""
+        """One line mends both: it stands on top."""
         text = self.page(1).text
-        self.assertIn("All lines at once", text)
-        self.assertIn("main.o: version.h", text[text.index("All lines at once") :])
+        top = text[: text.index("race: ")]
+        self.assertIn("What to do", top)
+        self.assertIn("with them the answer is yes", top)
+        self.assertIn("\nmain.o: version.h\n", top)
 
     def test_list_in_place_of_graph(self) -> None:
         """Without Graphviz there is a list."""
@@ -60,12 +66,17 @@ class RaceTest(ReportTest):
 
     @drawn
     def test_graph(self) -> None:
-        """With Graphviz there are three: around each finding, and the whole."""
+        """With Graphviz there are two: around what is missing, and the whole. What the lines of
+        the whole mean stands below it."""
         page = self.page(1)
-        self.assertEqual(self.raw.count('class="graph" '), 3, "graphs")
+        self.assertEqual(self.raw.count('class="graph" role="img"'), 2, "graphs")
         self.assertIn("The whole graph", page.text)
         self.assertIn("5 names", page.text)
-        self.assertEqual(self.raw.count('class="edge missing"'), 3)
+        self.assertEqual(self.raw.count('class="edge missing"'), 2)
+        self.assertIn('aria-label="A graph of 5 names: main.o lacks version.h"', self.raw)
+        self.assertIn("What main.o lacks is dashed and red.", page.text)
+        below = page.text[page.text.index("The whole graph") :]
+        self.assertIn("a prerequisite\na finding: read, and missing\n", below)
 
     def test_explains(self) -> None:
         """What `explain` prints stands folded in the page."""
@@ -115,8 +126,26 @@ class YesTest(ReportTest):
     def test_graph(self) -> None:
         """The whole graph, without missing edges."""
         self.page(0)
-        self.assertEqual(self.raw.count('class="graph" '), 1)
+        self.assertEqual(self.raw.count('class="graph" role="img"'), 1)
         self.assertNotIn('class="edge missing"', self.raw)
+        self.assertNotIn('class="edge unlisted"', self.raw)
+
+    @drawn
+    def test_graph_with_an_unlisted_read(self) -> None:
+        """prog reads version.h, which is no prerequisite of its own: a change reaches it over
+        main.o. That is no finding, so it isn't shown as one, also where there is no Graphviz."""
+        reads = ["/usr/bin/cc", "main.o", "version.h"]
+        records = [*RACE_BOOK[:2], ("prog", ["cc -o prog main.o"], reads, ["prog"])]
+        makefile = (self.folder / "makefile").read_text().replace("prog: version.h", "prog:")
+        self.build(makefile, records, RACE_SOURCES)
+        page = self.page(0)
+        self.assertEqual(self.raw.count('class="edge unlisted"'), 1)
+        self.assertNotIn('class="edge missing"', self.raw)
+        self.assertIn("a change reaches it another way", page.text)
+        self.assertNotIn("a finding", page.text)
+        bare = self.page(0, PATH=str(self.folder))
+        self.assertIn("version.h\n (not listed)", bare.text)
+        self.assertNotIn('class="missing"', self.raw)
 
 
 class RefusalTest(ReportTest):
@@ -234,9 +263,10 @@ class KindsTest(ReportTest):
         self.assertNotIn("version.h", first)
         for said in ("What \nrace\n means", "What \nstale\n means", "but doesn't wait for it"):
             self.assertIn(said, behind)
-        self.assertEqual(behind.count("makefile:5:\n main.o reads version.h"), 2)
-        self.assertEqual(behind.count("main.o: version.h"), 2)
-        self.assertEqual(page.inserted, ["version.h", "version.h"])
+        self.assertEqual(behind.count("makefile:5:\n main.o reads version.h"), 1)
+        self.assertIn("but doesn't depend on it", behind)
+        self.assertEqual(behind.count("main.o: version.h"), 1)
+        self.assertEqual(page.inserted, ["version.h"])
         self.assertNotIn("A schedule that shows", page.text)
         self.assertNotIn("Once these are mended, check again", page.text)
 
@@ -293,7 +323,7 @@ class KindsTest(ReportTest):
 
     def test_file_that_is_no_target(self) -> None:
         """Both files come of the recipe of p.c, and p.h is no target: the line to add names p.c.
-        The reads of p.c and of p.h are groups of their own, each as a race and as a stale read."""
+        The reads of p.c and of p.h are panels of their own, each of a race and of a stale read."""
         makefile = "all: p.c m.o\n.PHONY: all\np.c: p.y\n\tbison p.y\nm.o: m.c\n\tcc -c m.c\n"
         records = [
             ("p.c", ["bison p.y"], ["p.y"], ["p.c", "p.h"]),
@@ -302,10 +332,10 @@ class KindsTest(ReportTest):
         self.build(makefile, records, ["p.y", "m.c"])
         text = self.page(1).text
         self.assertIn("4 findings in 4 groups", text)
-        for number, line in enumerate(
-            ("race m.o p.c p.c", "race m.o p.c p.h", "stale m.o p.c", "stale m.o p.h"), 1
-        ):
-            self.assertIn(f"1 finding, as mkcheck check prints it\n{number}: no {line}\n", text)
+        self.assertIn("2 problems, the worst first", text)
+        for race, stale, file in ((1, 3, "p.c"), (2, 4, "p.h")):
+            lines = f"{race}: no race m.o p.c {file}\n{stale}: no stale m.o {file}\n"
+            self.assertIn(f"2 findings, as mkcheck check prints them\n{lines}", text)
         self.assertNotIn("m.o: p.h", text)
 
 
@@ -331,6 +361,84 @@ class MakersTest(ReportTest):
         self.assertIn("Give v a rule of its own, or take it out of the prerequisites", page.text)
         self.assertEqual(page.inserted, [])
         self.assertNotIn("The missing prerequisite", page.text)
+
+
+class OverviewTest(ReportTest):
+    """The top of a page of a no."""
+
+    MAKEFILE = "all: a.o b.o\n.PHONY: all\na.o: a.c\n\tcc -c a.c\nb.o: b.c\n\tcc -c b.c\n"
+
+    def top(self) -> str:
+        """What stands above the first kind of findings."""
+        text = self.page(1).text
+        return text[text.index("What to do") : text.index("means", text.index("What to do"))]
+
+    def test_lines_of_some(self) -> None:
+        """Of a stale read there is a line, of a header of unknown origin there is advice: nothing
+        mends both. Each has a link to its panel."""
+        records = [
+            ("a.o", ["cc -c a.c"], ["a.c", "h.h"], ["a.o"]),
+            ("b.o", ["cc -c b.c"], ["b.c"], ["b.o", "v.h"]),
+            ("v.h", ["mk"], [], ["v.h"]),
+        ]
+        makefile = self.MAKEFILE + "v.h:\n\tmk\n"
+        records[0][2].append("v.h")
+        records[1][2].append("w.h")
+        records[1][3].remove("v.h")
+        self.build(makefile, records, ["a.c", "b.c", "h.h"])
+        top = self.top()
+        self.assertIn("They are for 1 problem below; check again then.", top)
+        self.assertIn("\na.o: v.h\n", top)
+        self.assertIn("For these no line helps:", top)
+        self.assertIn("Take it into the project and record again", top)
+        self.assertIn("2 problems, the worst first", top)
+        for link in ("group-1", "group-2"):
+            self.assertIn(f'href="#{link}"', self.raw)
+            self.assertEqual(self.raw.count(f'id="{link}"'), 1)
+
+    def test_no_lines(self) -> None:
+        """Recipes without a record, which no line mends."""
+        self.build(self.MAKEFILE, [], ["a.c", "b.c"])
+        top = self.top()
+        self.assertIn("No line that could be added helps:", top)
+        self.assertIn("Record again, with the goals and macros that are checked.", top)
+        self.assertNotIn('class="add', self.raw)
+
+    def test_buttons_are_made_by_the_script_alone(self) -> None:
+        self.race()
+        self.assertNotIn("button", self.page(1).tags)
+
+
+class StyleTest(unittest.TestCase):
+    """Colours."""
+
+    def test_borders_can_be_seen(self) -> None:
+        """Borders of panels, fields and buttons have a contrast of at least 3 with what is beside
+        them, light, dark and printed."""
+        palettes = re.findall(r":root \{(.*?)\}", STYLE, re.DOTALL)
+        self.assertEqual(len(palettes), 3)
+        for palette in palettes:
+            colours = dict(re.findall(r"--(\w+): (#[0-9a-f]+)", palette))
+            for behind in ("bg", "panel"):
+                self.assertGreaterEqual(contrast(colours["edge"], colours[behind]), 3, palette)
+                for word in ("fg", "soft", "red", "green", "blue"):
+                    self.assertGreaterEqual(contrast(colours[word], colours[behind]), 4.5, word)
+
+
+def contrast(one: str, other: str) -> float:
+    """The contrast of two colours, as WCAG 2.1 defines it."""
+    light, dark = sorted((luminance(one), luminance(other)), reverse=True)
+    return (light + 0.05) / (dark + 0.05)
+
+
+def luminance(colour: str) -> float:
+    """The relative luminance of a colour `#rgb` or `#rrggbb`."""
+    digits = colour[1:] if len(colour) == 7 else "".join(digit * 2 for digit in colour[1:])
+    parts = [int(digits[at : at + 2], 16) / 255 for at in (0, 2, 4)]
+    red, green, blue = (
+        part / 12.92 if part <= 0.03928 else ((part + 0.055) / 1.055) ** 2.4 for part in parts
+    )
+    return 0.2126 * red + 0.7152 * green + 0.0722 * blue
 
 
 class LargeTest(ReportTest):

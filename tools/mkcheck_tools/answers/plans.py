@@ -40,7 +40,10 @@ def phases_of(lines: list[str], reader: str, file: str) -> list[Phase]:
     """The phases of a plan as `check -e` writes it: one job, and no `run` or `finish`. Of the steps
     those are kept that look at a file or write it, and what a reader writes."""
     phases: list[Phase] = []
-    for line in lines:
+    # A plan has a line for each read of each recipe, of which these are few.
+    fronts = ("make", "edit ", "begin ", "pass ", f"put {reader} ")
+    of_file = f" {file}"
+    for line in [one for one in lines if one.startswith(fronts) or of_file in one]:
         word, _, rest = line.partition(" ")
         make = phases[-1] if phases else None
         if word == "make":

@@ -35,8 +35,8 @@ UNREACHED_BOTH = (
 )
 # A target without a recipe that the recipe needs which writes it.
 CIRCULAR = (
-    "{r} has no recipe, and the one of {w} ({p}) writes it, though it is a prerequisite of {w}; give"
-    " {r} a recipe of its own, or take it out of these prerequisites"
+    "{r} has no recipe, and the one of {w} ({p}) writes it, though it is a prerequisite of {w};"
+    " give {r} a recipe of its own, or take it out of these prerequisites"
 )
 TAKEN_AWAY = (
     "the recipe of {r} reads {f}, which another recipe makes, and takes it away, so the next run"

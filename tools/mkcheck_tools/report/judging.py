@@ -25,7 +25,6 @@ class Judged:
     checked: Answer
     graph: Graph = field(default_factory=Graph)
     book: Reached = field(default_factory=lambda: Reached((), frozenset(), {}, {}))
-    repair: str = ""
     noted: Noted = field(default_factory=Noted)
     """What the recorder knew beside the footprints."""
 
@@ -96,8 +95,6 @@ def judge(checker: Checker) -> Judged:
     judged.noted = read_notes(checker.book)
     if answer.refusal is None:
         judged.graph, judged.book = graph_and_book(checker)
-    if answer.findings:
-        judged.repair = repair_of(checker)
     return judged
 
 

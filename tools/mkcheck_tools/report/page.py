@@ -13,7 +13,7 @@ from mkcheck_tools.report.judging import Judged
 from mkcheck_tools.report.makefiles import Makefiles
 from mkcheck_tools.report.panels import findings
 from mkcheck_tools.report.parts import Budget, look_of, place_of
-from mkcheck_tools.report.pictures import EDGES_AT_MOST, WHOLE_AT_MOST, as_list, drawn, whole
+from mkcheck_tools.report.pictures import EDGES_AT_MOST, WHOLE_AT_MOST, as_list, drawn, key, whole
 from mkcheck_tools.report.style import SCRIPT, STYLE
 
 # As the README has it; a test compares.
@@ -36,10 +36,8 @@ ENDS = (
     "Ends: `source`, the file is edited, and is a prerequisite of the last recipe; `written`, the"
     " last recipe writes it; `always`, the last recipe runs in each make.",
 )
-RED = (
-    " Red: a recipe reads a file that isn't among its own prerequisites; a change of it may reach"
-    " the recipe another way."
-)
+# Findings of a read whose file is no prerequisite.
+LACKING = ("race", "stale", "unknown")
 # How much is shown, so that a page stays small.
 LIST_AT_MOST = 120
 WAYS_AT_MOST = 10_000
@@ -185,17 +183,18 @@ def whole_graph(judged: Judged) -> str:
     number = len(judged.graph.nodes)
     if not 1 < number <= WHOLE_AT_MOST:
         return ""
-    drawing = whole(judged.graph, judged.book, short=True)
-    said = RED if drawing.missing else ""
-    if len(drawing.edges) + len(drawing.missing) > EDGES_AT_MOST:
-        said = f" Left out: {counted(len(drawing.missing), 'read')} of files that aren't listed."
-        drawing = drawing.without_missing()
+    found = {(one.reader, one.file) for one in judged.findings if one.kind in LACKING}
+    drawing, said = whole(judged.graph, judged.book, short=True, found=found), ""
+    if drawing.size > EDGES_AT_MOST:
+        left_out = len(drawing.missing) + len(drawing.unlisted)
+        said = f" Left out: {counted(left_out, 'read')} of files that aren't listed."
+        drawing = drawing.of_prerequisites()
     if len(drawing.edges) > EDGES_AT_MOST:
         said = f"It has {counted(len(drawing.edges), 'edge')}; `mkcheck-report --dot` prints them."
         return f"<h2>The whole graph</h2>\n<p>{prose(said)}</p>\n"
-    svg, items = drawn([drawing])[0], len(drawing.edges) + len(drawing.missing)
-    inner = f'<div class="scroll">{svg}</div>' if svg else ""
-    is_open = "" if svg and items > LIST_AT_MOST else " open"
+    svg = drawn([drawing])[0]
+    inner = f'<div class="scroll">{svg}</div>{key(drawing)}' if svg else ""
+    is_open = "" if svg and drawing.size > LIST_AT_MOST else " open"
     return (
         f"<h2>The whole graph</h2>\n<p>{counted(number, 'name')}; each target leads to what it"
         f' needs.{said}</p>\n<div class="{look_of(svg)}">{inner}<details class="list"{is_open}>'

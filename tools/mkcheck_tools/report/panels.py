@@ -13,28 +13,35 @@ from mkcheck_tools.answers.findings import Finding, Group
 from mkcheck_tools.answers.plans import phases_of
 from mkcheck_tools.report import timelines
 from mkcheck_tools.report.escaping import as_sentence, clipped, counted, markup, prose, shortened
-from mkcheck_tools.report.judging import Judged
+from mkcheck_tools.report.judging import Judged, repair_of
 from mkcheck_tools.report.makefiles import Makefiles
-from mkcheck_tools.report.parts import Budget, look_of, place_of
+from mkcheck_tools.report.overview import what_to_do
+from mkcheck_tools.report.pairs import Shared, shared
+from mkcheck_tools.report.parts import Budget, clipped_lines, look_of, place_of
 from mkcheck_tools.report.pictures import Drawing, around, as_list, drawn
 
 # How much is shown in full, so that a page stays small.
 DETAILED_AT_MOST = 60
-PLANS_AT_MOST = 60
 DETAILED_BYTES = 2_000_000
 BARE_BYTES = 800_000
 BRIEF_BYTES = 800_000
-LINES_BYTES = 40_000
 COLUMNS = 4_000
+# For how many findings a schedule is asked for, and how many reads mkcheck goes through for that.
+PLANS_AT_MOST, PLANS_AT_LEAST = 60, 6
+READS_AT_MOST = 1_500_000
 # Kinds that have a schedule.
 PICTURED = ("race", "stale")
-KEY = (
-    '<p class="key"><span><svg class="time" width="12" height="12"><circle class="look" cx="6"'
-    ' cy="6" r="4"/></svg>reads</span><span><svg class="time" width="12" height="12"><rect'
-    ' class="put" x="2" y="2" width="8" height="8"/></svg>writes</span><span><svg class="time"'
-    ' width="12" height="12"><path class="wrong" d="M2 2l8 8m0 -8l-8 8"/></svg>goes'
-    ' wrong</span><span><svg class="time" width="24" height="12"><rect class="bar open" x="1"'
-    ' y="1" width="22" height="10"/></svg>not done, or not run</span></p>\n'
+# The marks of schedules: a width, a picture, and what it means.
+MARKS = (
+    (12, '<circle class="look" cx="6" cy="6" r="4"/>', "reads"),
+    (12, '<rect class="put" x="2" y="2" width="8" height="8"/>', "writes"),
+    (12, '<path class="wrong" d="M2 2l8 8m0 -8l-8 8"/>', "goes wrong"),
+    (24, '<rect class="bar open" x="1" y="1" width="22" height="10"/>', "not done, or not run"),
+)
+KEY = "".join(
+    f'<span><svg class="time" width="{width}" height="12" aria-hidden="true">{mark}</svg>'
+    f"{text}</span>"
+    for width, mark, text in MARKS
 )
 HIDDEN = (
     '<h2 id="then">Once these are mended, as far as can be seen now</h2>\n'
@@ -42,20 +49,22 @@ HIDDEN = (
     " once the findings above are mended. These can be seen already. They are advice: mending the"
     " findings may change them.</p>\n"
 )
+WITH_RACES = "Stale reads of files of a race stand with that race, above."
 CHECK_AGAIN = "Once these are mended, check again: races and stale reads may show."
 
 
 @dataclass
 class Shown:
-    """The kinds of findings, explained; the groups that are shown in full, by their identities, and
-    what is drawn for them: schedules by the numbers of findings, graphs by the groups; and how much
-    the page may still take."""
+    """The kinds of findings, explained; what is shown in full, by its anchors, and what is drawn
+    for it: schedules by the numbers of findings, graphs by anchors; what `repair` prints; and how
+    much the page may still take."""
 
     explained: dict[str, tuple[str, str]]
     timelines: dict[int, str]
-    full: frozenset[int]
-    pictures: dict[int, str] = field(default_factory=dict)
-    drawings: dict[int, Drawing] = field(default_factory=dict)
+    full: frozenset[str]
+    repair: str = ""
+    pictures: dict[str, str] = field(default_factory=dict)
+    drawings: dict[str, Drawing] = field(default_factory=dict)
     makefiles: Makefiles = field(default_factory=lambda: Makefiles({}))
     bare: Budget = field(default_factory=lambda: Budget(BARE_BYTES))
     detailed: Budget = field(default_factory=lambda: Budget(DETAILED_BYTES))
@@ -63,10 +72,14 @@ class Shown:
 
 
 def findings(judged: Judged) -> str:
-    """All findings, by kind, worst first, and the races and stale reads that they hide."""
-    order = [group for kind in judged.kinds for group in judged.of_kind(kind)]
-    shown = prepare(judged, [*order, *judged.hidden][:DETAILED_AT_MOST])
-    parts = [overview(judged, shown)] if len(judged.kinds) > 1 else []
+    """What to do, then all findings, by kind, worst first, and the races and stale reads that they
+    hide."""
+    all_shared = shared(judged.groups, "group")
+    order = [one for kind in judged.kinds for one in all_shared if one.kind == kind]
+    behind = shared(judged.hidden, "later")
+    shown = prepare(judged, [*order, *behind][:DETAILED_AT_MOST])
+    parts = [what_to_do(judged, shown.repair, order)]
+    parts += [overview(judged, shown)] if len(judged.kinds) > 1 else []
     if judged.hidden:
         number = counted(len(judged.hidden), "group")
         parts.append(
@@ -74,33 +87,36 @@ def findings(judged: Judged) -> str:
             " can be seen already.</p>\n"
         )
     for kind in judged.kinds:
+        own = [one for one in order if one.kind == kind]
         parts.append(kind_head(kind, *shown.explained[kind]))
-        parts += panels(judged, judged.of_kind(kind), shown)
+        parts.append(f'<p class="key">{KEY}</p>\n' if own and kind in PICTURED else "")
+        parts += panels(judged, own, shown)
+        if len(own) < len(judged.of_kind(kind)):
+            parts.append(f"<p>{WITH_RACES}</p>\n")
     if judged.checked.ungrouped:
         lines = bare_lines(judged.checked.ungrouped, shown.bare, is_open=True)
         parts.append(f"<h2>Findings in no group</h2>\n{lines}")
     if judged.checked.hides and not judged.hidden:
         parts.append(f'<p class="note">{CHECK_AGAIN}</p>\n')
-    parts += [hidden(judged, shown), repairs(judged)]
-    return "".join(parts)
+    return "".join([*parts, hidden(judged, behind, shown)])
 
 
-def hidden(judged: Judged, shown: Shown) -> str:
+def hidden(judged: Judged, behind: Sequence[Shared], shown: Shown) -> str:
     """The races and stale reads that the findings hide, as advice."""
-    if not judged.hidden:
+    if not behind:
         return ""
     kinds = dict.fromkeys(group.kind for group in judged.hidden)
     meanings = [meaning(kind, shown.explained[kind][1]) for kind in kinds]
-    return "".join([HIDDEN, *meanings, *panels(judged, judged.hidden, shown)])
+    return "".join([HIDDEN, *meanings, *panels(judged, behind, shown)])
 
 
-def panels(judged: Judged, groups: Sequence[Group], shown: Shown) -> list[str]:
+def panels(judged: Judged, those: Sequence[Shared], shown: Shown) -> list[str]:
     """Groups in full or in brief, as far as there is room for them, and how many are left out."""
     parts, left = [], 0
-    for group in groups:
-        text = panel(judged, group, shown) if id(group) in shown.full else ""
+    for one in those:
+        text = panel(judged, one, shown) if one.anchor in shown.full else ""
         if not text or not shown.detailed.takes(text):
-            text = short_panel(group)
+            text = short_panel(one)
             if not shown.brief.takes(text):
                 left += 1
                 continue
@@ -132,8 +148,8 @@ def overview(judged: Judged, shown: Shown) -> str:
 
 def kind_head(kind: str, sentence: str, explanation: str) -> str:
     """The heading of a kind of findings, with its explanation."""
-    name, key = markup(kind), KEY if kind in PICTURED else ""
-    return f'<h2 id="{name}">{name}: {prose(sentence)}</h2>\n{meaning(kind, explanation)}{key}'
+    name = markup(kind)
+    return f'<h2 id="{name}">{name}: {prose(sentence)}</h2>\n{meaning(kind, explanation)}'
 
 
 def meaning(kind: str, explanation: str) -> str:
@@ -144,22 +160,36 @@ def meaning(kind: str, explanation: str) -> str:
     )
 
 
-def prepare(judged: Judged, groups: list[Group]) -> Shown:
-    """Draws the schedules and the graphs of groups that are shown in full."""
+def plans_at_most(judged: Judged) -> int:
+    """For how many findings a schedule is asked for. Each time mkcheck judges the build anew, which
+    takes as long as it has reads."""
+    reads = sum(len(record.reads) for record in judged.book.records.values())
+    return max(PLANS_AT_LEAST, min(PLANS_AT_MOST, READS_AT_MOST // (reads + 1)))
+
+
+def prepare(judged: Judged, those: Sequence[Shared]) -> Shown:
+    """Asks for what else is shown, and draws schedules and graphs of groups in full."""
+    groups = [group for one in those for group in one.groups]
     asked = [one for group in groups if group.kind in PICTURED for one in group.findings[:1]]
     asked += [one for group in groups if group.kind == "race" for one in group.findings[1:]]
-    del asked[PLANS_AT_MOST:]
+    del asked[plans_at_most(judged) :]
+    kinds = dict.fromkeys([*judged.kinds, *(group.kind for group in judged.hidden)])
     with ThreadPoolExecutor(min(4, os.cpu_count() or 1)) as pool:
+        repair = pool.submit(repair_of, judged.checker)
+        explained = {kind: pool.submit(judged.checker.explained, kind) for kind in kinds}
         figures = pool.map(partial(timeline, judged.checker), asked)
         drawn_plans = {one.number: figure for one, figure in zip(asked, figures)}
-    kinds = dict.fromkeys([*judged.kinds, *(group.kind for group in judged.hidden)])
-    explained = {kind: judged.checker.explained(kind) for kind in kinds}
-    shown = Shown(explained, drawn_plans, frozenset(map(id, groups)))
-    for group in groups:
-        other = lacking(judged, group)
+    shown = Shown(
+        {kind: told.result() for kind, told in explained.items()},
+        drawn_plans,
+        frozenset(one.anchor for one in those),
+        repair.result(),
+    )
+    for one in those:
+        other = lacking(judged, one.first)
         if other:
-            first = group.findings[0]
-            shown.drawings[id(group)] = around(judged.graph, first.reader, other, first.file)
+            first = one.first.findings[0]
+            shown.drawings[one.anchor] = around(judged.graph, first.reader, other, first.file)
     texts = drawn(list(shown.drawings.values()))
     shown.pictures = dict(zip(shown.drawings, texts))
     return shown
@@ -176,28 +206,40 @@ def lacking(judged: Judged, group: Group) -> str:
     return judged.book.provider(file, judged.graph)
 
 
-def panel(judged: Judged, group: Group, shown: Shown) -> str:
+def panel(judged: Judged, one: Shared, shown: Shown) -> str:
     """A group in full."""
-    parts = [sentence(group)]
+    group = one.first
+    parts = [sentences(one)]
     if group.line is not None:
         parts.append(shown.makefiles.excerpt(group.file, group.line, group.missing()))
     parts.append(remedy(group, judged.makefile))
-    figures = [shown.timelines.get(one.number, "") for one in group.findings]
-    figures.append(graph_around(group, shown))
+    figures = [shown.timelines.get(finding.number, "") for finding in one.findings]
+    figures.append(graph_around(one, shown))
     parts.append(f'<div class="show">{"".join(figures)}</div>' if any(figures) else "")
-    left = sum(one.number not in shown.timelines for one in group.findings)
-    if left and group.kind == "race":
-        parts.append(
-            f'<p class="soft">No timeline for {counted(left, "further race")}:'
-            " <code>mkcheck check -e N</code> prints its schedule.</p>"
-        )
-    parts.append(bare_lines(group.findings, shown.bare))
-    return f'<section class="panel">{"".join(parts)}</section>\n'
+    parts.append(left_undrawn(one, shown))
+    parts.append(bare_lines(one.findings, shown.bare))
+    return f'<section class="panel" id="{one.anchor}">{"".join(parts)}</section>\n'
 
 
-def sentence(group: Group) -> str:
-    """The sentence of a group, at its place."""
-    return f"<h3>{place_of(group)}{prose(clipped(group.sentence))}</h3>"
+def left_undrawn(one: Shared, shown: Shown) -> str:
+    """How many races, and which stale read, have no schedule on the page."""
+    races = [each for group in one.groups if group.kind == "race" for each in group.findings]
+    stale = [each for group in one.groups if group.kind == "stale" for each in group.findings[:1]]
+    left = [each for each in [*races, *stale] if each.number not in shown.timelines]
+    if not left:
+        return ""
+    some = counted(len(left), "more finding")
+    return (
+        f'<p class="soft">No schedule is drawn for {some}: <code>mkcheck check -e'
+        f" {left[0].number}</code> prints that of finding {left[0].number}.</p>"
+    )
+
+
+def sentences(one: Shared) -> str:
+    """The sentences of a group, at its place."""
+    more = [f"<h3>{prose(clipped(group.sentence))}</h3>" for group in one.groups[1:]]
+    head = f"<h3>{place_of(one.first)}{prose(clipped(one.first.sentence))}</h3>"
+    return "".join([head, *more])
 
 
 def remedy(group: Group, makefile: str) -> str:
@@ -231,22 +273,14 @@ def names_left_out(group: Group) -> Iterator[str]:
             yield line
 
 
-def clipped_lines(lines: Sequence[str]) -> str:
-    """Lines as markup, as many as there is room for."""
-    budget, shown = Budget(LINES_BYTES), []
-    for line in lines:
-        if not budget.takes(line):
-            break
-        shown.append(markup(line))
-    more = len(lines) - len(shown)
-    said = f"# {counted(more, 'more line')}: mkcheck check -w prints all" if more else ""
-    return "\n".join([*shown, *filter(None, [said])])
-
-
-def short_panel(group: Group) -> str:
+def short_panel(one: Shared) -> str:
     """A group without pictures."""
+    group = one.first
     adds = f'<pre class="add">{clipped_lines(group.adds)}</pre>' if group.adds else ""
-    return f'<section class="panel brief">{sentence(group)}{adds}{advice(group)}</section>\n'
+    return (
+        f'<section class="panel brief" id="{one.anchor}">{sentences(one)}{adds}{advice(group)}'
+        "</section>\n"
+    )
 
 
 def bare_lines(findings: Sequence[Finding], budget: Budget, is_open: bool = False) -> str:
@@ -281,27 +315,17 @@ def timeline(checker: Checker, finding: Finding) -> str:
     )
 
 
-def graph_around(group: Group, shown: Shown) -> str:
+def graph_around(one: Shared, shown: Shown) -> str:
     """The graph around the first finding of a group."""
-    drawing = shown.drawings.get(id(group))
+    drawing = shown.drawings.get(one.anchor)
     if drawing is None:
         return ""
-    svg = shown.pictures.get(id(group), "")
-    of = f" of finding {group.findings[0].number}" if len(group.findings) > 1 else ""
+    svg = shown.pictures.get(one.anchor, "")
+    first = one.findings[0]
+    of = f" of finding {first.number}" if len(one.first.findings) > 1 else ""
     inner = f'<div class="scroll">{svg}</div>' if svg else ""
     return (
-        f'<figure class="around {look_of(svg)}"><h4>The missing prerequisite{of}</h4>{inner}'
-        f'<div class="list">{as_list(drawing)}</div></figure>'
-    )
-
-
-def repairs(judged: Judged) -> str:
-    """The lines by which the answer becomes yes."""
-    if not judged.repair:
-        return ""
-    lines = judged.repair.split("\n")
-    return (
-        f"<h2>All lines at once</h2>\n<p>With these lines at the end of"
-        f" <code>{markup(clipped(judged.makefile))}</code> the answer is yes. <code>mkcheck repair"
-        f'</code> prints them.</p>\n<pre class="add">{clipped_lines(lines)}</pre>\n'
+        f'<figure class="around {look_of(svg)}"><h4>The missing prerequisite{of}</h4>'
+        f"<figcaption>What {markup(shortened(first.reader))} lacks is dashed and red.</figcaption>"
+        f'{inner}<div class="list">{as_list(drawing)}</div></figure>'
     )

@@ -2,15 +2,17 @@
 
 from __future__ import annotations
 
+from collections.abc import Sequence
 from dataclasses import dataclass
 
 from mkcheck_tools.answers.findings import Group
 from mkcheck_tools.answers.refusals import Refusal
-from mkcheck_tools.report.escaping import clipped, markup
+from mkcheck_tools.report.escaping import clipped, counted, markup
 from mkcheck_tools.report.pictures import width_of
 
 # Up to this width a graph is shown on a narrow screen, too.
 NARROW = 330
+LINES_BYTES = 40_000
 
 
 @dataclass
@@ -35,3 +37,15 @@ def place_of(one: Group | Refusal) -> str:
 def look_of(svg: str) -> str:
     """How a graph is shown on a narrow screen: as it is, or as a list in its place."""
     return "plain" if not svg else "wide" if width_of(svg) > NARROW else "fits"
+
+
+def clipped_lines(lines: Sequence[str]) -> str:
+    """Lines as markup, as many as there is room for."""
+    budget, shown = Budget(LINES_BYTES), []
+    for line in lines:
+        if not budget.takes(line):
+            break
+        shown.append(markup(line))
+    more = len(lines) - len(shown)
+    said = f"# {counted(more, 'more line')}: mkcheck check -w prints all" if more else ""
+    return "\n".join([*shown, *filter(None, [said])])

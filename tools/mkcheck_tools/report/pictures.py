@@ -6,11 +6,12 @@ import re
 import shutil
 import subprocess
 import xml.etree.ElementTree as Tree
+from collections.abc import Collection
 from dataclasses import dataclass, field
 
 from mkcheck_tools.answers.graphs import Graph
 from mkcheck_tools.report.books import Reached
-from mkcheck_tools.report.escaping import dot_string, markup, shortened
+from mkcheck_tools.report.escaping import counted, dot_string, markup, shortened, visible
 
 SVG = "http://www.w3.org/2000/svg"
 XLINK = "http://www.w3.org/1999/xlink"
@@ -18,41 +19,66 @@ SECONDS = 20
 AROUND_AT_MOST, BESIDE_AT_MOST = 14, 5
 WHOLE_AT_MOST, EDGES_AT_MOST = 300, 3000
 LABEL_AT_MOST = 28
+TOLD_AT_MOST = 3
 PAGE_INCHES, NODE_INCHES, APART = 14.5, 1.2, 0.35
 LOOKS = {
     "recipe": 'shape=box, style="rounded,filled", fillcolor="#e3ecf7"',
     "phony": 'shape=box, style="rounded,dashed"',
     "plain": "shape=box, color=gray60",
     "file": 'shape=note, color="#c03030", fontcolor="#c03030"',
+    "read": "shape=note, color=gray40",
     "more": "shape=plaintext",
 }
 MISSING = 'style=dashed, color=red, class="missing"'
+UNLISTED = 'style=dashed, color=gray40, class="unlisted"'
+# What the colours and lines of a graph mean, each with the class of what is drawn so.
+KEY = (
+    ("edge", "a prerequisite"),
+    ("unlisted", "read, and no prerequisite of its own: a change reaches it another way"),
+    ("missing", "a finding: read, and missing"),
+)
 
 
 @dataclass
 class Drawing:
-    """A part of a graph: its nodes with their looks, its edges, and the edges that are missing."""
+    """A part of a graph: its nodes with their looks, its edges, those that are missing, and those
+    that nobody misses: of files that a recipe reads and that aren't its own prerequisites."""
 
     nodes: dict[str, str] = field(default_factory=dict)
     edges: list[tuple[str, str, str]] = field(default_factory=list)
     missing: list[tuple[str, str, str]] = field(default_factory=list)
     short: bool = True
+    unlisted: list[tuple[str, str]] = field(default_factory=list)
 
-    def add(self, name: str, graph: Graph) -> None:
-        """A name of the graph, or a file that is none."""
+    def add(self, name: str, graph: Graph, other: str = "file") -> None:
+        """A name of the graph, or a file that is none, which has the other look."""
         node = graph.nodes.get(name)
         if node is None:
-            look = "file"
+            look = other
+            if look == "file" and self.nodes.get(name) == "read":
+                self.nodes[name] = look
         elif node.phony:
             look = "phony"
         else:
             look = "recipe" if node.recipe else "plain"
         self.nodes.setdefault(name, look)
 
-    def without_missing(self) -> Drawing:
-        """The drawing without the edges that are missing, and without the names that only these
-        reach."""
-        nodes = {name: look for name, look in self.nodes.items() if look != "file"}
+    @property
+    def size(self) -> int:
+        """How many edges it has."""
+        return len(self.edges) + len(self.missing) + len(self.unlisted)
+
+    @property
+    def told(self) -> str:
+        """What it shows in words, for those who don't see it."""
+        front = f"A graph of {counted(len(self.nodes), 'name')}"
+        some = [f"{shortened(one)} lacks {shortened(other)}" for one, other, _ in self.missing]
+        more = ["and more"] if len(some) > TOLD_AT_MOST else []
+        return visible(f"{front}: {', '.join([*some[:TOLD_AT_MOST], *more])}" if some else front)
+
+    def of_prerequisites(self) -> Drawing:
+        """The drawing with its edges alone, and without the names that only others reach."""
+        nodes = {name: look for name, look in self.nodes.items() if look not in ("file", "read")}
         return Drawing(nodes, self.edges, [], self.short)
 
     def apart(self) -> float:
@@ -87,12 +113,16 @@ class Drawing:
         for one, other, label in self.missing:
             said = f", label={dot_string(shortened(label, LABEL_AT_MOST))}" if label else ""
             lines.append(f"  {numbers[one]} -> {numbers[other]} [{MISSING}{said}];")
+        for one, other in self.unlisted:
+            lines.append(f"  {numbers[one]} -> {numbers[other]} [{UNLISTED}];")
         return "\n".join([*lines, "}", ""])
 
 
-def whole(graph: Graph, book: Reached, short: bool) -> Drawing:
-    """The whole graph. Edges that are missing are files that a recipe reads and doesn't list, and
-    that can change."""
+def whole(
+    graph: Graph, book: Reached, short: bool, found: Collection[tuple[str, str]] | None = None
+) -> Drawing:
+    """The whole graph, and the files that a recipe reads, that it doesn't list, and that can
+    change: all as missing, or those alone that were found, where this is known."""
     drawing = Drawing(short=short)
     for name in graph.nodes:
         drawing.add(name, graph)
@@ -104,9 +134,14 @@ def whole(graph: Graph, book: Reached, short: bool) -> Drawing:
         listed = set(node.prerequisites)
         record = book.records.get(node.name)
         for file in record.reads if record else ():
-            if file not in listed and file != node.name and book.can_change(file):
+            if file in listed or file == node.name or not book.can_change(file):
+                continue
+            if found is None or (node.name, file) in found:
                 drawing.add(file, graph)
                 drawing.missing.append((node.name, file, ""))
+            else:
+                drawing.add(file, graph, "read")
+                drawing.unlisted.append((node.name, file))
     return drawing
 
 
@@ -142,31 +177,33 @@ def around(graph: Graph, reader: str, other: str, file: str) -> Drawing:
 
 def as_list(drawing: Drawing) -> str:
     """A drawing as an indented list; each name stands with its prerequisites once."""
-    needs: dict[str, list[tuple[str, bool]]] = {}
+    needs: dict[str, list[tuple[str, str]]] = {}
     below = set()
     for one, other, _ in drawing.edges:
-        needs.setdefault(one, []).append((other, False))
+        needs.setdefault(one, []).append((other, ""))
         below.add(other)
     for one, other, _ in drawing.missing:
-        needs.setdefault(one, []).append((other, True))
+        needs.setdefault(one, []).append((other, "missing"))
+    for one, other in drawing.unlisted:
+        needs.setdefault(one, []).append((other, "unlisted"))
     seen: set[str] = set()
     tops = [name for name in drawing.nodes if name not in below and drawing.nodes[name] != "more"]
-    lonely = {other for _, other, _ in drawing.missing if drawing.nodes[other] == "file"}
+    lonely = {name for name, look in drawing.nodes.items() if look in ("file", "read")}
     parts = ["<ul>"]
     # What is left to write, the next one last: an item, or the end of a list.
-    left: list[tuple[str, bool] | None] = [
-        (name, False) for name in reversed(tops) if name not in lonely
+    left: list[tuple[str, str] | None] = [
+        (name, "") for name in reversed(tops) if name not in lonely
     ]
     while left:
         item = left.pop()
         if item is None:
             parts.append("</ul></li>")
             continue
-        name, missing = item
-        look, said = (' class="missing"', " (not listed)") if missing else ("", "")
-        parts.append(f"<li{look}><span>{markup(shortened(name))}</span>{said}")
-        inner = [] if missing or name in seen else needs.get(name, [])
-        if not missing:
+        name, look = item
+        said = f' class="{look}"' if look else "", " (not listed)" if look else ""
+        parts.append(f"<li{said[0]}><span>{markup(shortened(name))}</span>{said[1]}")
+        inner = [] if look or name in seen else needs.get(name, [])
+        if not look:
             seen.add(name)
         if inner:
             parts.append("<ul>")
@@ -174,6 +211,18 @@ def as_list(drawing: Drawing) -> str:
         else:
             parts.append("</li>")
     return "".join([*parts, "</ul>"])
+
+
+def key(drawing: Drawing) -> str:
+    """What the lines of a drawing mean, below it, for those lines that it has."""
+    has = {"edge": drawing.edges, "unlisted": drawing.unlisted, "missing": drawing.missing}
+    parts = [
+        f'<span><svg class="graph key" width="24" height="12" aria-hidden="true"><g class="{look}">'
+        f'<path d="M1 6h22"/></g></svg>{text}</span>'
+        for look, text in KEY
+        if has[look]
+    ]
+    return f'<p class="key">{"".join(parts)}</p>'
 
 
 def drawn(drawings: list[Drawing]) -> list[str]:
@@ -214,6 +263,8 @@ def cleaned(text: str, drawing: Drawing) -> str:
     for one in ("width", "height"):
         root.set(one, box[2] if one == "width" else box[3])
     root.set("class", "graph")
+    root.set("role", "img")
+    root.set("aria-label", drawing.told)
     for element in root.iter():
         for key in ("id", "fill", "stroke", "font-family", "font-size", "stroke-dasharray"):
             element.attrib.pop(key, None)
@@ -225,7 +276,7 @@ def cleaned(text: str, drawing: Drawing) -> str:
         if name is None or len(name) <= LABEL_AT_MOST:
             group.remove(title)
         else:
-            title.text = shortened(name, 400)
+            title.text = visible(shortened(name, 400))
         if group.get("class") == "graph":
             for polygon in group.findall(f"{{{SVG}}}polygon"):
                 group.remove(polygon)

@@ -2,11 +2,11 @@
 
 STYLE = """
 :root { color-scheme: light dark; --bg: #fff; --fg: #1c2430; --soft: #566173; --line: #d5dbe3;
-  --panel: #f6f8fa; --red: #b42318; --redbg: #fdeceb; --green: #17692f; --greenbg: #e5f5ea;
-  --blue: #1b5799; --bluebg: #e3ecf7; --mark: #fff3c4; }
+  --edge: #818b98; --panel: #f6f8fa; --red: #b42318; --redbg: #fdeceb; --green: #17692f;
+  --greenbg: #e5f5ea; --blue: #1b5799; --bluebg: #e3ecf7; --mark: #fff3c4; }
 @media (prefers-color-scheme: dark) { :root { --bg: #14181d; --fg: #e4e8ee; --soft: #a2adbc;
-  --line: #38414d; --panel: #1c2229; --red: #ff9a90; --redbg: #43201d; --green: #7bdc95;
-  --greenbg: #17311f; --blue: #93bff2; --bluebg: #1f3148; --mark: #3d3512; } }
+  --line: #38414d; --edge: #768291; --panel: #1c2229; --red: #ff9a90; --redbg: #43201d;
+  --green: #7bdc95; --greenbg: #17311f; --blue: #93bff2; --bluebg: #1f3148; --mark: #3d3512; } }
 * { box-sizing: border-box; }
 body { margin: 0 auto; max-width: 1100px; padding: 16px; background: var(--bg); color: var(--fg);
   font: 15px/1.5 system-ui, -apple-system, "Segoe UI", "DejaVu Sans", sans-serif; }
@@ -18,7 +18,7 @@ p { margin: 6px 0; overflow-wrap: anywhere; }
 a { color: var(--blue); }
 code, pre, .time, svg.graph, table.ways td, .list ul, dd { font-size: 13px;
   font-family: ui-monospace, "DejaVu Sans Mono", Menlo, Consolas, monospace; }
-pre { margin: 4px 0; padding: 8px 10px; background: var(--panel); border: 1px solid var(--line);
+pre { margin: 4px 0; padding: 8px 10px; background: var(--panel); border: 1px solid var(--edge);
   border-radius: 6px; white-space: pre-wrap; overflow-wrap: anywhere; tab-size: 4; }
 pre.add { border-left: 4px solid var(--green); user-select: all; }
 pre.add, pre.bare { max-height: 320px; overflow-y: auto; }
@@ -30,7 +30,7 @@ pre.lines .rule { background: var(--mark); }
 ins { background: var(--greenbg); color: var(--green); text-decoration: underline;
   font-weight: 600; }
 .answer { display: inline-block; padding: 1px 12px; border-radius: 14px; margin-right: 8px; }
-.no, .refused { background: var(--redbg); color: var(--red); }
+.no { background: var(--redbg); color: var(--red); } .refused { background: var(--mark); }
 .yes { background: var(--greenbg); color: var(--green); }
 dl { display: grid; grid-template-columns: max-content 1fr; gap: 2px 14px; margin: 10px 0; }
 dt { color: var(--soft); } dd { margin: 0; overflow-wrap: anywhere; min-width: 0; }
@@ -40,15 +40,15 @@ th, td { padding: 3px 8px 3px 0; border-bottom: 1px solid var(--line); vertical-
   overflow-wrap: anywhere; }
 .kinds td:first-child { white-space: nowrap; padding-right: 14px; }
 td.number, th.number { text-align: right; white-space: nowrap; }
-.panel { border: 1px solid var(--line); border-radius: 8px; padding: 12px; margin: 14px 0; }
+.panel { border: 1px solid var(--edge); border-radius: 8px; padding: 12px; margin: 14px 0; }
 .brief { padding: 6px 12px; } .brief h3 { font-weight: 400; margin: 0; }
 .place { font-family: ui-monospace, "DejaVu Sans Mono", Menlo, Consolas, monospace; color:
   var(--blue); font-weight: 600; }
 .soft { color: var(--soft); } .do, .note { border-left: 4px solid var(--blue); padding: 2px 8px; }
-.note { border-color: var(--red); }
+.note { border-color: var(--edge); }
 .show { display: flex; flex-wrap: wrap; gap: 8px 28px; align-items: flex-start; }
 figure { margin: 10px 0 0; max-width: 100%; min-width: 0; }
-figure.timeline { width: 340px; } figure.around { flex: 1 1 300px; }
+figure.timeline { width: 340px; } figure.around { flex: 1 1 420px; }
 figcaption { font-size: 13px; color: var(--soft); overflow-wrap: anywhere; margin-bottom: 4px; }
 svg { display: block; max-width: 100%; height: auto; }
 .scroll { overflow: auto; max-height: 85vh; } .scroll svg { max-width: none; }
@@ -77,19 +77,38 @@ svg.graph polygon, svg.graph path, svg.graph ellipse, svg.graph polyline { strok
   stroke-width: 0.8; }
 svg.graph .recipe path, svg.graph .recipe polygon { fill: var(--bluebg); stroke: var(--blue); }
 svg.graph .phony path { stroke-dasharray: 4 3; }
+svg.graph .unlisted path { stroke-dasharray: 5 3; stroke-width: 1.5; }
 svg.graph .missing path { stroke: var(--red); stroke-width: 2; stroke-dasharray: 5 3; }
 svg.graph .missing polygon { stroke: var(--red); fill: var(--red); }
 svg.graph .missing text, svg.graph .file text { fill: var(--red); }
 svg.graph .file polygon, svg.graph .file polyline { stroke: var(--red); }
 svg.graph .more polygon { stroke: none; }
-input { font: inherit; width: 100%; padding: 6px 10px; margin: 6px 0; border: 1px solid
-  var(--line); border-radius: 6px; background: var(--bg); color: var(--fg); }
-.key span { margin-right: 14px; white-space: nowrap; } .key { font-size: 13px; color: var(--soft); }
+input, button { font: inherit; border: 1px solid var(--edge); border-radius: 6px;
+  background: var(--bg); color: var(--fg); }
+input { width: 100%; padding: 6px 10px; margin: 6px 0; }
+button { float: right; margin: 6px; padding: 1px 10px; font-size: 13px; cursor: pointer; }
+ol { padding-left: 30px; margin: 4px 0; } li { margin: 3px 0; overflow-wrap: anywhere; }
+.panel:target { outline: 3px solid var(--blue); }
+.key { font-size: 13px; color: var(--soft); }
+.key span { margin-right: 14px; display: inline-block; }
 .key svg { display: inline-block; vertical-align: middle; margin-right: 4px; }
+@media print {
+  :root { color-scheme: light; --bg: #fff; --fg: #000; --soft: #444; --line: #aaa; --edge: #777;
+    --panel: #fff; --red: #a3180f; --redbg: #fff; --green: #11521f; --greenbg: #fff;
+    --blue: #123f70; --bluebg: #eef3fa; --mark: #fff3c4; }
+  body { max-width: none; padding: 0; font-size: 12px; }
+  input, button { display: none; }
+  details::details-content { content-visibility: visible; display: block; }
+  pre.add, pre.bare, .scroll { max-height: none; overflow: visible; }
+  .scroll svg, svg { max-width: 100%; height: auto; }
+  h2, h3, h4 { break-after: avoid; } figure, svg, pre.lines { break-inside: avoid; }
+  .answer { border: 1px solid; } }
 """
 
-# Puts a field above the table of ways, and hides the rows that don't hold what is typed.
+# Puts a field above the table of ways, which hides the rows that don't hold what is typed, and a
+# button at lines to add, which copies them. Unfolds all where the page is printed.
 SCRIPT = """
+var each = Array.prototype.forEach;
 var table = document.querySelector("table.ways");
 if (table) {
   var field = document.createElement("input");
@@ -106,4 +125,28 @@ if (table) {
     });
   });
 }
+function selected(block) {
+  var range = document.createRange();
+  range.selectNodeContents(block);
+  getSelection().removeAllRanges();
+  getSelection().addRange(range);
+  return document.execCommand("copy");
+}
+each.call(document.querySelectorAll("pre.add"), function (block) {
+  var button = document.createElement("button");
+  button.type = "button";
+  button.textContent = "Copy";
+  block.parentNode.insertBefore(button, block);
+  button.addEventListener("click", function () {
+    var done = function () { button.textContent = "Copied"; };
+    var other = function () {
+      button.textContent = selected(block) ? "Copied" : "Selected: copy it";
+    };
+    if (!navigator.clipboard) other();
+    else navigator.clipboard.writeText(block.textContent + "\\n").then(done, other);
+  });
+});
+window.addEventListener("beforeprint", function () {
+  each.call(document.querySelectorAll("details"), function (one) { one.open = true; });
+});
 """
