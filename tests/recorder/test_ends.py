@@ -117,6 +117,12 @@ class MistakeTest(EndTest):
         self.mistake("replay.replays", "Replay.replay", "words[1].recipe.target")
 
     @namespaces
+    @unittest.skipUnless(shutil.which("as"), "no assembler")
+    def test_while_a_write_fails(self) -> None:
+        self.write({"makefile": MAKEFILE.replace("cat s > b", "as -o b t.s"), "t.s": ".data\n"})
+        self.mistake("replay.replays", "Replay.leaves_half", "words[1].recipe.target")
+
+    @namespaces
     def test_while_a_replay_is_judged(self) -> None:
         self.mistake("replay.verdicts", "notes_amid", "words[0].trial.recipe.target")
 

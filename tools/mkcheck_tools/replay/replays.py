@@ -275,26 +275,30 @@ class Replay:
             if outcome.half is None
         ]
         groups = groups_of(waiting)
-        left = {number: False for number, _, _ in waiting}
+        found = dict(enumerate(outcomes))
         for numbers in ([group[:2] for group in groups], [group[2:] for group in groups]):
             tried = {
-                number: pool.submit(self.half_of, outcomes[number], number)
+                number: pool.submit(self.with_half, found[number], number)
                 for group, wanted in zip(groups, numbers)
                 for number in wanted
-                if wanted == group[:2] or any(left[one] for one in group[:2])
+                if wanted == group[:2] or any(found[one].half is not False for one in group[:2])
             }
-            left.update((number, one.result()) for number, one in tried.items())
-        return [
-            replace(outcome, half=left.get(number, outcome.half))
-            for number, outcome in enumerate(outcomes)
-        ]
+            found.update((number, one.result()) for number, one in tried.items())
+        return [replace(outcome, half=bool(outcome.half)) for outcome in found.values()]
 
-    def half_of(self, outcome: Outcome, number: int) -> bool:
-        """Whether a recipe that passed leaves its target half-written if a write fails."""
+    def with_half(self, outcome: Outcome, number: int) -> Outcome:
+        """The outcome of a recipe that passed, with whether it leaves its target half-written if a
+        write fails. An error that nobody thought of costs this recipe alone."""
         trial = outcome.trial
-        with self.turns.turn(trial.recipe.target):
-            tried = with_later_stamps(self.world, trial)
-            return self.leaves_half(tried, self.place_of(number), outcome.given)
+        try:
+            with self.turns.turn(trial.recipe.target):
+                tried = with_later_stamps(self.world, trial)
+                half = self.leaves_half(tried, self.place_of(number), outcome.given)
+                return replace(outcome, half=half)
+        except Exception as error:
+            if isinstance(error, OSError) and error.errno in FULL:
+                raise
+            return replace(outcome, run=BARE, broken=mistake_of(error, "recorder"))
 
     def size_of_target(self, trial: Trial) -> int:
         """How many bytes a recipe left in its target, a file."""
