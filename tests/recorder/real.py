@@ -48,6 +48,12 @@ def essence(book: dict) -> dict:
     return {**book, "fixed": [], "sources": sorted(book["sources"]), "records": records}
 
 
+def noted(book: Path) -> list[tuple[str, str]]:
+    """The notes of footprints: the kind of each, and the target."""
+    notes = json.loads(Path(f"{book}.notes").read_text())["notes"]
+    return sorted((note["kind"], note["target"]) for note in notes)
+
+
 def differs(example: Example) -> str:
     """How a new recording differs from the one that is kept; nothing where it doesn't."""
     folder = ROOT / "examples" / example.folder
@@ -57,12 +63,14 @@ def differs(example: Example) -> str:
         done = subprocess.run(command, env={**os.environ, "MKCHECK": MKCHECK}, check=False)
         if done.returncode != 0:
             return "can't be recorded"
-        recorded = essence(json.loads(new.read_text()))
+        recorded, told = essence(json.loads(new.read_text())), noted(new)
     kept = essence(json.loads((folder / "footprint.json").read_text()))
     others = [one["target"] for one, two in zip(kept["records"], recorded["records"]) if one != two]
     if others:
         return f"other footprints of {' '.join(others)}"
-    return "" if recorded == kept else "other sources or recipes"
+    if recorded != kept:
+        return "other sources or recipes"
+    return "" if told == noted(folder / "footprint.json") else "other notes"
 
 
 def main() -> int:
