@@ -7,9 +7,9 @@ the commands of the one that comes first, and the others take it as it is.
 from __future__ import annotations
 
 from collections.abc import Callable
-from dataclasses import dataclass, field
+from dataclasses import dataclass, field, replace
 
-from mkcheck_tools.imports.gnumake import Make, option_words, own_environment
+from mkcheck_tools.imports.gnumake import Make, Start, option_words, own_environment
 from mkcheck_tools.imports.inherited import Inherited, inherited_in
 from mkcheck_tools.imports.rereading import changed, difference, place_of
 
@@ -22,17 +22,17 @@ ASKED_AT_MOST = 24
 class Asking:
     """Asks for other goals in a copy of the project at `root`.
 
-    `shown` are the makes for all goals, and `words` those of the first one. `wrapper` stands for
+    `start` is how make is started, and `shown` are the makes for all goals. `wrapper` stands for
     make in commands. `exported` has, for each folder, the macros that single targets export. `run`
-    asks make by words, and for a make below the first one also by its folder and its environment.
+    asks make.
     """
 
+    start: Start
     root: str
     shown: list[Make]
-    words: list[str]
     wrapper: str
     exported: dict[str, set[str]]
-    run: Callable[..., list[Make]]
+    run: Callable[[Start], list[Make]]
     sentences: list[str] = field(default_factory=list)
     """What isn't the same for all goals."""
 
@@ -53,9 +53,10 @@ class Asking:
                 f" them alone was asked for {ASKED_AT_MOST}: import fewer at a time"
             )
         together = " ".join(["make", *goals])
-        options = [word for option in option_words(self.words) for word in option]
+        options = [word for option in option_words(list(self.start.words)) for word in option]
         for goal in goals[:ASKED_AT_MOST]:
-            for make, rule, what in changed(self.shown, self.run([*options, goal])):
+            asked = self.run(replace(self.start, words=(*options, goal)))
+            for make, rule, what in changed(self.shown, asked):
                 where, name = place_of(self.root, make, rule)
                 self.sentences.append(
                     f"{where}: `make {goal}` has other commands for {name} than `{together}`:"
@@ -92,10 +93,12 @@ class Asking:
 
     def compare(self, make: Make, found: list[Inherited], goals: list[str]) -> None:
         """Compares the commands of files with those that a make has for other goals."""
-        words = [*make.words, *(word for word in self.words if "=" in word)]
+        words = [*make.words, *(word for word in self.start.words if "=" in word)]
         options = [option for option in option_words(words) if not is_of_folder(option[0])]
         words = [word for option in options for word in option]
-        asked = self.run([*words, *goals], make.folder, own_environment(make.environment))[0]
+        own = own_environment(make.environment)
+        start = replace(self.start, folder=make.folder, words=(*words, *goals), more=own)
+        asked = self.run(start)[0]
         for one in found:
             rule = make.base.rules[one.name][0]
             what = difference(make.base.rules[one.name], asked.base.rules.get(one.name, []))

@@ -18,7 +18,8 @@ import re
 import shlex
 import shutil
 import subprocess
-from dataclasses import dataclass
+from collections.abc import Mapping, Sequence
+from dataclasses import dataclass, field
 from pathlib import Path
 
 from mkcheck_tools.faults import Fault
@@ -77,6 +78,44 @@ echo $s > "$D/$n.status"
 sed -z 's/@MARK@//g' "$D/$n.err" >&2
 exit $s
 """
+
+
+@dataclass(frozen=True)
+class Start:
+    """How a make is started."""
+
+    program: str
+    folder: str
+    """The path of the folder in which it starts, as it sees it."""
+
+    words: tuple[str, ...]
+    more: Mapping[str, str] = field(default_factory=dict)
+    """Further variables of its environment."""
+
+    def command(self, *words: str, program: str = "") -> list[str]:
+        """The words that start it with these options, or another program with them."""
+        enter = 'cd "$1" && shift && exec "$@"'
+        words = (program or self.program, *words, *self.words)
+        return ["/bin/sh", "-c", enter, "sh", self.folder, *words]
+
+    @property
+    def environment(self) -> dict[str, str]:
+        """The environment in which it is started."""
+        return {**outer_environment(), **self.more}
+
+
+@dataclass(frozen=True)
+class Question:
+    """What a make that is started is to do and to show."""
+
+    is_real: bool
+    """Whether it builds; else it only shows commands (`-n`)."""
+
+    watched: Sequence[str] = ()
+    """The macros whose values are shown with the commands of each target."""
+
+    seconds: float | None = None
+    """How long it may take."""
 
 
 @dataclass
@@ -197,50 +236,37 @@ def outer_environment() -> dict[str, str]:
     }
 
 
-def run_make(
-    program: str,
-    place: Place,
-    folder: str,
-    words: list[str],
-    scratch: str,
-    is_real: bool,
-    watched: list[str],
-    more: dict[str, str] | None = None,
-    seconds: float | None = None,
-) -> list[Make]:
-    """Runs make in a folder of the place, and gives it and all makes that it started, in the order
-    of their starts.
+def run_make(start: Start, place: Place, scratch: str, asked: Question) -> list[Make]:
+    """Runs make in a place, and gives it and all makes that it started, in the order of their
+    starts.
 
-    With `is_real` make builds, else it only shows commands (`-n`). `scratch` is a folder that this
-    function empties and uses. The commands of each target come with the values that the macros
-    `watched` have for it. `more` are further variables of the environment. Raises `Fault` where
-    make can't be started, or doesn't end in `seconds`.
+    `scratch` is a folder that this function empties and uses. Raises `Fault` where make can't be
+    started, or doesn't end in its time.
     """
     shutil.rmtree(scratch, ignore_errors=True)
     os.makedirs(scratch)
     wrapper = wrapper_in(scratch)
     os.makedirs(os.path.dirname(wrapper))
     text = WRAPPER.replace("@SCRATCH@", shlex.quote(scratch)).replace("@MARK@", f"\\n{MARK}\\n")
-    Path(wrapper).write_text(text.replace("@MAKE@", shlex.quote(program)))
+    Path(wrapper).write_text(text.replace("@MAKE@", shlex.quote(start.program)))
     os.chmod(wrapper, 0o755)
     os.symlink(wrapper, os.path.join(os.path.dirname(wrapper), "gmake"))
     Path(scratch, "count").write_text("0")
     Path(scratch, "top.out").touch()
-    outer = {**outer_environment(), **(more or {})}
+    outer = start.environment
     search = f"{os.path.dirname(wrapper)}:{outer.get('PATH', os.defpath)}"
     environment = {**outer, "PATH": search, "MKIMPORT_OUT": os.path.join(scratch, "top.out")}
-    how = ["--trace"] if is_real else ["-n", "-k", "--trace"]
+    how = ["--trace"] if asked.is_real else ["-n", "-k", "--trace"]
     # Where a make has several jobs, what recipes print doesn't come between a mark and its command.
     own = [*how, "-p", "-j1", "-Otarget", f"MAKE={wrapper}"]
-    own += [marking(watched, is_real), f"--eval={EVAL}"]
-    enter = 'cd "$1" && shift && exec "$@"'
-    command = ["/bin/sh", "-c", enter, "sh", folder, wrapper, *own, *words]
-    ended = run(command, place, environment, seconds)
+    own += [marking(list(asked.watched), asked.is_real), f"--eval={EVAL}"]
+    ended = run(start.command(*own, program=wrapper), place, environment, asked.seconds)
     if ended.timed_out:
-        raise Fault(f"GNU make didn't end in {seconds:g} seconds")
+        raise Fault(f"GNU make didn't end in {asked.seconds:g} seconds")
     count = int(Path(scratch, "count").read_text() or 0)
     if count == 0:
         raise Fault(f"GNU make could not be started: {last_words(ended.output)}")
+    watched = list(asked.watched)
     makes = [read_make(scratch, number, set(own), watched) for number in range(1, count + 1)]
     attach(makes, scratch)
     return makes

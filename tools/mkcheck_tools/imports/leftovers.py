@@ -27,6 +27,8 @@ CLEAN = "clean"
 CLEAN_SECONDS = 60
 # The files of a release are made within that time, in nanoseconds.
 A_DAY = 86_400 * 10**9
+# Cleans in a copy: runs make with these words, for at most so many seconds.
+Cleaning = Callable[[Sequence[str], float], list[Make]]
 
 
 @dataclass(frozen=True)
@@ -58,9 +60,7 @@ class Leftovers:
     dependencies: frozenset[str] = frozenset()
     """Dependency files that say something before the build."""
 
-    def found(
-        self, shown: list[Make], words: Sequence[str], run: Callable[..., list[Make]]
-    ) -> Leftovers:
+    def found(self, shown: list[Make], words: Sequence[str], run: Cleaning) -> Leftovers:
         """The same, with what an earlier build left.
 
         That is what `make clean` removes in a copy, by `run`, with the options among the words, but
@@ -187,13 +187,13 @@ class Leftovers:
         return makefile is not None and times.get(name, makefile + 1) <= makefile
 
 
-def clean(words: list[str], run: Callable[..., list[Make]]) -> str:
-    """Runs `make clean` in a copy, where it can change nothing else; says why it failed, and
-    nothing where it didn't."""
+def clean(words: list[str], run: Cleaning) -> str:
+    """Runs `make clean` by `run` in a copy, where it can change nothing else; says why it failed,
+    and nothing where it didn't."""
     if namespace() is None:
         return "this system allows no mount namespace"
     try:
-        makes = run("clean", is_real=True, words=words, seconds=CLEAN_SECONDS)
+        makes = run(words, CLEAN_SECONDS)
     except Fault as fault:
         return str(fault)
     return last_words(makes[0].errors) if makes[0].status != 0 else ""

@@ -5,7 +5,7 @@ from __future__ import annotations
 import functools
 import os
 import shlex
-from dataclasses import dataclass
+from dataclasses import dataclass, replace
 
 from mkcheck_tools.imports.asking import Asking
 from mkcheck_tools.imports.builds import path_name
@@ -13,7 +13,7 @@ from mkcheck_tools.imports.confining import OWN, Confined
 from mkcheck_tools.imports.copies import links_in, listing
 from mkcheck_tools.imports.database import Rule
 from mkcheck_tools.imports.failing import build_fault, failed_rule, failure_of_make
-from mkcheck_tools.imports.gnumake import Make, content, outer_environment
+from mkcheck_tools.imports.gnumake import Make, Start, content, outer_environment
 from mkcheck_tools.imports.leaving import times_in
 from mkcheck_tools.imports.make_folder import MakeFolder, MakeShown, exported_by, shown_with
 from mkcheck_tools.imports.readers import Started
@@ -101,12 +101,12 @@ def built_by(asked: MakeShown) -> MakeBuilt:
     # A make that a recipe starts by its name isn't started by `make -n`.
     later = front.run("built", is_real=len(built) > len(shown.makes))
     asking = Asking(
+        front.start,
         copies.seen,
         shown.makes,
-        list(front.words),
         front.wrapper,
         dict(shown.exported),
-        functools.partial(front.run, "asked", False),
+        functools.partial(ask_for, front),
     )
     asking.ask()
     all_makes = [*shown.makes, *built, *after, *later]
@@ -118,12 +118,11 @@ def built_by(asked: MakeShown) -> MakeBuilt:
         functools.partial(printed, front),
         recipes_of_goals(front, copies.place("built").folder, all_makes),
     )
-    reading = front.program, front.top, list(front.words)
-    if read_again and readings.outputs_used(copies.shut("built"), *reading, made):
+    if read_again and readings.outputs_used(copies.shut("built"), front.start, made):
         # A file that is made from an output may be the same this time and not the next.
         read_again = set()
-    readings.find_outputs(copies.shut("built"), *reading, made)
-    readings.try_all(copies.shut("asked"), *reading)
+    readings.find_outputs(copies.shut("built"), front.start, made)
+    readings.try_all(copies.shut("asked"), front.start)
     if readings.found:
         readings.confirm(up_to_date(front, after_times), functools.partial(ask, front, "fresh"))
     ask_unseen(shown, [built, after], made, asking, readings)
@@ -228,6 +227,12 @@ def recipes_of_goals(front: MakeFolder, folder: str, makes: list[Make]) -> set[s
 def ask(front: MakeFolder, word: str, is_confined: bool) -> list[Make]:
     """Asks make what it would do in the copy of a word, in which files are changed for that."""
     return front.run(word, False, seconds=SECONDS_TO_ASK if is_confined else None)
+
+
+def ask_for(front: MakeFolder, start: Start) -> list[Make]:
+    """Asks make, as it is started in a folder, in the copy for that."""
+    own = replace(front, words=start.words, folder=start.folder, more=start.more)
+    return own.run("asked", is_real=False)
 
 
 def up_to_date(front: MakeFolder, times: dict[str, int]) -> str:

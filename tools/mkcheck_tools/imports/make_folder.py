@@ -3,8 +3,9 @@
 from __future__ import annotations
 
 import os
-from collections.abc import Mapping
-from dataclasses import dataclass, replace
+from collections.abc import Mapping, Sequence
+from dataclasses import dataclass, field, replace
+from functools import partial
 
 from mkcheck_tools.faults import Fault
 from mkcheck_tools.imports.commands import is_export
@@ -12,6 +13,8 @@ from mkcheck_tools.imports.confining import OWN, Confined
 from mkcheck_tools.imports.copies import Copies, links_in, listing
 from mkcheck_tools.imports.gnumake import (
     Make,
+    Question,
+    Start,
     content,
     find_make,
     last_words,
@@ -54,6 +57,9 @@ class MakeFolder:
     hint: str = ""
     """What is added to the sentence on makefiles that can't be read."""
 
+    more: Mapping[str, str] = field(default_factory=dict)
+    """Further variables of the environment."""
+
     @property
     def wrapper(self) -> str:
         """The path of the script that stands for make in commands."""
@@ -64,25 +70,19 @@ class MakeFolder:
         """The path of the folder, as make sees it."""
         return os.path.normpath(os.path.join(self.copies.seen, self.folder))
 
-    def run(
-        self,
-        word: str,
-        is_real: bool,
-        words: list[str] | None = None,
-        folder: str | None = None,
-        more: dict[str, str] | None = None,
-        seconds: float | None = None,
-    ) -> list[Make]:
-        """Runs make in a copy. `words`, if given, replace its own words, and `folder` the folder in
-        which it starts; `more` are further variables of the environment. With `seconds`, a limit of
-        its time, make can change nothing but the copy."""
-        place = self.copies.shut(word)
+    @property
+    def start(self) -> Start:
+        """How make is started."""
+        return Start(self.program, self.top, self.words, self.more)
+
+    def run(self, word: str, is_real: bool, seconds: float | None = None) -> list[Make]:
+        """Runs make in a copy. With `seconds`, a limit of its time, make can change nothing but the
+        copy."""
+        place, start = self.copies.shut(word), self.start
         if seconds is not None:
-            place, more = Confined(place.folder, place.seen, own=(self.scratch,)), OWN
-        folder = folder or os.path.normpath(os.path.join(place.seen, self.folder))
-        words = list(self.words) if words is None else words
-        how = is_real, list(self.watched), more, seconds
-        makes = run_make(self.program, place, folder, words, self.scratch, *how)
+            place = Confined(place.folder, place.seen, own=(self.scratch,))
+            start = replace(start, more=OWN)
+        makes = run_make(start, place, self.scratch, Question(is_real, self.watched, seconds))
         if not makes[0].transcript.is_whole:
             said = last_words(makes[0].errors)
             raise Fault(f"GNU make could not read its makefile: {said}{self.hint}")
@@ -141,12 +141,17 @@ def shown_by(front: MakeFolder) -> MakeShown:
     leftovers = Leftovers(front.copies, frozenset(listing(place.folder)), times)
     makes = front.run("read", is_real=False)
     if not front.keep:
-        leftovers = leftovers.found(makes, front.words, front.run)
+        leftovers = leftovers.found(makes, front.words, partial(cleaned, front))
         front.copies.hide(set(leftovers.hidden))
         front = replace(front, hint=leftovers.sentence())
         if leftovers.hidden:
             makes = front.run("read", is_real=False)
     return learned(front, makes, leftovers, times)
+
+
+def cleaned(front: MakeFolder, words: Sequence[str], seconds: float) -> list[Make]:
+    """What make does with these words, by which it cleans, in a copy for that."""
+    return replace(front, words=tuple(words)).run("clean", True, seconds)
 
 
 def shown_with(shown: MakeShown, names: set[str]) -> MakeShown:

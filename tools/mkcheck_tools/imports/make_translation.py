@@ -18,6 +18,7 @@ from mkcheck_tools.imports.real_commands import take_unseen, to_build
 from mkcheck_tools.imports.rereading import changed, is_dependency_file, place_of
 from mkcheck_tools.imports.translating import Translation
 from mkcheck_tools.imports.unchanged import mark_unchanged
+from mkcheck_tools.imports.views import Subject
 
 # How the names of dependency files end.
 DEPENDENCY_ENDINGS = (".d", ".dep", ".deps", ".P", ".Po", ".Plo")
@@ -26,10 +27,11 @@ DEPENDENCY_ENDINGS = (".d", ".dep", ".deps", ".P", ".Po", ".Plo")
 def shown_build(shown: MakeShown) -> Build:
     """The build as `make -n` shows it."""
     front = shown.front
-    translation = Translation(
-        front.copies.seen, shown.makes, shown.files, None, front.wrapper, outer_environment()
+    root, files = front.copies.seen, shown.files
+    subject = Subject(
+        root, shown.makes, files, None, front.wrapper, shown.links, shown.exported
     )
-    translation.links, translation.exported = shown.links, dict(shown.exported)
+    translation = Translation(subject, outer_environment())
     build = translation.translate()
     build.tool = front.version
     name_overlaps(translation)
@@ -51,25 +53,26 @@ def made_build(built: MakeBuilt) -> Build:
     for others in (shown.makes, built.makes, built.later):
         take_longer(makes, others)
     leave_alone(front.copies.seen, makes, shown.times, built.times)
-    translation = Translation(
-        front.copies.seen, makes, shown.files, built.files, front.wrapper, outer_environment()
+    root, files = front.copies.seen, shown.files
+    subject = Subject(
+        root, makes, files, built.files, front.wrapper, built.links, shown.exported
     )
-    translation.links, translation.exported = built.links, dict(shown.exported)
+    translation = Translation(subject, outer_environment())
     build = translation.translate()
     translation.name_failed(built.makes)
     build.made = built.made
     build.tool = front.version
     if reason:
         build.note(f"the commands are those of a real build, not of `make -n`: {reason}")
-    files = built.makefiles.dependencies
-    written = {name for name in files if shown.times.get(name) != built.times.get(name)}
+    dependencies = built.makefiles.dependencies
+    written = {name for name in dependencies if shown.times.get(name) != built.times.get(name)}
     add_later(translation, built.after, written)
     build.unread = unread_dependencies(built)
     if built.unchanged:
         place = front.copies.shut("built")
         mark_unchanged(build, built.unchanged, place, outer_environment())
     name_overlaps(translation)
-    name_makefiles(translation, makes, files)
+    name_makefiles(translation, makes, dependencies)
     name_changes(build, built, makes)
     build.makefiles, build.read_again = built.makefiles.unmade, built.read_again
     build.read_made = shown.read_made - built.read_again

@@ -14,7 +14,7 @@ from mkcheck_tools.faults import Fault
 from mkcheck_tools.imports.builds import Build, Kind, is_foreign, path_name
 from mkcheck_tools.imports.copies import Copies
 from mkcheck_tools.imports.database import Rule
-from mkcheck_tools.imports.gnumake import Make, outer_environment, own_environment
+from mkcheck_tools.imports.gnumake import Make, Start, own_environment
 from mkcheck_tools.imports.readers import ByCommand, Reader, Started
 from mkcheck_tools.imports.rereading import changed, other_needs, place_of, short
 from mkcheck_tools.imports.trying import Trial
@@ -102,24 +102,15 @@ class Readings:
     sentences: list[str] = field(default_factory=list)
     """What couldn't be tried."""
 
-    def follow(
-        self,
-        place: Place,
-        program: str,
-        folder: str,
-        words: list[str],
-        more: dict[str, str],
-        looking: bool = False,
-    ) -> Reader:
-        """Lets a make read its makefiles in a place, and traces it. `more` are further variables of
-        its environment; with `looking` the trace has the names at which it looks too."""
+    def follow(self, place: Place, start: Start, looking: bool = False) -> Reader:
+        """Lets a make read its makefiles in a place, and traces it; with `looking` the trace has
+        the names at which it looks too."""
         scratch = os.path.join(self.copies.scratch, "traced")
         os.makedirs(scratch, exist_ok=True)
-        enter = 'cd "$1" && shift && exec "$@"'
-        command = ["/bin/sh", "-c", enter, "sh", folder, program, "-n", "-k", "-j1", *words]
+        command = start.command("-n", "-k", "-j1")
         reader = Reader(ByCommand(Tree.of(place)), place.seen, is_of_recipe=self.is_of_recipe)
-        environment = {**outer_environment(), **more}
-        done = Tracer(place, environment, scratch).run(command, Watch(looking=looking, texts=True))
+        tracer = Tracer(place, start.environment, scratch)
+        done = tracer.run(command, Watch(looking=looking, texts=True))
         reader.follow(done.calls)
         self.seen.update(reader.accesses.reads, reader.looked, reader.programs, reader.links)
         self.outside.update(dict.fromkeys(reader.accesses.forbidden))
@@ -129,12 +120,10 @@ class Readings:
         """Whether a command is one of a recipe."""
         return command.text in self.recipes or " ".join(command.words) in self.recipes
 
-    def read_in(
-        self, place: Place, program: str, folder: str, words: list[str], more: dict[str, str]
-    ) -> list[str]:
+    def read_in(self, place: Place, start: Start) -> list[str]:
         """The files and links of the project that a make reads in a place and that are no
         makefiles."""
-        reader = self.follow(place, program, folder, words, more, looking=True)
+        reader = self.follow(place, start, looking=True)
         programs = {path_name(place.seen, place.seen, path) for path in reader.programs}
         self.programs |= {name for name in programs if self.is_own(place, name)}
         paths = [path for path in reader.accesses.reads if path not in reader.programs]
@@ -150,13 +139,11 @@ class Readings:
         links = [name for name in links if name not in names and not is_foreign(name)]
         return [*(name for name in names if self.is_data(place, name)), *links]
 
-    def outputs_used(
-        self, place: Place, program: str, folder: str, words: list[str], made: set[str]
-    ) -> set[str]:
+    def outputs_used(self, place: Place, start: Start, made: set[str]) -> set[str]:
         """Those of the files `made` that a make reads beside its makefiles, or at which a program
         looks that it starts when it reads them."""
         try:
-            reader = self.follow(place, program, folder, words, {}, looking=True)
+            reader = self.follow(place, start, looking=True)
         except Fault as fault:
             self.sentences.append(f"{UNKNOWN}: {fault}")
             return set()
@@ -164,13 +151,11 @@ class Readings:
         names = {path_name(place.seen, place.seen, path) for path in paths}
         return {name for name in (names & made) - self.makefiles if self.is_own(place, name)}
 
-    def find_outputs(
-        self, place: Place, program: str, folder: str, words: list[str], made: set[str]
-    ) -> None:
+    def find_outputs(self, place: Place, start: Start, made: set[str]) -> None:
         """Finds those of the files `made` that a make reads beside its makefiles, in a place in
         which all that it makes is there, and out of date."""
         try:
-            reader = self.follow(place, program, folder, words, {})
+            reader = self.follow(place, start)
         except Fault:
             return
         for path, commands in reader.accesses.readers.items():
@@ -178,10 +163,10 @@ class Readings:
             if name in made - self.makefiles and not reader.starting.issuperset(commands):
                 self.outputs.setdefault(name)
 
-    def try_all(self, place: Place, program: str, folder: str, words: list[str]) -> None:
+    def try_all(self, place: Place, start: Start) -> None:
         """Finds the files that make reads in a place, and tries each."""
         try:
-            names = self.read_in(place, program, folder, words, {})
+            names = self.read_in(place, start)
         except Fault as fault:
             self.sentences.append(f"{UNKNOWN}: {fault}")
             return
@@ -225,10 +210,10 @@ class Readings:
         """Names the files that makes read beside their makefiles, for makes that `make -n` doesn't
         start. In this place all that they make is out of date; `words` are macros for them."""
         for make in makes:
-            own = [*make.words, *words]
+            own = own_environment(make.environment)
             try:
                 names = self.read_in(
-                    place, program, make.folder, own, own_environment(make.environment)
+                    place, Start(program, make.folder, (*make.words, *words), own)
                 )
             except Fault as fault:
                 self.sentences.append(f"{UNKNOWN}: {fault}")

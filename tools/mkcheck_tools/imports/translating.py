@@ -15,12 +15,7 @@ from mkcheck_tools.imports.views import Edge, View
 
 
 class Translation(Commands):
-    """The translation of one build.
-
-    `before` and `after` are the files and folders that are there before and after a build, by their
-    names; `after` is None where no build was made. `wrapper` is the path that stands for make in
-    the commands.
-    """
+    """The translation of one build."""
 
     def translate(self) -> Build:
         """The build, without what the build tool knows only after a build."""

@@ -6,6 +6,7 @@ import functools
 import os
 import re
 from collections import deque
+from collections.abc import Mapping
 from dataclasses import dataclass, field
 
 from mkcheck_tools.imports.builds import Build, Node, Origin, path_name
@@ -66,33 +67,38 @@ class Edge:
     late: tuple[str, ...] = ()
 
 
+@dataclass(frozen=True)
+class Subject:
+    """The makes of a build, and what is there before and after it."""
+
+    root: str
+    makes: list[Make]
+    before: set[str]
+    """The names of the files and folders that are there before the build."""
+
+    after: set[str] | None
+    """The same after it; None where no build was made."""
+
+    wrapper: str
+    """The path that stands for make in the commands."""
+
+    links: Mapping[str, str]
+    """Links to folders of the project: the name of each, and that of the folder."""
+
+    exported: Mapping[str, set[str]]
+    """Of each folder the macros that are exported for some targets alone."""
+
+
 class Knowledge:
-    """What is known of one build.
+    """What is known of one build. `outside` is the environment in which its first make starts."""
 
-    `before` and `after` are the files and folders that are there before and after a build, by their
-    names; `after` is None where no build was made. `wrapper` is the path that stands for make in
-    the commands.
-    """
-
-    def __init__(
-        self,
-        root: str,
-        makes: list[Make],
-        before: set[str],
-        after: set[str] | None,
-        wrapper: str,
-        outside: dict[str, str],
-    ) -> None:
-        self.root, self.makes, self.before, self.after = root, makes, before, after
-        self.wrapper = wrapper
-        self.links: dict[str, str] = {}
-        """Links to folders of the project: the name of each, and that of the folder."""
-
-        self.exported: dict[str, set[str]] = {}
-        """Of each folder the macros that are exported for some targets alone."""
-
-        self.outside = own_environment(outside)
-        self.build = Build(root)
+    def __init__(self, subject: Subject, outside: Mapping[str, str]) -> None:
+        self.root, self.makes = subject.root, subject.makes
+        self.before, self.after = subject.before, subject.after
+        self.wrapper = subject.wrapper
+        self.links, self.exported = subject.links, subject.exported
+        self.outside = own_environment(dict(outside))
+        self.build = Build(self.root)
         self.views: dict[tuple[object, ...], View] = {}
         self.starts: list[tuple[Make, str, int]] = []
         self.visited: dict[tuple[int, str], str] = {}
@@ -100,7 +106,7 @@ class Knowledge:
         self.paths: dict[tuple[str, str], str] = {}
         self.texts: dict[tuple[int, str], str] = {}
         self.started: dict[int, list[Make]] = {}
-        for make in makes:
+        for make in self.makes:
             if make.started_by is not None:
                 self.started.setdefault(id(make.started_by), []).append(make)
         self.recipes: dict[str, list[View]] = {}
