@@ -23,7 +23,8 @@ from mkcheck_tools.run.paths import RealPath
 SAVED = "translation.json"
 BOOK = "footprint.json"
 LOG = "import.log"
-RESULTS = ("makefile", FIRST, BOOK, path_of_notes(BOOK), "map.json", SAVED)
+ANSWER = "answer.json"
+RESULTS = ("makefile", FIRST, BOOK, path_of_notes(BOOK), "map.json", SAVED, ANSWER)
 OUTPUT = (*RESULTS, LOG)
 # The folder for what the next import takes, with the recorder's own footprints and their state.
 KEPT = "kept"

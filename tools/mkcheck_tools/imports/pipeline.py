@@ -28,7 +28,7 @@ from mkcheck_tools.imports.answers import AS_FAR_AS_JUDGED, answer_of, counted, 
 from mkcheck_tools.imports.builds import Build
 from mkcheck_tools.imports.configured import configured_files, configuring
 from mkcheck_tools.imports.copies import Copies, listing
-from mkcheck_tools.imports.desk import BOOK, LOG, SAVED, Desk
+from mkcheck_tools.imports.desk import ANSWER, BOOK, LOG, SAVED, Desk
 from mkcheck_tools.imports.gnumake import outer_environment
 from mkcheck_tools.imports.judging import FIRST, BuildVerdict, Judge, RecordingFault, write
 from mkcheck_tools.imports.kept import (
@@ -47,6 +47,7 @@ from mkcheck_tools.imports.request import Request
 from mkcheck_tools.imports.saving import build_of_text, recorded_of_text, text_of_build
 from mkcheck_tools.imports.sentences import Sentences
 from mkcheck_tools.imports.settling import Settling
+from mkcheck_tools.imports.told import Teller
 from mkcheck_tools.imports.tools import Built, NinjaTool, Shown, Tool, program_of, tool_of
 from mkcheck_tools.judge.notes import Kind
 from mkcheck_tools.replay.versions import digest_of
@@ -281,6 +282,7 @@ class Import(Generic[Shown, Built]):
         """Prints the answer, keeps what the next import may take, and gives the status."""
         lines, status = answer(self.request, judged, recording.recorded)
         tell(lines, self.desk)
+        write_answer(judged, self.desk)
         files = self.desk.digests(self.desk.drafts)
         found = Answer(tuple(lines), status, recording.digest, files) if status != 2 else None
         self.desk.keep(replace(kept, made=recording.made(kept.reread), answer=found))
@@ -495,6 +497,12 @@ def tell(lines: Iterable[str], desk: Desk) -> None:
     desk.log += ["", *lines]
 
 
+def write_answer(judged: Judged, desk: Desk) -> None:
+    """Writes the answer for other programs."""
+    teller = Teller(judged.build, judged.footprints, judged.has_first)
+    write(desk.path(ANSWER), teller.answer(judged.verdict))
+
+
 def end_early(build: Build) -> int:
     """The status of a step that was asked for alone."""
     for text in build.problems:
@@ -530,6 +538,7 @@ def saved_step(request: Request, desk: Desk, copies: Copies) -> int:
     judged = judged_by(translated, recording, desk, None)
     lines, status = answer(request, judged, recording.recorded)
     tell(lines, desk)
+    write_answer(judged, desk)
     return status
 
 

@@ -31,7 +31,13 @@ DOING = {
 class Telling:
     """Tells a step every second on a terminal, on one line, else every minute."""
 
-    def __init__(self, stream: TextIO | None = None, apart: float = SECONDS_ELSEWHERE) -> None:
+    def __init__(
+        self,
+        stream: TextIO | None = None,
+        apart: float = SECONDS_ELSEWHERE,
+        program: str = "mkcheck-import",
+    ) -> None:
+        self.program = program
         self.stream = stream or sys.stderr
         self.terminal = self.stream.isatty()
         self.apart = SECONDS_ON_TERMINAL if self.terminal else apart
@@ -41,7 +47,7 @@ class Telling:
         """A line that stays."""
         with self.lock:
             front = CLEAR if self.terminal else ""
-            print(f"{front}mkcheck-import: {text}", file=self.stream, flush=True)
+            print(f"{front}{self.program}: {text}", file=self.stream, flush=True)
 
     def during(self, word: str, look: Callable[[], str], action: Callable[[], Given]) -> Given:
         """Does a step, and tells meanwhile how far it is: `look` gives a text with counts."""
@@ -59,10 +65,14 @@ class Telling:
         finally:
             ended.set()
             teller.join()
+            if self.terminal:
+                self.stream.write(CLEAR)
+                self.stream.flush()
 
     def progress(self, word: str, text: str, seconds: float) -> None:
         """A line on a step that is under way."""
-        shown = f"mkcheck-import: {doing(word, text)}, {duration(seconds)}{how_far(text, seconds)}"
+        far = f"{duration(seconds)}{how_far(text, seconds)}"
+        shown = f"{self.program}: {doing(word, text)}, {far}"
         with self.lock:
             if self.terminal:
                 width = shutil.get_terminal_size().columns
