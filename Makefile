@@ -9,7 +9,7 @@ FUZZ =
 CHECKED =
 
 .PHONY: all build demo proved check cases program edits growths recorder importer
-.PHONY: report importcheck realcheck manuals pages fuzz bench install clean
+.PHONY: audit report importcheck realcheck manuals pages fuzz bench install clean
 
 all: build
 
@@ -82,6 +82,10 @@ recorder: build
 # Tests the importer on small builds, by GNU make, ninja, cmake and strace where these are there.
 importer: build
 	@pytest-3 -q -n 4 tests/importer
+
+# Tests the audit on small projects, by GNU make, ninja, strace and a compiler where these are there.
+audit: build
+	@pytest-3 -q -n 4 tests/audit
 
 # Tests the report, by Graphviz, Chromium, strace and git where these are there.
 report: build

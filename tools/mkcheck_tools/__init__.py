@@ -10,7 +10,7 @@ Rooms, from the bottom up:
 - `gnu`: where GNU make reads a makefile otherwise than POSIX
 - `replay`: runs recipes again in folders of their own, and compares
 - `book`: the footprint file, the state beside it, and what an update keeps
-- `record`, `imports`, `report`: the three programs
+- `record`, `imports`, `report`, `audit`: the four programs; the last one begins the others
 """
 
 VERSION = "0.2.0"

@@ -1,0 +1,1 @@
+"""Tests of mkcheck-audit, over small projects under GNU make and ninja."""

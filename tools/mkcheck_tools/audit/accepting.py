@@ -1,0 +1,58 @@
+"""Findings that a team has accepted, each with its reason."""
+
+from __future__ import annotations
+
+from collections.abc import Iterable, Sequence
+from dataclasses import dataclass, replace
+from fnmatch import fnmatchcase
+
+from mkcheck_tools.audit.verdicts import Finding, Item
+
+
+@dataclass(frozen=True)
+class Accepted:
+    """An entry: the kind of findings, the target and the file, in which `*` stands for any text,
+    and why these are accepted. `origin` is the file that has the entry."""
+
+    kind: str
+    target: str
+    file: str
+    reason: str
+    origin: str
+
+    def fits(self, item: Item) -> bool:
+        """Whether the entry is about a finding."""
+        return (
+            self.kind == item.kind
+            and any(fnmatchcase(target, self.target) for target in item.targets)
+            and fnmatchcase(item.file, self.file)
+        )
+
+    @property
+    def text(self) -> str:
+        """The entry, for people."""
+        return " ".join(word for word in (self.kind, self.target, self.file) if word)
+
+
+@dataclass(frozen=True)
+class Fitted:
+    """Findings with the reasons for which they are accepted, and the entries that fit none."""
+
+    findings: tuple[Finding, ...]
+    unused: tuple[Accepted, ...]
+
+
+def fitted(findings: Iterable[Finding], entries: Sequence[Accepted]) -> Fitted:
+    """Accepts findings by these entries. One that stands for several is accepted where all are."""
+    used: set[Accepted] = set()
+    found = []
+    for finding in findings:
+        reasons: dict[str, None] = {}
+        is_accepted = True
+        for item in finding.items:
+            fitting = [entry for entry in entries if entry.fits(item)]
+            used.update(fitting)
+            is_accepted = is_accepted and bool(fitting)
+            reasons.update((entry.reason, None) for entry in fitting)
+        found.append(replace(finding, reasons=tuple(reasons)) if is_accepted else finding)
+    return Fitted(tuple(found), tuple(entry for entry in entries if entry not in used))

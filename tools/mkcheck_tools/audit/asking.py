@@ -1,0 +1,72 @@
+"""What an audit is asked for: by its words, and by the project's settings."""
+
+from __future__ import annotations
+
+import os
+from collections.abc import Sequence
+from dataclasses import dataclass, field
+
+from mkcheck_tools.audit.accepting import Accepted
+from mkcheck_tools.audit.readers import Reader, Wanted
+from mkcheck_tools.audit.settings import Settings
+from mkcheck_tools.run.paths import RealPath
+
+TEXT, JSON, SARIF, GITHUB, HTML = "text", "json", "sarif", "github", "html"
+FORMATS = (TEXT, JSON, SARIF, GITHUB, HTML)
+
+
+@dataclass(frozen=True)
+class Output:
+    """A form of the answer, and the file it goes to; standard output without one."""
+
+    form: str
+    path: str | None = None
+
+
+@dataclass(frozen=True)
+class Asked:
+    """An audit: of which project, and what becomes of the answer."""
+
+    root: RealPath
+    below: str = "."
+    makefile: str | None = None
+    reader: str | None = None
+    words: tuple[str, ...] = ()
+    """Goals and macro operands."""
+
+    fixed: tuple[str, ...] = ()
+    trusted: tuple[str, ...] = ()
+    jobs: int | None = None
+    replay: bool = True
+    allow_unjudged: bool = False
+    accepted: tuple[Accepted, ...] = ()
+    outputs: tuple[Output, ...] = field(default=(Output(TEXT),))
+
+    @property
+    def wanted(self) -> Wanted:
+        """What is to be read."""
+        return Wanted(self.root, self.below, self.makefile, self.reader, self.words)
+
+    def wanted_by(self, reader: Reader) -> Wanted:
+        """The same by the reader that was picked. A makefile that mkcheck takes by itself isn't
+        named to it."""
+        return Wanted(self.root, reader.below, self.makefile, reader.kind, self.words)
+
+
+def words_over(given: Sequence[str], settings: Settings) -> tuple[str, ...]:
+    """Goals and macros of the command line, and those of the settings that it leaves open."""
+    macros = {name_of(word): word for word in settings.macros}
+    macros.update((name_of(word), word) for word in given if "=" in word)
+    goals = [word for word in given if "=" not in word]
+    return (*macros.values(), *(goals or settings.goals))
+
+
+def name_of(word: str) -> str:
+    """The name of a macro operand."""
+    return word.partition("=")[0].rstrip(": \t")
+
+
+def use_processors(jobs: int | None) -> None:
+    """Lets this program, and all that it starts, use so many processors at most."""
+    if jobs is not None and hasattr(os, "sched_setaffinity"):
+        os.sched_setaffinity(0, sorted(os.sched_getaffinity(0))[:jobs])

@@ -1,0 +1,71 @@
+"""The lines of makefiles, and where a word stands in one."""
+
+from __future__ import annotations
+
+import os
+import re
+from dataclasses import dataclass, field
+
+from mkcheck_tools.answers.graphs import goes_on
+from mkcheck_tools.audit.verdicts import Spot
+
+# What may stand between the lines of a recipe: comments, and conditionals of GNU make.
+BETWEEN = re.compile(r"\s*(?:#|(?:ifeq|ifneq|ifdef|ifndef|else|endif)\b)")
+
+
+@dataclass
+class Sources:
+    """The texts of files below a project's folder, each read once."""
+
+    root: str
+    texts: dict[str, list[str]] = field(default_factory=dict)
+
+    def line(self, spot: Spot) -> str | None:
+        """The line of a place; None where there is none."""
+        if spot.line is None:
+            return None
+        lines = self.lines(spot.file)
+        return lines[spot.line - 1] if 1 <= spot.line <= len(lines) else None
+
+    def lines(self, name: str) -> list[str]:
+        """The lines of a file; none where it can't be read."""
+        if name not in self.texts:
+            try:
+                with open(os.path.join(self.root, name), "rb") as file:
+                    text = file.read().decode("utf-8", "surrogateescape")
+            except OSError:
+                text = ""
+            self.texts[name] = [line.removesuffix("\r") for line in text.split("\n")]
+        return self.texts[name]
+
+
+def mark_of(line: str, targets: tuple[str, ...]) -> tuple[int, int]:
+    """Where the mark belongs under a line, and how long it is: under a target, as the line has it,
+    else under all that stands before the colon."""
+    for target in targets:
+        names = dict.fromkeys([target, os.path.basename(target)])
+        for name in filter(None, names):
+            found = re.search(rf"(?<![\w./%-]){re.escape(name)}(?![\w./%-])", line)
+            if found is not None:
+                return found.start(), len(name)
+    start = len(line) - len(line.lstrip())
+    front = line[start:].partition(":")[0].rstrip()
+    return start, max(len(front), 1)
+
+
+def rule_line(lines: list[str], line: int | None) -> int | None:
+    """The line that begins the rule whose recipe, or whose rule line, a line is."""
+    if line is None or not 1 <= line <= len(lines):
+        return line
+    number = line
+    while number > 1 and is_within(lines, number):
+        number -= 1
+    return line if is_within(lines, number) or ":" not in lines[number - 1] else number
+
+
+def is_within(lines: list[str], number: int) -> bool:
+    """Whether a line doesn't begin a rule: one of a recipe, an empty one, a comment, a line of a
+    conditional, or one that goes on with the line before it."""
+    text = lines[number - 1]
+    goes = number > 1 and goes_on(lines[number - 2])
+    return goes or text.startswith("\t") or not text.strip() or bool(BETWEEN.match(text))

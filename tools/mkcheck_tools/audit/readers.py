@@ -1,0 +1,151 @@
+"""Which reader a project's build needs: POSIX's makefile language, GNU make or ninja."""
+
+from __future__ import annotations
+
+import json
+import os
+import re
+import sys
+from dataclasses import dataclass, replace
+from pathlib import Path
+
+from mkcheck_tools.answers.checkers import Checker, find_checker
+from mkcheck_tools.answers.graphs import read_graph
+from mkcheck_tools.faults import Fault
+from mkcheck_tools.run.paths import RealPath
+from mkcheck_tools.run.places import Place
+
+POSIX, MAKE, NINJA = "posix", "make", "ninja"
+READERS = (POSIX, MAKE, NINJA)
+GNU_ALONE = "GNUmakefile"
+MAKEFILES = (GNU_ALONE, "makefile", "Makefile")
+NINJA_FILE = "build.ninja"
+# A command that starts a make, which a recipe of a footprint can't.
+STARTS_MAKE = re.compile(r"(?:^|[\s;&|(])g?make(?:\s|$)")
+# What a folder of a configured build holds, beside the build itself.
+CONFIGURED = ("CMakeCache.txt", os.path.join("meson-private", "coredata.dat"))
+# What has to be run where a project has no build yet.
+BEFORE = (
+    ("CMakeLists.txt", "run `cmake -S . -B build`"),
+    ("meson.build", "run `meson setup build`"),
+    ("configure", "run ./configure"),
+    ("configure.ac", "run `autoreconf -i` and ./configure"),
+)
+
+
+@dataclass(frozen=True)
+class Wanted:
+    """What is to be read: the project's folder, the folder below it in which the tool is started,
+    the makefile and the reader, if these were asked for, goals and macros."""
+
+    root: RealPath
+    below: str = "."
+    makefile: str | None = None
+    reader: str | None = None
+    words: tuple[str, ...] = ()
+
+
+@dataclass(frozen=True)
+class Reader:
+    """A reader, the folder in which its tool is started, the file that it reads first, and why it
+    was picked."""
+
+    kind: str
+    below: str
+    file: str
+    why: str
+
+    @property
+    def path(self) -> str:
+        """The file's path from the project's folder."""
+        return os.path.normpath(os.path.join(self.below, self.file))
+
+    @property
+    def line(self) -> str:
+        """What is told of it."""
+        return f"{self.path} is read as {self.why}"
+
+
+def picked(wanted: Wanted) -> Reader:
+    """The reader for a project. Raises Fault where there is nothing to read."""
+    below = found_below(wanted)
+    folder = Path(wanted.root, below)
+    file = wanted.makefile or first_of(folder)
+    if file is None:
+        raise Fault(no_build(Path(wanted.root)))
+    if not (folder / file).exists():
+        raise Fault(f"{os.path.join(below, file)}: there is no such file")
+    if wanted.reader == NINJA or (wanted.reader is None and file.endswith(".ninja")):
+        return Reader(NINJA, below, file, "ninja reads it")
+    if wanted.reader == MAKE:
+        return Reader(MAKE, below, file, "GNU make reads it")
+    reason = "" if below != "." else why_not_posix(replace(wanted, makefile=file))
+    if wanted.reader == POSIX:
+        return Reader(POSIX, ".", file, "POSIX defines make")
+    if below != "." or reason:
+        return Reader(MAKE, below, file, f"GNU make reads it{f', since {reason}' * bool(reason)}")
+    return Reader(POSIX, ".", file, "POSIX defines make")
+
+
+def found_below(wanted: Wanted) -> str:
+    """The folder in which the tool is started: as asked, else the project's own, where it has a
+    build, else the only configured one in it."""
+    if wanted.below != "." or wanted.makefile or first_of(Path(wanted.root)) is not None:
+        return os.path.normpath(wanted.below)
+    inside = [path for path in sorted(Path(wanted.root).iterdir()) if path.is_dir()]
+    found = [path.name for path in inside if is_configured(path)]
+    if len(found) > 1:
+        raise Fault(
+            f"{wanted.root} has several build folders ({', '.join(found[:5])}): name one with -S"
+        )
+    return found[0] if found else "."
+
+
+def is_configured(folder: Path) -> bool:
+    """Whether a folder is one in which CMake or Meson wrote a build."""
+    return first_of(folder) is not None and any((folder / name).exists() for name in CONFIGURED)
+
+
+def first_of(folder: Path) -> str | None:
+    """The file that a build tool reads first in a folder; None where there is none."""
+    for name in (*MAKEFILES, NINJA_FILE):
+        if (folder / name).is_file():
+            return name
+    return None
+
+
+def no_build(root: Path) -> str:
+    """The sentence where a folder has no build, with what makes one where that is seen."""
+    front = f"{root} has no makefile and no build.ninja"
+    for name, command in BEFORE:
+        if (root / name).exists():
+            return f"{front} yet: {command}, and then mkcheck-audit again"
+    return f"{front}: give the folder of a project with -C"
+
+
+def why_not_posix(wanted: Wanted) -> str:
+    """Why a makefile has to be read by GNU make, as a clause; empty where it hasn't."""
+    if wanted.makefile == GNU_ALONE:
+        return f"POSIX has no {GNU_ALONE}"
+    checker = checker_of(wanted)
+    reply = checker.ask("graph", "-c")
+    if reply.status != 0:
+        place = json.loads(checker.ask("check", "--json", "-b", os.devnull).text).get("place")
+        return f"{place['file']}:{place['line']} isn't POSIX's" if place else "it isn't POSIX's"
+    recipes = read_graph(reply.shown).recipes
+    for recipe in recipes:
+        if any(STARTS_MAKE.search(line) for line in recipe.lines):
+            return f"the recipe of {recipe.target} starts make"
+    return ""
+
+
+def checker_of(wanted: Wanted, book: str = "") -> Checker:
+    """The program mkcheck, for a makefile and footprints in the project's folder."""
+    program = find_checker(own_folder())
+    options = ("-f", wanted.makefile) if wanted.makefile else ()
+    return Checker(program, Place.of(wanted.root), options, wanted.words, book)
+
+
+def own_folder() -> Path:
+    """The folder of this program, in which the others lie too."""
+    return Path(sys.argv[0]).resolve().parent

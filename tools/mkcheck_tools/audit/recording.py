@@ -1,0 +1,162 @@
+"""Has a POSIX makefile's build recorded, or its footprints brought up to date, and judged."""
+
+from __future__ import annotations
+
+import json
+import os
+import shutil
+import sys
+from collections.abc import Sequence
+from pathlib import Path
+from typing import Any
+
+from mkcheck_tools.answers.checkers import NO, REFUSED
+from mkcheck_tools.audit.asking import Asked
+from mkcheck_tools.audit.readers import Reader, Wanted, checker_of, own_folder
+from mkcheck_tools.audit.verdicts import Audited, Finding, Mend, Spot
+from mkcheck_tools.book.choices import Choice
+from mkcheck_tools.book.earlier import choice_before
+from mkcheck_tools.book.footprint_files import read_footprints
+from mkcheck_tools.book.note_files import read_notes
+from mkcheck_tools.book.paths import path_of_notes, path_of_stamps, path_of_state
+from mkcheck_tools.faults import Fault
+from mkcheck_tools.imports.copies import Tail, run_here
+from mkcheck_tools.imports.recorded import lines_of
+from mkcheck_tools.imports.telling import Telling
+from mkcheck_tools.run.folders import prefix_of
+from mkcheck_tools.run.places import Place
+
+FORMAT = 1
+TOOL = "POSIX make"
+BOOK = os.path.join(".mkcheck", "footprint.json")
+# Kinds by which a recipe has no footprint, so that nothing is known of it.
+UNRECORDED = ("record", "commands")
+
+
+def program(name: str) -> str:
+    """One of the other programs, which lies beside this one, or on the search path."""
+    beside = own_folder() / name
+    found = str(beside) if beside.exists() else shutil.which(name)
+    if found is None:
+        raise Fault(f"{name} isn't there: it belongs beside mkcheck-audit")
+    return found
+
+
+def audit_of_makefile(asked: Asked, reader: Reader) -> Audited:
+    """Records what has changed, and judges."""
+    wanted = asked.wanted_by(reader)
+    failures = recorded(asked, wanted)
+    return judged(wanted, failures)
+
+
+def recorded(asked: Asked, wanted: Wanted) -> list[str]:
+    """Brings the footprints up to date; gives the recorder's sentences on recipes without one."""
+    book = Path(wanted.root, BOOK)
+    forget_other_choice(str(book), choice_of(asked, wanted))
+    before = stamp_of(book)
+    tail = Tail()
+    words = [sys.executable, program("mkcheck-record"), "-C", wanted.root, "--update", str(book)]
+    words += ["-f", wanted.makefile] if wanted.makefile else []
+    words += [word for prefix in asked.fixed for word in ("--fixed", prefix)]
+    words += [word for target in asked.trusted for word in ("--trust", target)]
+    words += [] if asked.replay else ["--no-replay"]
+    words += ["--", *wanted.words]
+    environment = {**os.environ, "MKCHECK": checker_of(wanted).program}
+    place = Place.of(wanted.root)
+    status, said, errors = Telling(program="mkcheck-audit").during(
+        "record", tail.text, lambda: run_here(place, words, environment, tail)
+    )
+    lines = lines_of(said + errors, asked.trusted)
+    if status not in (0, 1) or not book.exists() or (status == 1 and stamp_of(book) == before):
+        raise Fault(f"the build can't be recorded:\n{said_of(said + errors)}")
+    return lines.failures
+
+
+def said_of(text: str) -> str:
+    """What the recorder said, without its lines of progress."""
+    lines = [line for line in text.splitlines() if line.strip() and not line.startswith("[")]
+    return "\n".join(f"    {line.removeprefix('mkcheck-record: ')}" for line in lines)
+
+
+def stamp_of(path: Path) -> tuple[int, int] | None:
+    """What tells a file from one that is written in its place; None where there is none."""
+    try:
+        status = path.stat()
+    except OSError:
+        return None
+    return status.st_ino, status.st_mtime_ns
+
+
+def choice_of(asked: Asked, wanted: Wanted) -> Choice:
+    """What is asked for, as the recorder keeps it."""
+    steady = tuple(one for one in asked.fixed if os.path.isfile(os.path.join(wanted.root, one)))
+    prefixes = tuple(prefix_of(one) for one in asked.fixed if one not in steady)
+    return Choice(
+        wanted.makefile, False, prefixes, tuple(wanted.words), tuple(asked.trusted), (), steady
+    )
+
+
+def forget_other_choice(book: str, choice: Choice) -> None:
+    """Removes footprints that were asked for in another way: an update would take from these what
+    isn't asked for now."""
+    if choice.over(choice_before(book)) != choice:
+        for path in (book, path_of_notes(book), path_of_state(book), path_of_stamps(book)):
+            Path(path).unlink(missing_ok=True)
+
+
+def judged(wanted: Wanted, failures: Sequence[str]) -> Audited:
+    """The answer of mkcheck, over the footprints that there are."""
+    checker = checker_of(wanted, BOOK)
+    reply = checker.ask("check", "--json")
+    answer = json.loads(reply.text)
+    if answer["format"] != FORMAT:
+        raise Fault(f"{checker.program} is of another release: install it and mkcheck-audit anew")
+    makefile = checker.makefile
+    if reply.status == REFUSED:
+        return Audited(makefile, TOOL, refused=answer["sentence"])
+    noted = read_notes(os.path.join(wanted.root, BOOK))
+    if reply.status != NO:
+        recipes, reads = answer["recipes"], answer["reads"]
+        return Audited(makefile, TOOL, notes=noted.notes, recipes=recipes, reads=reads)
+    records = read_footprints(os.path.join(wanted.root, BOOK)).records
+    lacking = [group for group in answer["groups"] if group["kind"] in UNRECORDED]
+    groups = [group for group in answer["groups"] if group["kind"] not in UNRECORDED]
+    missing = {target for group in lacking for target in group["targets"]}
+    unjudged = [f"{spot_of(group, makefile)}: {group['sentence']}" for group in lacking]
+    return Audited(
+        makefile,
+        TOOL,
+        tuple(finding_of(group, makefile) for group in groups),
+        tuple(finding_of(group, makefile) for group in answer["later"]),
+        noted.notes,
+        (*unjudged, *failures),
+        len({*records, *missing}),
+        sum(len(record.reads) for record in records.values()),
+        len(missing),
+    )
+
+
+def spot_of(group: dict[str, Any], makefile: str) -> Spot:
+    """Where a group of `check --json` stands."""
+    place = group["place"]
+    return Spot(place["file"], place["line"]) if place else Spot(makefile)
+
+
+def finding_of(group: dict[str, Any], makefile: str) -> Finding:
+    """A group of `check --json`."""
+    spot = spot_of(group, makefile)
+    return Finding(
+        group["kind"],
+        spot,
+        group["sentence"],
+        tuple(group["targets"]),
+        tuple(group["files"]),
+        tuple(mend_of(line, spot) for line in (group["add"] or "").splitlines()),
+        group["do"] or "",
+    )
+
+
+def mend_of(line: str, spot: Spot) -> Mend:
+    """A line to add."""
+    targets, _, words = line.partition(":")
+    return Mend(spot, tuple(targets.split()), tuple(words.split()))

@@ -1,0 +1,184 @@
+"""The answer as lines for people: findings with the makefile's line and a mark, then what is known
+besides, then a line of counts and one of what to do."""
+
+from __future__ import annotations
+
+import os
+from collections.abc import Iterable, Mapping
+from dataclasses import dataclass, field
+from typing import TextIO
+
+from mkcheck_tools.audit.accepting import Accepted
+from mkcheck_tools.audit.makefile_lines import Sources, mark_of
+from mkcheck_tools.audit.verdicts import Audited, Finding, Mend, number_of
+from mkcheck_tools.judge.notes import Note
+from mkcheck_tools.report.escaping import counted, shortened, visible
+
+NAMES_AT_MOST = 6
+WIDTH_AT_MOST = 200
+BOLD, RED, GREEN, YELLOW, SOFT, PLAIN = "1", "31", "32", "33", "2", "0"
+
+
+@dataclass(frozen=True)
+class Paint:
+    """Colours a text, or leaves it as it is."""
+
+    colours: bool = False
+
+    @classmethod
+    def of(cls, stream: TextIO, environment: Mapping[str, str]) -> Paint:
+        """Colours on a terminal, unless NO_COLOR is set, or the terminal has none."""
+        wanted = not environment.get("NO_COLOR") and environment.get("TERM") != "dumb"
+        return cls(wanted and stream.isatty())
+
+    def __call__(self, text: str, *codes: str) -> str:
+        """A text in these colours."""
+        return f"\033[{';'.join(codes)}m{text}\033[0m" if self.colours and text else text
+
+
+@dataclass
+class Writer:
+    """Writes an answer. `sources` has the lines of the makefiles."""
+
+    sources: Sources
+    paint: Paint = Paint()
+    lines: list[str] = field(default_factory=list)
+
+    def whole(self, audited: Audited, unused: Iterable[Accepted], next_step: str) -> str:
+        """The whole answer. `unused` are entries on accepted findings that fit none."""
+        self.findings(audited.open)
+        self.listed("Once these are mended, as far as can be seen now:", sentences(audited.later))
+        self.listed("Not judged:", audited.unjudged)
+        self.listed("Doubts, by which this answer may be wrong:", grouped(audited.doubts))
+        self.listed("Accepted:", map(accepted_line, audited.accepted))
+        self.listed(
+            "Accepted, and found no more, so remove these:",
+            (f"{entry.origin}: {entry.text} ({entry.reason})" for entry in unused),
+        )
+        self.listed("To know:", audited.remarks)
+        self.lines.append(self.paint(visible(headline(audited)), BOLD, colour_of(audited)))
+        self.lines += [next_step] if next_step else []
+        return "".join(f"{line}\n" for line in self.lines)
+
+    def mend(self, mend: Mend) -> str:
+        """A line to add."""
+        return f"    add: {self.paint(visible(mend_text(mend)), GREEN)}"
+
+    def findings(self, findings: Iterable[Finding]) -> None:
+        """Findings at their lines; those that are mended by the same line at the same place are
+        told together."""
+        together: dict[object, list[Finding]] = {}
+        for finding in findings:
+            key = (finding.spot, finding.mends) if finding.mends else id(finding)
+            together.setdefault(key, []).append(finding)
+        for group in together.values():
+            for finding in group:
+                front = self.paint(visible(f"{finding.spot}: "), BOLD)
+                kind = self.paint(f" [{finding.kind}]", SOFT)
+                self.lines.append(f"{front}{visible(finding.sentence)}{kind}")
+            self.excerpt(group[0])
+            self.lines += [self.mend(one) for one in group[0].mends]
+            self.lines += [f"    do: {visible(one.advice)}" for one in group if one.advice]
+            self.lines.append("")
+
+    def excerpt(self, finding: Finding) -> None:
+        """The line of the makefile, with a mark under the word."""
+        text = self.sources.line(finding.spot)
+        if text is None:
+            return
+        shown = visible(text).expandtabs(8)
+        if len(shown) > WIDTH_AT_MOST:
+            shown = shown[:WIDTH_AT_MOST] + " .."
+        start, length = mark_of(shown, finding.targets)
+        number = f"{finding.spot.line:5}"
+        self.lines.append(f"{self.paint(f'{number} |', SOFT)} {shown}")
+        mark = self.paint("^" + "~" * (length - 1), RED)
+        self.lines.append(f"{self.paint('      |', SOFT)} {' ' * start}{mark}")
+
+    def listed(self, heading: str, texts: Iterable[str]) -> None:
+        """A list with its heading; nothing where it is empty."""
+        shown = [f"    {visible(text)}" for text in texts]
+        if shown:
+            self.lines += [self.paint(heading, BOLD), *shown, ""]
+
+
+def mend_text(mend: Mend) -> str:
+    """A line to add, with what has to change in a recipe that would take its words too."""
+    if not mend.takes_all:
+        return mend.text
+    words, macro = " ".join(mend.words), mend.takes_all
+    return f"{mend.text}   (and in the recipe $(filter-out {words},{macro}) for {macro})"
+
+
+def sentences(findings: Iterable[Finding]) -> Iterable[str]:
+    """Findings as a line each."""
+    return (f"{one.spot}: {one.sentence} [{one.kind}]" for one in findings)
+
+
+def accepted_line(finding: Finding) -> str:
+    """A finding that was accepted, with the reason."""
+    return f"{finding.spot}: {finding.sentence} [{finding.kind}] ({'; '.join(finding.reasons)})"
+
+
+def grouped(notes: Iterable[Note]) -> list[str]:
+    """Notes of a kind as one line, where there are several."""
+    kinds: dict[str, list[Note]] = {}
+    for note in notes:
+        kinds.setdefault(note.kind.word, []).append(note)
+    lines = []
+    for those in kinds.values():
+        if len(those) == 1:
+            lines.append(those[0].text)
+            continue
+        names = list(dict.fromkeys(note.target for note in those if note.target))
+        lines.append(f"{those[0].kind.about} ({listing(names, len(those))})")
+    return lines
+
+
+def listing(names: list[str], number: int) -> str:
+    """Some names, and how many more there are; the number alone where there are none."""
+    shown = [shortened(name) for name in names[:NAMES_AT_MOST]]
+    more = len(names) - len(shown)
+    return ", ".join(shown) + (f" and {more} more" if more else "") if names else f"{number} times"
+
+
+def headline(audited: Audited) -> str:
+    """The line of counts. Beside what was accepted or not judged it is never a plain yes."""
+    if audited.refused:
+        return f"no answer: {audited.refused}"
+    left_out = unjudged_count(audited)
+    if audited.open:
+        said = f"no: {counted(number_of(audited.open), 'finding')}"
+        more = [f"{number_of(audited.accepted)} accepted" * bool(audited.accepted), left_out]
+        said += "".join(f", {text}" for text in more if text)
+    else:
+        but = f"{counted(number_of(audited.accepted), 'finding')} that you accepted"
+        parts = [but * bool(audited.accepted), left_out]
+        reasons = " and ".join(text for text in parts if text)
+        said = f"yes, but for {reasons}" if reasons else "yes"
+    doubts = counted(len(audited.doubts), "doubt")
+    said += f", with {doubts}" if audited.doubts else ""
+    judged = audited.recipes - audited.unjudged_recipes
+    return f"{said} ({judged} of {counted(audited.recipes, 'recipe')} judged)"
+
+
+def unjudged_count(audited: Audited) -> str:
+    """How much couldn't be judged; empty where all was."""
+    if not audited.unjudged:
+        return ""
+    if audited.unjudged_recipes:
+        return f"{counted(audited.unjudged_recipes, 'recipe')} not judged"
+    return f"{counted(len(audited.unjudged), 'question')} not judged"
+
+
+def colour_of(audited: Audited) -> str:
+    """The colour of an answer."""
+    if audited.open or audited.refused:
+        return RED
+    return YELLOW if audited.accepted or audited.unjudged or audited.doubts else GREEN
+
+
+def is_in_ci(environment: Mapping[str, str] | None = None) -> bool:
+    """Whether this runs in a CI job."""
+    found = (os.environ if environment is None else environment).get("CI", "")
+    return found.lower() not in ("", "0", "false", "no")

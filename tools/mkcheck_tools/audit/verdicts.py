@@ -1,0 +1,146 @@
+"""What an audit finds, at the lines of the makefiles that people write."""
+
+from __future__ import annotations
+
+from collections.abc import Iterable
+from dataclasses import dataclass, field, replace
+
+from mkcheck_tools.judge.notes import Note
+
+YES, NO, NONE = "yes", "no", "none"
+
+
+@dataclass(frozen=True)
+class Spot:
+    """A line of a file; the file is a path from the project's folder. Without a line it is the
+    whole file."""
+
+    file: str
+    line: int | None = None
+
+    def __str__(self) -> str:
+        return self.file if self.line is None else f"{self.file}:{self.line}"
+
+
+@dataclass(frozen=True)
+class Mend:
+    """A line to add: targets, and the prerequisites that their rule lacks."""
+
+    spot: Spot
+    """The rule that lacks them; without a line no rule is known."""
+
+    targets: tuple[str, ...]
+    words: tuple[str, ...]
+
+    takes_all: str = ""
+    """The macro by which the recipe takes all prerequisites, as `$^`; empty without one."""
+
+    @property
+    def text(self) -> str:
+        """The line."""
+        return f"{' '.join(self.targets)}: {' '.join(self.words)}"
+
+
+@dataclass(frozen=True)
+class Item:
+    """A single finding: its kind, the targets whose recipes it is about, and the file, if there is
+    one."""
+
+    kind: str
+    targets: tuple[str, ...]
+    file: str = ""
+
+
+@dataclass(frozen=True)
+class Finding:
+    """What is wrong, in a sentence: one finding, or several that say the same of several targets
+    and files."""
+
+    kind: str
+    spot: Spot
+    sentence: str
+    targets: tuple[str, ...]
+    files: tuple[str, ...] = ()
+    mends: tuple[Mend, ...] = ()
+    advice: str = ""
+    """What else to do, where no line mends it; empty where the sentence says so."""
+
+    reasons: tuple[str, ...] = ()
+    """Where it was accepted, the reasons for that, each once."""
+
+    @property
+    def items(self) -> list[Item]:
+        """The single findings."""
+        files = self.files or ("",)
+        if self.kind == "writers":
+            return [Item(self.kind, self.targets, file) for file in files]
+        if self.kind == "loose":
+            return [Item(self.kind, (target,), target) for target in self.targets]
+        return [Item(self.kind, (target,), file) for target in self.targets for file in files]
+
+    @property
+    def is_accepted(self) -> bool:
+        """Whether all of it was accepted."""
+        return bool(self.reasons)
+
+
+@dataclass(frozen=True)
+class Audited:
+    """An audit: what was judged, and what was found of it."""
+
+    makefile: str
+    """The makefile, or build.ninja: a path from the project's folder."""
+
+    tool: str
+    """Who reads it, for people: `POSIX make`, or a build tool with its version."""
+
+    findings: tuple[Finding, ...] = ()
+    later: tuple[Finding, ...] = ()
+    """Findings that the others hide, as far as they can be seen now."""
+
+    notes: tuple[Note, ...] = ()
+    unjudged: tuple[str, ...] = ()
+    """What couldn't be judged, in sentences."""
+
+    recipes: int = 0
+    reads: int = 0
+    unjudged_recipes: int = 0
+    generators: dict[str, str] = field(default_factory=dict)
+    """Makefiles that a tool writes, each with a clause on where a change belongs."""
+
+    remarks: tuple[str, ...] = ()
+    """What else an answer rests on, in sentences."""
+
+    refused: str = ""
+    """Why there is no answer; empty where there is one."""
+
+    @property
+    def open(self) -> list[Finding]:
+        """The findings that nobody accepted."""
+        return [one for one in self.findings if not one.is_accepted]
+
+    @property
+    def accepted(self) -> list[Finding]:
+        """The findings that were accepted."""
+        return [one for one in self.findings if one.is_accepted]
+
+    @property
+    def doubts(self) -> list[Note]:
+        """The notes for which a yes may be wrong."""
+        return [note for note in self.notes if note.is_doubt]
+
+    @property
+    def answer(self) -> str:
+        """The answer in a word: a yes also beside what was accepted and what wasn't judged."""
+        if self.refused:
+            return NONE
+        return NO if self.open else YES
+
+    def with_findings(self, findings: Iterable[Finding]) -> Audited:
+        """The same with other findings."""
+        return replace(self, findings=tuple(findings))
+
+
+def number_of(findings: Iterable[Finding]) -> int:
+    """How many single findings some stand for."""
+    return sum(len(one.items) for one in findings)
