@@ -18,7 +18,7 @@ class Sources:
     """The texts of files below a project's folder, each read once."""
 
     root: str
-    texts: dict[str, list[str]] = field(default_factory=dict)
+    texts: dict[str, str] = field(default_factory=dict)
 
     def line(self, spot: Spot) -> str | None:
         """The line of a place; None where there is none."""
@@ -28,14 +28,18 @@ class Sources:
         return lines[spot.line - 1] if 1 <= spot.line <= len(lines) else None
 
     def lines(self, name: str) -> list[str]:
-        """The lines of a file; none where it can't be read."""
+        """The lines of a file, without their ends; none where it can't be read."""
+        return [line.removesuffix("\r") for line in self.text(name).split("\n")]
+
+    def text(self, name: str) -> str:
+        """The text of a file, with surrogates for bytes that aren't UTF-8; nothing where it can't
+        be read."""
         if name not in self.texts:
             try:
                 with open(os.path.join(self.root, name), "rb") as file:
-                    text = file.read().decode("utf-8", "surrogateescape")
+                    self.texts[name] = file.read().decode("utf-8", "surrogateescape")
             except OSError:
-                text = ""
-            self.texts[name] = [line.removesuffix("\r") for line in text.split("\n")]
+                self.texts[name] = ""
         return self.texts[name]
 
 

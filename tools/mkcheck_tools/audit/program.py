@@ -5,21 +5,26 @@ from __future__ import annotations
 import argparse
 import os
 import sys
+import time
+from dataclasses import dataclass
 from functools import partial
 from pathlib import Path
 
 from mkcheck_tools import VERSION
-from mkcheck_tools.audit.accepting import Fitted, fitted
+from mkcheck_tools.audit.accepting import Accepted, fitted
 from mkcheck_tools.audit.asking import Asked, use_processors, words_over
 from mkcheck_tools.audit.importing import audit_of_build
 from mkcheck_tools.audit.makefile_lines import Sources
+from mkcheck_tools.audit.mending import Mending, mending_of, texts_of
 from mkcheck_tools.audit.readers import POSIX, READERS, Reader, picked
 from mkcheck_tools.audit.recording import audit_of_makefile
 from mkcheck_tools.audit.settings import NAME, settings_in
-from mkcheck_tools.audit.texts import Paint, Writer
-from mkcheck_tools.audit.verdicts import Audited
+from mkcheck_tools.audit.texts import Paint, Writer, headline
+from mkcheck_tools.audit.verdicts import Audited, number_of
+from mkcheck_tools.audit.writing import patch, write_all
 from mkcheck_tools.faults import Fault
-from mkcheck_tools.run.ending import ended
+from mkcheck_tools.report.escaping import counted, visible
+from mkcheck_tools.run.ending import ended, write_out
 from mkcheck_tools.run.paths import resolved
 
 TOOL = "mkcheck-audit"
@@ -43,6 +48,9 @@ def words_of(arguments: list[str]) -> argparse.Namespace:
     add("-S", metavar="SUB", default=".", help="the folder below DIR in which the tool is started")
     add("-f", metavar="FILE", help="the makefile; else the one that make would read")
     add("--from", dest="reader", choices=READERS, help="who reads it; else this is found out")
+    mend = parser.add_mutually_exclusive_group()
+    mend.add_argument("--diff", action="store_true", help="show the lines to add, as a patch")
+    mend.add_argument("--fix", action="store_true", help="write the lines, and audit again")
     add("--allow-unjudged", action="store_true", help="status 0 also where not all was judged")
     add("--no-replay", action="store_true", help="don't run each recipe again, and say so")
     add("words", metavar="WORD", nargs="*", help="a goal, or a macro where it has an =")
@@ -72,18 +80,67 @@ def asked_by(words: argparse.Namespace) -> Asked:
     )
 
 
+@dataclass(frozen=True)
+class Answer:
+    """An audit, with the entries on accepted findings that fit none, and what mends the others."""
+
+    audited: Audited
+    unused: tuple[Accepted, ...]
+    sources: Sources
+    mending: Mending
+
+
 def audit(words: argparse.Namespace) -> int:
     """Audits, tells the answer, and gives the status."""
+    begun = time.time_ns()
     asked = asked_by(words)
     use_processors(asked.jobs)
     reader = picked(asked.wanted)
-    print(f"{TOOL}: {reader.line}", file=sys.stderr, flush=True)
+    tell(reader.line)
     make_store(asked)
+    answer = answer_of(asked, reader)
+    if words.diff:
+        show_patch(answer)
+        return status_of(answer.audited, asked.allow_unjudged)
+    if words.fix and answer.mending.additions:
+        fix(asked, answer, begun)
+        answer = answer_of(asked, reader)
+    write_answer(asked, answer)
+    return status_of(answer.audited, asked.allow_unjudged)
+
+
+def tell(text: str) -> None:
+    """Tells something on standard error."""
+    print(f"{TOOL}: {visible(text)}", file=sys.stderr, flush=True)
+
+
+def answer_of(asked: Asked, reader: Reader) -> Answer:
+    """Audits once."""
     audited = audited_by(asked, reader)
     found = fitted(audited.findings, asked.accepted)
-    audited = audited.with_findings(found.findings)
-    write_answer(asked, audited, found)
-    return status_of(audited, asked.allow_unjudged)
+    audited, sources = audited.with_findings(found.findings), Sources(asked.root)
+    return Answer(audited, found.unused, sources, mending_of(audited, sources))
+
+
+def show_patch(answer: Answer) -> None:
+    """Prints the lines to add as a patch, and tells the rest."""
+    texts = texts_of(answer.mending.additions, answer.sources)
+    lines = patch(texts, Paint.of(sys.stdout, os.environ))
+    write_out("".join(f"{line}\n" for line in lines).encode("utf-8", "surrogateescape"))
+    for left in answer.mending.left:
+        advice = f"; {left.why}" if left.why else ""
+        tell(f"left to you: {left.finding.spot}: {left.finding.sentence}{advice}")
+    tell(headline(answer.audited))
+
+
+def fix(asked: Asked, answer: Answer, begun: int) -> None:
+    """Writes the lines to add."""
+    write_all(asked.root, texts_of(answer.mending.additions, answer.sources), begun)
+    for addition in answer.mending.additions:
+        where = f"{addition.file}:{addition.behind}" if addition.behind else addition.file
+        at = "behind" if addition.behind else "at the end of"
+        for line in addition.lines:
+            tell(f"added {at} {where}: {line}")
 
 
 def audited_by(asked: Asked, reader: Reader) -> Audited:
@@ -105,24 +162,26 @@ def make_store(asked: Asked) -> None:
         raise Fault(f"{store} can't be written: {error.strerror}") from None
 
 
-def write_answer(asked: Asked, audited: Audited, found: Fitted) -> None:
+def write_answer(asked: Asked, answer: Answer) -> None:
     """Tells the answer."""
-    writer = Writer(Sources(asked.root), Paint.of(sys.stdout, os.environ))
-    next_step = next_step_of(audited, asked)
-    sys.stdout.write(writer.whole(audited, found.unused, next_step))
-    sys.stdout.flush()
+    writer = Writer(answer.sources, answer.mending, Paint.of(sys.stdout, os.environ))
+    text = writer.whole(answer.audited, answer.unused, next_step_of(answer, asked))
+    write_out(text.encode("utf-8", "surrogateescape"))
 
 
-def next_step_of(audited: Audited, asked: Asked) -> str:
+def next_step_of(answer: Answer, asked: Asked) -> str:
     """What to do next, in a sentence."""
+    audited = answer.audited
     if audited.refused:
         return ""
-    if any(one.mends for one in audited.open):
-        return "mkcheck-audit --diff shows the lines at their place, --fix writes them."
+    if answer.mending.additions:
+        left = number_of(one.finding for one in answer.mending.left)
+        rest = f" {counted(left, 'finding')} you have to mend yourself." if left else ""
+        return f"mkcheck-audit --diff shows the lines at their place, --fix writes them.{rest}"
     if audited.open:
         return (
-            "Nothing can be added by itself: mend these as the sentences say, or accept them in"
-            f" {NAME}, with a reason; then run mkcheck-audit again."
+            "Mend these as the lines above say, or accept them in mkcheck.toml with a reason; then"
+            " run mkcheck-audit again."
         )
     if audited.unjudged and not asked.allow_unjudged:
         return "Mend what wasn't judged, or take the answer as it is by --allow-unjudged."

@@ -10,7 +10,8 @@ from typing import TextIO
 
 from mkcheck_tools.audit.accepting import Accepted
 from mkcheck_tools.audit.makefile_lines import Sources, mark_of
-from mkcheck_tools.audit.verdicts import Audited, Finding, Mend, number_of
+from mkcheck_tools.audit.mending import Mending
+from mkcheck_tools.audit.verdicts import Audited, Finding, number_of
 from mkcheck_tools.judge.notes import Note
 from mkcheck_tools.report.escaping import counted, shortened, visible
 
@@ -41,6 +42,7 @@ class Writer:
     """Writes an answer. `sources` has the lines of the makefiles."""
 
     sources: Sources
+    mending: Mending = Mending((), ())
     paint: Paint = Paint()
     lines: list[str] = field(default_factory=list)
 
@@ -60,9 +62,13 @@ class Writer:
         self.lines += [next_step] if next_step else []
         return "".join(f"{line}\n" for line in self.lines)
 
-    def mend(self, mend: Mend) -> str:
-        """A line to add."""
-        return f"    add: {self.paint(visible(mend_text(mend)), GREEN)}"
+    def what_to_do(self, group: list[Finding]) -> list[str]:
+        """What mends findings of the same place: lines to add, or what a person has to do."""
+        whys = [left.why for left in self.mending.left if left.finding in group]
+        if whys:
+            return [f"    do: {visible(why)}" for why in dict.fromkeys(whys) if why]
+        texts = [mend.text for mend in group[0].mends]
+        return [f"    add: {self.paint(visible(text), GREEN)}" for text in texts]
 
     def findings(self, findings: Iterable[Finding]) -> None:
         """Findings at their lines; those that are mended by the same line at the same place are
@@ -77,8 +83,7 @@ class Writer:
                 kind = self.paint(f" [{finding.kind}]", SOFT)
                 self.lines.append(f"{front}{visible(finding.sentence)}{kind}")
             self.excerpt(group[0])
-            self.lines += [self.mend(one) for one in group[0].mends]
-            self.lines += [f"    do: {visible(one.advice)}" for one in group if one.advice]
+            self.lines += self.what_to_do(group)
             self.lines.append("")
 
     def excerpt(self, finding: Finding) -> None:
@@ -100,14 +105,6 @@ class Writer:
         shown = [f"    {visible(text)}" for text in texts]
         if shown:
             self.lines += [self.paint(heading, BOLD), *shown, ""]
-
-
-def mend_text(mend: Mend) -> str:
-    """A line to add, with what has to change in a recipe that would take its words too."""
-    if not mend.takes_all:
-        return mend.text
-    words, macro = " ".join(mend.words), mend.takes_all
-    return f"{mend.text}   (and in the recipe $(filter-out {words},{macro}) for {macro})"
 
 
 def sentences(findings: Iterable[Finding]) -> Iterable[str]:
