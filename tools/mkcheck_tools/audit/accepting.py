@@ -3,7 +3,7 @@
 from __future__ import annotations
 
 from collections.abc import Iterable, Sequence
-from dataclasses import dataclass, replace
+from dataclasses import dataclass
 from fnmatch import fnmatchcase
 
 from mkcheck_tools.audit.verdicts import Finding, Item
@@ -42,17 +42,21 @@ class Fitted:
     unused: tuple[Accepted, ...]
 
 
-def fitted(findings: Iterable[Finding], entries: Sequence[Accepted]) -> Fitted:
-    """Accepts findings by these entries. One that stands for several is accepted where all are."""
-    used: set[Accepted] = set()
+def fitted(
+    findings: Iterable[Finding], entries: Sequence[Accepted], later: Iterable[Finding] = ()
+) -> Fitted:
+    """Accepts findings by these entries. One that stands for several is accepted where all are. An
+    entry that fits one of `later`, which others hide, is used too."""
+    hidden = [item for finding in later for item in finding.items]
+    used = {entry for entry in entries if any(map(entry.fits, hidden))}
     found = []
     for finding in findings:
         reasons: dict[str, None] = {}
-        is_accepted = True
+        accepted = []
         for item in finding.items:
             fitting = [entry for entry in entries if entry.fits(item)]
             used.update(fitting)
-            is_accepted = is_accepted and bool(fitting)
+            accepted += [item] if fitting else []
             reasons.update((entry.reason, None) for entry in fitting)
-        found.append(replace(finding, reasons=tuple(reasons)) if is_accepted else finding)
+        found.append(finding.with_accepted(accepted, reasons) if accepted else finding)
     return Fitted(tuple(found), tuple(entry for entry in entries if entry not in used))

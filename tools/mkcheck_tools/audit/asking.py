@@ -4,7 +4,7 @@ from __future__ import annotations
 
 import os
 from collections.abc import Sequence
-from dataclasses import dataclass, field
+from dataclasses import dataclass
 
 from mkcheck_tools.audit.accepting import Accepted
 from mkcheck_tools.audit.readers import Reader, Wanted
@@ -40,7 +40,10 @@ class Asked:
     replay: bool = True
     allow_unjudged: bool = False
     accepted: tuple[Accepted, ...] = ()
-    outputs: tuple[Output, ...] = field(default=(Output(TEXT),))
+    new_baseline: str | None = None
+    """The file into which all findings of today are written as accepted."""
+
+    outputs: tuple[Output, ...] = (Output(TEXT),)
 
     @property
     def wanted(self) -> Wanted:

@@ -13,13 +13,14 @@ from pathlib import Path
 from mkcheck_tools import VERSION
 from mkcheck_tools.audit.accepting import Accepted, fitted
 from mkcheck_tools.audit.asking import Asked, use_processors, words_over
+from mkcheck_tools.audit.baselines import read_baseline, write_baseline
 from mkcheck_tools.audit.importing import audit_of_build
 from mkcheck_tools.audit.makefile_lines import Sources
 from mkcheck_tools.audit.mending import Mending, mending_of, texts_of
 from mkcheck_tools.audit.readers import POSIX, READERS, Reader, picked
 from mkcheck_tools.audit.recording import audit_of_makefile
-from mkcheck_tools.audit.settings import NAME, settings_in
-from mkcheck_tools.audit.texts import Paint, Writer, headline
+from mkcheck_tools.audit.settings import NAME, Settings, settings_in
+from mkcheck_tools.audit.texts import Paint, Writer, headline, is_in_ci
 from mkcheck_tools.audit.verdicts import Audited, number_of
 from mkcheck_tools.audit.writing import patch, write_all
 from mkcheck_tools.faults import Fault
@@ -51,6 +52,11 @@ def words_of(arguments: list[str]) -> argparse.Namespace:
     mend = parser.add_mutually_exclusive_group()
     mend.add_argument("--diff", action="store_true", help="show the lines to add, as a patch")
     mend.add_argument("--fix", action="store_true", help="write the lines, and audit again")
+    add(
+        "--baseline",
+        metavar="FILE",
+        help="take the findings in FILE as accepted; where it isn't there, write those of today",
+    )
     add("--allow-unjudged", action="store_true", help="status 0 also where not all was judged")
     add("--no-replay", action="store_true", help="don't run each recipe again, and say so")
     add("words", metavar="WORD", nargs="*", help="a goal, or a macro where it has an =")
@@ -65,6 +71,7 @@ def asked_by(words: argparse.Namespace) -> Asked:
     if not os.path.isdir(os.path.join(root, words.S)):
         raise Fault(f"-S {words.S}: there is no such folder in {root}")
     settings = settings_in(root)
+    accepted, new_baseline = accepted_by(words, settings, root)
     return Asked(
         root,
         os.path.normpath(words.S),
@@ -76,8 +83,23 @@ def asked_by(words: argparse.Namespace) -> Asked:
         settings.jobs,
         not words.no_replay,
         words.allow_unjudged,
-        settings.accept,
+        accepted,
+        new_baseline,
     )
+
+
+def accepted_by(
+    words: argparse.Namespace, settings: Settings, root: str
+) -> tuple[tuple[Accepted, ...], str | None]:
+    """The entries on accepted findings, and the file into which today's are to be written."""
+    given = os.path.abspath(words.baseline) if words.baseline else None
+    name = given or settings.baseline
+    if name is None:
+        return settings.accept, None
+    entries = read_baseline(name, root, given is not None and not is_in_ci())
+    if entries is None:
+        return settings.accept, name
+    return (*settings.accept, *entries), None
 
 
 @dataclass(frozen=True)
@@ -117,7 +139,13 @@ def tell(text: str) -> None:
 def answer_of(asked: Asked, reader: Reader) -> Answer:
     """Audits once."""
     audited = audited_by(asked, reader)
-    found = fitted(audited.findings, asked.accepted)
+    found = fitted(audited.findings, asked.accepted, audited.later)
+    if asked.new_baseline is not None and not audited.refused:
+        new = [one for one in found.findings if not one.is_accepted]
+        write_baseline(asked.new_baseline, asked.root, new)
+        tell(f"{asked.new_baseline} is written: {counted(number_of(new), 'finding')}, accepted")
+        entries = read_baseline(asked.new_baseline, asked.root, False) or ()
+        found = fitted(audited.findings, (*asked.accepted, *entries), audited.later)
     audited, sources = audited.with_findings(found.findings), Sources(asked.root)
     return Answer(audited, found.unused, sources, mending_of(audited, sources))
 

@@ -8,6 +8,7 @@ from dataclasses import dataclass
 from pathlib import Path
 from typing import Any
 
+from mkcheck_tools.answers.findings import KINDS
 from mkcheck_tools.audit.accepting import Accepted
 from mkcheck_tools.faults import Fault
 
@@ -104,6 +105,8 @@ def entry_of(entry: object, where: str) -> Accepted:
     for key in entry:
         if key not in ENTRY:
             raise Fault(f"{where}: there is no {key} in an entry; there are {', '.join(ENTRY)}")
+    if entry.get("kind", KINDS[0]) not in KINDS:
+        raise Fault(f"{where}: there is no kind {entry['kind']}; there are {', '.join(KINDS)}")
     for key in ("kind", "target", "reason"):
         if not entry.get(key, "").strip():
             raise Fault(f"{where}: {key} is missing, {EXAMPLE}")

@@ -11,11 +11,14 @@ from typing import TextIO
 from mkcheck_tools.audit.accepting import Accepted
 from mkcheck_tools.audit.makefile_lines import Sources, mark_of
 from mkcheck_tools.audit.mending import Mending
-from mkcheck_tools.audit.verdicts import Audited, Finding, number_of
+from mkcheck_tools.audit.verdicts import Audited, Finding, number_accepted, number_of
 from mkcheck_tools.judge.notes import Note
 from mkcheck_tools.report.escaping import counted, shortened, visible
 
 NAMES_AT_MOST = 6
+# What is said of entries on accepted findings that fit none, where all was judged, and else.
+GONE = "found no more, so remove these entries"
+UNSEEN = "not found now, which may be since not all is judged yet"
 WIDTH_AT_MOST = 200
 BOLD, RED, GREEN, YELLOW, SOFT, PLAIN = "1", "31", "32", "33", "2", "0"
 
@@ -53,10 +56,8 @@ class Writer:
         self.listed("Not judged:", audited.unjudged)
         self.listed("Doubts, by which this answer may be wrong:", grouped(audited.doubts))
         self.listed("Accepted:", map(accepted_line, audited.accepted))
-        self.listed(
-            "Accepted, and found no more, so remove these:",
-            (f"{entry.origin}: {entry.text} ({entry.reason})" for entry in unused),
-        )
+        entries = (f"{entry.origin}: {entry.text} ({entry.reason})" for entry in unused)
+        self.listed(f"Accepted, and {UNSEEN if audited.hides else GONE}:", entries)
         self.listed("To know:", audited.remarks)
         self.lines.append(self.paint(visible(headline(audited)), BOLD, colour_of(audited)))
         self.lines += [next_step] if next_step else []
@@ -82,6 +83,8 @@ class Writer:
                 front = self.paint(visible(f"{finding.spot}: "), BOLD)
                 kind = self.paint(f" [{finding.kind}]", SOFT)
                 self.lines.append(f"{front}{visible(finding.sentence)}{kind}")
+                names = (" ".join([*item.targets, item.file]) for item in finding.accepted)
+                self.lines += [f"    accepted: {visible(name)}" for name in names]
             self.excerpt(group[0])
             self.lines += self.what_to_do(group)
             self.lines.append("")
@@ -143,14 +146,14 @@ def headline(audited: Audited) -> str:
     """The line of counts. Beside what was accepted or not judged it is never a plain yes."""
     if audited.refused:
         return f"no answer: {audited.refused}"
-    left_out = unjudged_count(audited)
+    left_out, accepted = unjudged_count(audited), number_accepted(audited.findings)
     if audited.open:
         said = f"no: {counted(number_of(audited.open), 'finding')}"
-        more = [f"{number_of(audited.accepted)} accepted" * bool(audited.accepted), left_out]
+        more = [f"{accepted} accepted" * bool(accepted), left_out]
         said += "".join(f", {text}" for text in more if text)
     else:
-        but = f"{counted(number_of(audited.accepted), 'finding')} that you accepted"
-        parts = [but * bool(audited.accepted), left_out]
+        but = f"{counted(accepted, 'finding')} that you accepted"
+        parts = [but * bool(accepted), left_out]
         reasons = " and ".join(text for text in parts if text)
         said = f"yes, but for {reasons}" if reasons else "yes"
     doubts = counted(len(audited.doubts), "doubt")

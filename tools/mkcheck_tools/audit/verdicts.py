@@ -23,6 +23,16 @@ class Spot:
 
 
 @dataclass(frozen=True)
+class Item:
+    """A single finding: its kind, the targets whose recipes it is about, and the file, if there is
+    one."""
+
+    kind: str
+    targets: tuple[str, ...]
+    file: str = ""
+
+
+@dataclass(frozen=True)
 class Mend:
     """A line to add: targets, and the prerequisites that their rule lacks."""
 
@@ -40,15 +50,14 @@ class Mend:
         """The line."""
         return f"{' '.join(self.targets)}: {' '.join(self.words)}"
 
-
-@dataclass(frozen=True)
-class Item:
-    """A single finding: its kind, the targets whose recipes it is about, and the file, if there is
-    one."""
-
-    kind: str
-    targets: tuple[str, ...]
-    file: str = ""
+    def without(self, kind: str, items: frozenset[Item]) -> Mend:
+        """The same without the words that no target lacks when some findings don't count."""
+        kept = (
+            word
+            for word in self.words
+            if not all(Item(kind, (target,), word) in items for target in self.targets)
+        )
+        return replace(self, words=tuple(kept))
 
 
 @dataclass(frozen=True)
@@ -65,8 +74,11 @@ class Finding:
     advice: str = ""
     """What else to do, where no line mends it; empty where the sentence says so."""
 
+    accepted: tuple[Item, ...] = ()
+    """Those of its single findings that were accepted."""
+
     reasons: tuple[str, ...] = ()
-    """Where it was accepted, the reasons for that, each once."""
+    """The reasons for that, each once."""
 
     @property
     def items(self) -> list[Item]:
@@ -81,7 +93,18 @@ class Finding:
     @property
     def is_accepted(self) -> bool:
         """Whether all of it was accepted."""
-        return bool(self.reasons)
+        return len(self.accepted) == len(self.items)
+
+    def with_accepted(self, accepted: Iterable[Item], reasons: Iterable[str]) -> Finding:
+        """The same where some of it is accepted, and isn't mended by the lines to add."""
+        items = frozenset(accepted)
+        mends = (mend.without(self.kind, items) for mend in self.mends)
+        return replace(
+            self,
+            accepted=tuple(item for item in self.items if item in items),
+            reasons=tuple(reasons),
+            mends=tuple(mend for mend in mends if mend.words),
+        )
 
 
 @dataclass(frozen=True)
@@ -130,6 +153,12 @@ class Audited:
         return [note for note in self.notes if note.is_doubt]
 
     @property
+    def hides(self) -> bool:
+        """Whether there may be races and stale reads that aren't seen yet."""
+        kinds = {finding.kind for finding in self.findings}
+        return bool(kinds - {"race", "stale"} or self.unjudged)
+
+    @property
     def answer(self) -> str:
         """The answer in a word: a yes also beside what was accepted and what wasn't judged."""
         if self.refused:
@@ -142,5 +171,10 @@ class Audited:
 
 
 def number_of(findings: Iterable[Finding]) -> int:
-    """How many single findings some stand for."""
-    return sum(len(one.items) for one in findings)
+    """How many single findings some stand for that nobody accepted."""
+    return sum(len(one.items) - len(one.accepted) for one in findings)
+
+
+def number_accepted(findings: Iterable[Finding]) -> int:
+    """How many single findings were accepted."""
+    return sum(len(one.accepted) for one in findings)

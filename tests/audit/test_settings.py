@@ -1,0 +1,169 @@
+"""The settings of a project, and findings that are accepted."""
+
+from __future__ import annotations
+
+import os
+from pathlib import Path
+
+import pytest
+
+from audit.project import POSIX, SOURCES, Project, can_record
+from mkcheck_tools.audit.accepting import Accepted, fitted
+from mkcheck_tools.audit.asking import words_over
+from mkcheck_tools.audit.baselines import read_baseline, write_baseline
+from mkcheck_tools.audit.settings import Settings, settings_in
+from mkcheck_tools.audit.verdicts import Finding, Mend, Spot, number_accepted, number_of
+from mkcheck_tools.faults import Fault
+
+ACCEPT = """\
+[[accept]]
+kind = "stale"
+target = "*.o"
+file = "part.h"
+reason = "it never changes"
+"""
+EXAMPLE = 'as in accept = [{kind = "stale", target = "a.o", file = "a.h", reason = "why"}]'
+
+
+def stale(targets: tuple[str, ...], files: tuple[str, ...]) -> Finding:
+    """Stale reads that one sentence tells of."""
+    return Finding("stale", Spot("Makefile", 1), "they stay old", targets, files)
+
+
+def entry(target: str, file: str, reason: str = "so") -> Accepted:
+    """An entry on an accepted stale read."""
+    return Accepted("stale", target, file, reason, "mkcheck.toml")
+
+
+def test_settings_are_read(tmp_path: Path) -> None:
+    (tmp_path / "mkcheck.toml").write_text(
+        'goals = ["all"]\nmacros = {CC = "gcc -O2"}\nfixed = ["/srv/"]\ntrust = ["x"]\njobs = 2\n'
+        'baseline = "old.toml"\n' + ACCEPT
+    )
+    assert settings_in(str(tmp_path)) == Settings(
+        ("all",),
+        ("CC=gcc -O2",),
+        ("/srv/",),
+        ("x",),
+        2,
+        (Accepted("stale", "*.o", "part.h", "it never changes", "mkcheck.toml"),),
+        "old.toml",
+    )
+
+
+def test_words_of_the_command_line_come_before_settings() -> None:
+    settings = Settings(goals=("all",), macros=("CC=gcc", "A=1"))
+    assert words_over([], settings) == ("CC=gcc", "A=1", "all")
+    assert words_over(["CC=clang", "test"], settings) == ("CC=clang", "A=1", "test")
+
+
+@pytest.mark.parametrize(
+    "text, said",
+    [
+        ("goal = 1", "there is no setting goal; there are goals, macros, fixed, trust, jobs,"),
+        ("goals = 1", 'goals is a list of texts, as in goals = ["one", "two"]'),
+        ('macros = ["CC"]', 'macros: CC has no =, as in macros = ["CC=gcc"]'),
+        ("jobs = 0", "jobs is a number from 1 on"),
+        ("jobs = true", "jobs is a number from 1 on"),
+        ("goals = [", "is no TOML file: "),
+        ("accept = [1]", f"accept 1: an entry is a table of texts, {EXAMPLE}"),
+        ('accept = [{kind = "stale", target = "a"}]', f"accept 1: reason is missing, {EXAMPLE}"),
+        (
+            'accept = [{kind = "stale", target = "a", reason = " "}]',
+            f"accept 1: reason is missing, {EXAMPLE}",
+        ),
+        ('accept = [{kind = "old", target = "a", reason = "b"}]', "accept 1: there is no kind old"),
+        ('accept = [{what = "a"}]', "accept 1: there is no what in an entry; there are kind,"),
+        ('baseline = ""', "baseline is the name of a file"),
+    ],
+)
+def test_a_setting_that_is_wrong_is_told(text: str, said: str, tmp_path: Path) -> None:
+    (tmp_path / "mkcheck.toml").write_text(text)
+    with pytest.raises(Fault) as fault:
+        settings_in(str(tmp_path))
+    assert str(fault.value).startswith("mkcheck.toml")
+    assert said in str(fault.value)
+
+
+def test_a_group_is_accepted_where_all_of_it_is() -> None:
+    group = stale(("a.o", "b.o"), ("x.h", "y.h"))
+    partly = fitted([group], [entry("a.o", "*"), entry("b.o", "x.h")])
+    assert not partly.findings[0].is_accepted
+    assert number_of(partly.findings) == 1 and number_accepted(partly.findings) == 3
+    assert partly.unused == ()
+    wholly = fitted([group], [entry("a.o", "*", "one"), entry("b.o", "?.h", "two")])
+    assert wholly.findings[0].reasons == ("one", "two")
+
+
+def test_no_line_is_added_for_what_is_accepted() -> None:
+    spot = Spot("Makefile", 1)
+    mend = Mend(spot, ("a.o", "b.o"), ("x.h", "y.h"))
+    group = Finding("stale", spot, "", ("a.o", "b.o"), ("x.h", "y.h"), (mend,))
+    (found,) = fitted([group], [entry("*", "x.h"), entry("a.o", "y.h")]).findings
+    assert [one.text for one in found.mends] == ["a.o b.o: y.h"]
+
+
+def test_an_entry_that_fits_nothing_is_known() -> None:
+    found = fitted([stale(("a.o",), ("x.h",))], [entry("a.o", "x.h"), entry("b.o", "x.h")])
+    assert found.unused == (entry("b.o", "x.h"),)
+    hidden = fitted([], [entry("b.o", "x.h")], [stale(("b.o",), ("x.h",))])
+    assert hidden.unused == ()
+
+
+def test_files_with_two_writers_are_a_finding_each() -> None:
+    group = Finding("writers", Spot("Makefile", 1), "both write", ("a", "b"), ("x", "y"))
+    assert len(group.items) == 2
+    entries = [Accepted("writers", "b", "*", "so", "mkcheck.toml")]
+    assert fitted([group], entries).findings[0].is_accepted
+
+
+def test_a_baseline_accepts_what_it_was_written_of(tmp_path: Path) -> None:
+    findings = [stale(("a[1].o", 'b".o'), ("x.h",)), stale(("c",), ())]
+    write_baseline("old.toml", str(tmp_path), findings)
+    entries = read_baseline("old.toml", str(tmp_path), True)
+    assert entries is not None and len(entries) == 3
+    found = fitted(findings, entries)
+    assert all(one.is_accepted for one in found.findings) and not found.unused
+    assert not fitted([stale(("a1.o",), ("x.h",))], entries).findings[0].is_accepted
+
+
+def test_a_baseline_has_accepted_findings_alone(tmp_path: Path) -> None:
+    (tmp_path / "old.toml").write_text("goals = []")
+    with pytest.raises(Fault, match="accept alone, and no goals, which belongs into mkcheck.toml"):
+        read_baseline("old.toml", str(tmp_path), True)
+
+
+@can_record
+def test_accepted_findings_are_no_plain_yes(project: Project) -> None:
+    project.write({"makefile": POSIX, **SOURCES, "mkcheck.toml": ACCEPT + ACCEPT.replace("*", "x")})
+    outcome = project.audit()
+    assert outcome.status == 0
+    lines = outcome.output.splitlines()
+    assert lines[lines.index("Accepted:") + 1] == (
+        "    makefile:3: main.o and part.o read part.h, but don't depend on it: when it changes,"
+        " they stay old [stale] (it never changes)"
+    )
+    at = lines.index("Accepted, and found no more, so remove these entries:")
+    assert lines[at + 1] == "    mkcheck.toml: stale x.o part.h (it never changes)"
+    assert lines[-2] == (
+        "yes, but for 2 findings that you accepted, with 1 doubt (3 of 3 recipes judged)"
+    )
+
+
+@can_record
+def test_a_baseline_is_written_once_and_never_in_a_job(project: Project) -> None:
+    project.write({"makefile": POSIX, **SOURCES})
+    refused = project.audit("--baseline", "old.toml", CI="true")
+    assert refused.status == 2
+    assert "old.toml isn't there: mkcheck-audit --baseline" in refused.errors
+    assert not os.path.exists(project.folder / ".mkcheck")
+    written = project.audit("--baseline", "old.toml")
+    assert "old.toml is written: 2 findings, accepted\n" in written.errors
+    assert written.status == 0
+    assert "yes, but for 2 findings that you accepted" in written.output
+    project.write({"part.c": '#include "other.h"\n' + SOURCES["part.c"], "other.h": "\n"})
+    outcome = project.audit("--baseline", "old.toml", CI="true")
+    assert outcome.status == 1
+    assert "    accepted: part.o part.h\n" in outcome.output
+    assert "    add: part.o: other.h\n" in outcome.output
+    assert "no: 1 finding, 2 accepted, with 1 doubt" in outcome.output
