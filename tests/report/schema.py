@@ -1,4 +1,5 @@
-"""What the published schema of SARIF 2.1.0 demands of the parts that mkcheck-report writes.
+"""What the published schema of SARIF 2.1.0 demands of the parts that mkcheck-report and
+mkcheck-audit write.
 
 It is written out by hand: for each kind of object its properties with their kinds, and which of
 them are required. Objects may have no other properties than those that the schema names; of these,
@@ -10,7 +11,7 @@ from __future__ import annotations
 LEVELS = ("none", "note", "warning", "error")
 # A kind is the name of an object, `[kind]` for a list, `{kind}` for an object of any names, a type,
 # or a tuple of the values that are allowed.
-OBJECTS: dict[str, tuple[dict, tuple[str, ...]]] = {
+OBJECTS: dict[str, tuple[dict[str, object], tuple[str, ...]]] = {
     "sarifLog": (
         {"$schema": str, "version": ("2.1.0",), "runs": ["run"]},
         ("version", "runs"),
@@ -50,7 +51,8 @@ OBJECTS: dict[str, tuple[dict, tuple[str, ...]]] = {
         },
         ("executionSuccessful",),
     ),
-    "notification": ({"message": "message"}, ("message",)),
+    "notification": ({"message": "message", "level": LEVELS}, ("message",)),
+    "suppression": ({"kind": ("inSource", "external"), "justification": str}, ("kind",)),
     "result": (
         {
             "ruleId": str,
@@ -61,6 +63,7 @@ OBJECTS: dict[str, tuple[dict, tuple[str, ...]]] = {
             "relatedLocations": ["location"],
             "partialFingerprints": {"": str},
             "fixes": ["fix"],
+            "suppressions": ["suppression"],
             # Each object may have a bag of properties; here its values are of one type.
             "properties": {"": str},
         },
@@ -92,7 +95,7 @@ OBJECTS: dict[str, tuple[dict, tuple[str, ...]]] = {
 }
 # Lists that may not be empty, and lists whose items all differ.
 FILLED = ("artifactChanges", "replacements")
-DISTINCT = ("relatedLocations", "fixes", "rules")
+DISTINCT = ("relatedLocations", "fixes", "rules", "suppressions")
 
 
 def wrong_parts(value: object, kind: object = "sarifLog", place: str = "log") -> list[str]:

@@ -4,11 +4,12 @@ from __future__ import annotations
 
 import os
 from collections.abc import Sequence
-from dataclasses import dataclass
+from dataclasses import dataclass, replace
 
 from mkcheck_tools.audit.accepting import Accepted
 from mkcheck_tools.audit.readers import Reader, Wanted
 from mkcheck_tools.audit.settings import Settings
+from mkcheck_tools.faults import Fault
 from mkcheck_tools.run.paths import RealPath
 
 TEXT, JSON, SARIF, GITHUB, HTML = "text", "json", "sarif", "github", "html"
@@ -17,7 +18,7 @@ FORMATS = (TEXT, JSON, SARIF, GITHUB, HTML)
 
 @dataclass(frozen=True)
 class Output:
-    """A form of the answer, and the file it goes to; standard output without one."""
+    """A form of the answer, and the path of the file it goes to; standard output without one."""
 
     form: str
     path: str | None = None
@@ -44,6 +45,7 @@ class Asked:
     """The file into which all findings of today are written as accepted."""
 
     outputs: tuple[Output, ...] = (Output(TEXT),)
+    """Where the answer goes, in which forms."""
 
     @property
     def wanted(self) -> Wanted:
@@ -54,6 +56,34 @@ class Asked:
         """The same by the reader that was picked. A makefile that mkcheck takes by itself isn't
         named to it."""
         return Wanted(self.root, reader.below, self.makefile, reader.kind, self.words)
+
+
+# The forms of files, by the ends of their names.
+ENDS = {".json": JSON, ".sarif": SARIF, ".html": HTML, ".htm": HTML, ".txt": TEXT}
+
+
+def outputs_of(words: Sequence[tuple[str, str]]) -> tuple[Output, ...]:
+    """The outputs that options ask for, which are given in their order: `format` with a form, and
+    `o` with a file, which belongs to the form in front of it. Raises Fault where they don't fit."""
+    found: list[Output] = []
+    for option, value in words:
+        if option == "format":
+            found.append(Output(value))
+            continue
+        path = os.path.abspath(value)
+        if found and found[-1].path is None:
+            found[-1] = replace(found[-1], path=path)
+        elif os.path.splitext(value)[1] in ENDS:
+            found.append(Output(ENDS[os.path.splitext(value)[1]], path))
+        else:
+            raise Fault(f"-o {value}: say its form in front of it, as in --format json -o {value}")
+    printed = [one.form for one in found if one.path is None]
+    if len(printed) > 1:
+        raise Fault(
+            f"only one form goes to standard output, and {' and '.join(printed)} would: give the"
+            " others a file by -o"
+        )
+    return (*found,) if printed else (Output(TEXT), *found)
 
 
 def words_over(given: Sequence[str], settings: Settings) -> tuple[str, ...]:

@@ -62,6 +62,10 @@ class Mending:
     additions: tuple[Addition, ...]
     left: tuple[Left, ...]
 
+    def why(self, finding: Finding) -> str | None:
+        """What a person has to do about a finding, if it is left to one."""
+        return next((left.why for left in self.left if left.finding is finding), None)
+
 
 def mending_of(audited: Audited, sources: Sources) -> Mending:
     """What mends the findings that nobody accepted."""
@@ -126,6 +130,19 @@ def place_of(mend: Mend, audited: Audited, sources: Sources) -> tuple[str, int |
     return None
 
 
+def addition_of(mend: Mend, audited: Audited, sources: Sources) -> Addition | None:
+    """A line with its place; None where none is known."""
+    place = place_of(mend, audited, sources)
+    return None if place is None else Addition(*place, (mend.text,))
+
+
+def closes(text: str) -> bool:
+    """Whether a line at the end of a text is one of its own: behind an escaped newline it would be
+    a part of the line before."""
+    last = text.removesuffix("\n").rpartition("\n")[2]
+    return not goes_on(last.removesuffix("\r"))
+
+
 def texts_of(additions: Iterable[Addition], sources: Sources) -> dict[str, tuple[str, str]]:
     """The texts of files, before and after the additions."""
     found: dict[str, list[Addition]] = {}
@@ -144,8 +161,7 @@ def with_additions(text: str, additions: Iterable[Addition]) -> str:
     end = "\r\n" if lines and lines[0].endswith("\r\n") else "\n"
     if rest:
         lines.append(f"{rest}{end}")
-    # A line behind an escaped newline would be a part of the line before.
-    closing = [end] if lines and goes_on(lines[-1].rstrip("\r\n")) else []
+    closing = [] if closes(text) else [end]
     for addition in sorted(additions, key=lambda one: -(one.behind or len(lines) + 1)):
         added = [f"{line}{end}" for line in addition.lines]
         if addition.behind is None:

@@ -6,21 +6,32 @@ import argparse
 import os
 import sys
 import time
-from dataclasses import dataclass
+from collections.abc import Sequence
 from functools import partial
 from pathlib import Path
+from typing import Any
 
 from mkcheck_tools import VERSION
 from mkcheck_tools.audit.accepting import Accepted, fitted
-from mkcheck_tools.audit.asking import Asked, use_processors, words_over
+from mkcheck_tools.audit.asking import (
+    FORMATS,
+    GITHUB,
+    TEXT,
+    Asked,
+    outputs_of,
+    use_processors,
+    words_over,
+)
 from mkcheck_tools.audit.baselines import read_baseline, write_baseline
 from mkcheck_tools.audit.importing import audit_of_build
 from mkcheck_tools.audit.makefile_lines import Sources
-from mkcheck_tools.audit.mending import Mending, mending_of, texts_of
-from mkcheck_tools.audit.readers import POSIX, READERS, Reader, picked
+from mkcheck_tools.audit.judgements import Judgement
+from mkcheck_tools.audit.mending import mending_of, texts_of
+from mkcheck_tools.audit.outputs import write_output
+from mkcheck_tools.audit.readers import POSIX, READERS, Reader, checker_of, picked
 from mkcheck_tools.audit.recording import audit_of_makefile
 from mkcheck_tools.audit.settings import NAME, Settings, settings_in
-from mkcheck_tools.audit.texts import Paint, Writer, headline, is_in_ci
+from mkcheck_tools.audit.texts import Paint, headline, is_in_ci
 from mkcheck_tools.audit.verdicts import Audited, number_of
 from mkcheck_tools.audit.writing import patch, write_all
 from mkcheck_tools.faults import Fault
@@ -58,6 +69,14 @@ def words_of(arguments: list[str]) -> argparse.Namespace:
         help="take the findings in FILE as accepted; where it isn't there, write those of today",
     )
     add("--allow-unjudged", action="store_true", help="status 0 also where not all was judged")
+    add(
+        "--format",
+        choices=FORMATS,
+        dest="outputs",
+        action=Collected,
+        help="the form of the answer, text without it; may be given several times, each with -o",
+    )
+    add("-o", metavar="FILE", dest="outputs", action=Collected, help="where that form goes")
     add("--no-replay", action="store_true", help="don't run each recipe again, and say so")
     add("words", metavar="WORD", nargs="*", help="a goal, or a macro where it has an =")
     return parser.parse_intermixed_args(arguments)
@@ -85,6 +104,7 @@ def asked_by(words: argparse.Namespace) -> Asked:
         words.allow_unjudged,
         accepted,
         new_baseline,
+        outputs_of(words.outputs or []),
     )
 
 
@@ -102,14 +122,19 @@ def accepted_by(
     return (*settings.accept, *entries), None
 
 
-@dataclass(frozen=True)
-class Answer:
-    """An audit, with the entries on accepted findings that fit none, and what mends the others."""
+class Collected(argparse.Action):
+    """Keeps options in their order, each with its value."""
 
-    audited: Audited
-    unused: tuple[Accepted, ...]
-    sources: Sources
-    mending: Mending
+    def __call__(
+        self,
+        parser: argparse.ArgumentParser,
+        namespace: argparse.Namespace,
+        values: str | Sequence[Any] | None,
+        option_string: str | None = None,
+    ) -> None:
+        """Takes one."""
+        option = (option_string or "").lstrip("-")
+        namespace.outputs = [*(namespace.outputs or []), (option, values)]
 
 
 def audit(words: argparse.Namespace) -> int:
@@ -120,15 +145,15 @@ def audit(words: argparse.Namespace) -> int:
     reader = picked(asked.wanted)
     tell(reader.line)
     make_store(asked)
-    answer = answer_of(asked, reader)
+    judgement = judged(asked, reader)
     if words.diff:
-        show_patch(answer)
-        return status_of(answer.audited, asked.allow_unjudged)
-    if words.fix and answer.mending.additions:
-        fix(asked, answer, begun)
-        answer = answer_of(asked, reader)
-    write_answer(asked, answer)
-    return status_of(answer.audited, asked.allow_unjudged)
+        show_patch(judgement)
+        return judgement.status
+    if words.fix and judgement.mending.additions:
+        fix(asked, judgement, begun)
+        judgement = judged(asked, reader)
+    write_answer(asked, judgement)
+    return judgement.status
 
 
 def tell(text: str) -> None:
@@ -136,7 +161,7 @@ def tell(text: str) -> None:
     print(f"{TOOL}: {visible(text)}", file=sys.stderr, flush=True)
 
 
-def answer_of(asked: Asked, reader: Reader) -> Answer:
+def judged(asked: Asked, reader: Reader) -> Judgement:
     """Audits once."""
     audited = audited_by(asked, reader)
     found = fitted(audited.findings, asked.accepted, audited.later)
@@ -147,24 +172,26 @@ def answer_of(asked: Asked, reader: Reader) -> Answer:
         entries = read_baseline(asked.new_baseline, asked.root, False) or ()
         found = fitted(audited.findings, (*asked.accepted, *entries), audited.later)
     audited, sources = audited.with_findings(found.findings), Sources(asked.root)
-    return Answer(audited, found.unused, sources, mending_of(audited, sources))
+    mending = mending_of(audited, sources)
+    return Judgement(reader, audited, found.unused, sources, mending, asked.allow_unjudged)
 
 
-def show_patch(answer: Answer) -> None:
+def show_patch(judgement: Judgement) -> None:
     """Prints the lines to add as a patch, and tells the rest."""
-    texts = texts_of(answer.mending.additions, answer.sources)
+    texts = texts_of(judgement.mending.additions, judgement.sources)
     lines = patch(texts, Paint.of(sys.stdout, os.environ))
     write_out("".join(f"{line}\n" for line in lines).encode("utf-8", "surrogateescape"))
-    for left in answer.mending.left:
+    for left in judgement.mending.left:
         advice = f"; {left.why}" if left.why else ""
         tell(f"left to you: {left.finding.spot}: {left.finding.sentence}{advice}")
-    tell(headline(answer.audited))
+    tell(headline(judgement.audited))
 
 
-def fix(asked: Asked, answer: Answer, begun: int) -> None:
+def fix(asked: Asked, judgement: Judgement, begun: int) -> None:
     """Writes the lines to add."""
-    write_all(asked.root, texts_of(answer.mending.additions, answer.sources), begun)
-    for addition in answer.mending.additions:
+    additions = judgement.mending.additions
+    write_all(asked.root, texts_of(additions, judgement.sources), begun)
+    for addition in additions:
         where = f"{addition.file}:{addition.behind}" if addition.behind else addition.file
         at = "behind" if addition.behind else "at the end of"
         for line in addition.lines:
@@ -190,37 +217,14 @@ def make_store(asked: Asked) -> None:
         raise Fault(f"{store} can't be written: {error.strerror}") from None
 
 
-def write_answer(asked: Asked, answer: Answer) -> None:
-    """Tells the answer."""
-    writer = Writer(answer.sources, answer.mending, Paint.of(sys.stdout, os.environ))
-    text = writer.whole(answer.audited, answer.unused, next_step_of(answer, asked))
-    write_out(text.encode("utf-8", "surrogateescape"))
-
-
-def next_step_of(answer: Answer, asked: Asked) -> str:
-    """What to do next, in a sentence."""
-    audited = answer.audited
-    if audited.refused:
-        return ""
-    if answer.mending.additions:
-        left = number_of(one.finding for one in answer.mending.left)
-        rest = f" {counted(left, 'finding')} you have to mend yourself." if left else ""
-        return f"mkcheck-audit --diff shows the lines at their place, --fix writes them.{rest}"
-    if audited.open:
-        return (
-            "Mend these as the lines above say, or accept them in mkcheck.toml with a reason; then"
-            " run mkcheck-audit again."
-        )
-    if audited.unjudged and not asked.allow_unjudged:
-        return "Mend what wasn't judged, or take the answer as it is by --allow-unjudged."
-    return "Run mkcheck-audit again after edits: it records only what they change."
-
-
-def status_of(audited: Audited, allow_unjudged: bool) -> int:
-    """The status of an answer."""
-    if audited.refused:
-        return 2
-    return int(bool(audited.open) or (bool(audited.unjudged) and not allow_unjudged))
+def write_answer(asked: Asked, judgement: Judgement) -> None:
+    """Writes the answer in all forms that are asked for."""
+    checker = checker_of(asked.wanted_by(judgement.reader))
+    for output in asked.outputs:
+        write_output(output, judgement, checker)
+    printed = next(one.form for one in asked.outputs if one.path is None)
+    if printed not in (TEXT, GITHUB):
+        tell(headline(judgement.audited))
 
 
 def main(arguments: list[str]) -> int:

@@ -2,7 +2,6 @@
 
 from __future__ import annotations
 
-import json
 import os
 import re
 import sys
@@ -10,6 +9,7 @@ from dataclasses import dataclass, replace
 from pathlib import Path
 
 from mkcheck_tools.answers.checkers import Checker, find_checker
+from mkcheck_tools.answers.findings import answer_of
 from mkcheck_tools.answers.graphs import read_graph
 from mkcheck_tools.faults import Fault
 from mkcheck_tools.run.paths import RealPath
@@ -130,8 +130,10 @@ def why_not_posix(wanted: Wanted) -> str:
     checker = checker_of(wanted)
     reply = checker.ask("graph", "-c")
     if reply.status != 0:
-        place = json.loads(checker.ask("check", "--json", "-b", os.devnull).text).get("place")
-        return f"{place['file']}:{place['line']} isn't POSIX's" if place else "it isn't POSIX's"
+        refusal = answer_of(checker_of(wanted, os.devnull).check()).refusal
+        if refusal is not None and refusal.is_of_file:
+            return f"{refusal.file}:{refusal.line} isn't POSIX's"
+        return "it isn't POSIX's"
     recipes = read_graph(reply.shown).recipes
     for recipe in recipes:
         if any(STARTS_MAKE.search(line) for line in recipe.lines):

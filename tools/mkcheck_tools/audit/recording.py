@@ -2,15 +2,13 @@
 
 from __future__ import annotations
 
-import json
 import os
 import shutil
 import sys
 from collections.abc import Sequence
 from pathlib import Path
-from typing import Any
 
-from mkcheck_tools.answers.checkers import NO, REFUSED
+from mkcheck_tools.answers.findings import Group, answer_of
 from mkcheck_tools.audit.asking import Asked
 from mkcheck_tools.audit.readers import Reader, Wanted, checker_of, own_folder
 from mkcheck_tools.audit.verdicts import Audited, Finding, Mend, Spot
@@ -26,7 +24,6 @@ from mkcheck_tools.imports.telling import Telling
 from mkcheck_tools.run.folders import prefix_of
 from mkcheck_tools.run.places import Place
 
-FORMAT = 1
 TOOL = "POSIX make"
 BOOK = os.path.join(".mkcheck", "footprint.json")
 # Kinds by which a recipe has no footprint, so that nothing is known of it.
@@ -107,28 +104,26 @@ def forget_other_choice(book: str, choice: Choice) -> None:
 def judged(wanted: Wanted, failures: Sequence[str]) -> Audited:
     """The answer of mkcheck, over the footprints that there are."""
     checker = checker_of(wanted, BOOK)
-    reply = checker.ask("check", "--json")
-    answer = json.loads(reply.text)
-    if answer["format"] != FORMAT:
-        raise Fault(f"{checker.program} is of another release: install it and mkcheck-audit anew")
-    makefile = checker.makefile
-    if reply.status == REFUSED:
-        return Audited(makefile, TOOL, refused=answer["sentence"])
-    noted = read_notes(os.path.join(wanted.root, BOOK))
-    if reply.status != NO:
-        recipes, reads = answer["recipes"], answer["reads"]
-        return Audited(makefile, TOOL, notes=noted.notes, recipes=recipes, reads=reads)
+    answer, makefile = answer_of(checker.check()), checker.makefile
+    if answer.refusal is not None:
+        refusal = answer.refusal
+        place = f"{refusal.file}:{refusal.line}: " if refusal.line else ""
+        words = f"{refusal.words}: " if refusal.words else ""
+        return Audited(makefile, TOOL, refused=f"{place}{words}{refusal.sentence}")
+    notes = read_notes(os.path.join(wanted.root, BOOK)).notes
+    if answer.is_yes:
+        return Audited(makefile, TOOL, notes=notes, recipes=answer.recipes, reads=answer.reads)
     records = read_footprints(os.path.join(wanted.root, BOOK)).records
-    lacking = [group for group in answer["groups"] if group["kind"] in UNRECORDED]
-    groups = [group for group in answer["groups"] if group["kind"] not in UNRECORDED]
-    missing = {target for group in lacking for target in group["targets"]}
-    unjudged = [f"{spot_of(group, makefile)}: {group['sentence']}" for group in lacking]
+    lacking = [group for group in answer.groups if group.kind in UNRECORDED]
+    groups = [group for group in answer.groups if group.kind not in UNRECORDED]
+    missing = {target for group in lacking for target in group.targets}
+    unjudged = [f"{spot_of(group, makefile)}: {group.sentence}" for group in lacking]
     return Audited(
         makefile,
         TOOL,
         tuple(finding_of(group, makefile) for group in groups),
-        tuple(finding_of(group, makefile) for group in answer["later"]),
-        noted.notes,
+        tuple(finding_of(group, makefile) for group in answer.later),
+        notes,
         (*unjudged, *failures),
         len({*records, *missing}),
         sum(len(record.reads) for record in records.values()),
@@ -136,23 +131,17 @@ def judged(wanted: Wanted, failures: Sequence[str]) -> Audited:
     )
 
 
-def spot_of(group: dict[str, Any], makefile: str) -> Spot:
-    """Where a group of `check --json` stands."""
-    place = group["place"]
-    return Spot(place["file"], place["line"]) if place else Spot(makefile)
+def spot_of(group: Group, makefile: str) -> Spot:
+    """Where a group stands."""
+    return Spot(group.file or makefile, group.line)
 
 
-def finding_of(group: dict[str, Any], makefile: str) -> Finding:
-    """A group of `check --json`."""
+def finding_of(group: Group, makefile: str) -> Finding:
+    """A group as a finding of the audit."""
     spot = spot_of(group, makefile)
+    mends = tuple(mend_of(line, spot) for line in group.adds)
     return Finding(
-        group["kind"],
-        spot,
-        group["sentence"],
-        tuple(group["targets"]),
-        tuple(group["files"]),
-        tuple(mend_of(line, spot) for line in (group["add"] or "").splitlines()),
-        group["do"] or "",
+        group.kind, spot, group.sentence, group.targets, group.files, mends, group.advice
     )
 
 

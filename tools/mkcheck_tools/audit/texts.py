@@ -8,9 +8,8 @@ from collections.abc import Iterable, Mapping
 from dataclasses import dataclass, field
 from typing import TextIO
 
-from mkcheck_tools.audit.accepting import Accepted
-from mkcheck_tools.audit.makefile_lines import Sources, mark_of
-from mkcheck_tools.audit.mending import Mending
+from mkcheck_tools.audit.judgements import Judgement
+from mkcheck_tools.audit.makefile_lines import mark_of
 from mkcheck_tools.audit.verdicts import Audited, Finding, number_accepted, number_of
 from mkcheck_tools.judge.notes import Note
 from mkcheck_tools.report.escaping import counted, shortened, visible
@@ -42,31 +41,32 @@ class Paint:
 
 @dataclass
 class Writer:
-    """Writes an answer. `sources` has the lines of the makefiles."""
+    """Writes an answer."""
 
-    sources: Sources
-    mending: Mending = Mending((), ())
+    judgement: Judgement
     paint: Paint = Paint()
     lines: list[str] = field(default_factory=list)
 
-    def whole(self, audited: Audited, unused: Iterable[Accepted], next_step: str) -> str:
-        """The whole answer. `unused` are entries on accepted findings that fit none."""
+    def whole(self) -> str:
+        """The whole answer."""
+        audited = self.judgement.audited
         self.findings(audited.open)
         self.listed("Once these are mended, as far as can be seen now:", sentences(audited.later))
         self.listed("Not judged:", audited.unjudged)
         self.listed("Doubts, by which this answer may be wrong:", grouped(audited.doubts))
         self.listed("Accepted:", map(accepted_line, audited.accepted))
+        unused = self.judgement.unused
         entries = (f"{entry.origin}: {entry.text} ({entry.reason})" for entry in unused)
         self.listed(f"Accepted, and {UNSEEN if audited.hides else GONE}:", entries)
         self.listed("To know:", audited.remarks)
         self.lines.append(self.paint(visible(headline(audited)), BOLD, colour_of(audited)))
-        self.lines += [next_step] if next_step else []
+        self.lines += [self.judgement.next_step] if self.judgement.next_step else []
         return "".join(f"{line}\n" for line in self.lines)
 
     def what_to_do(self, group: list[Finding]) -> list[str]:
         """What mends findings of the same place: lines to add, or what a person has to do."""
-        whys = [left.why for left in self.mending.left if left.finding in group]
-        if whys:
+        whys = [self.judgement.mending.why(finding) for finding in group]
+        if whys != [None] * len(group):
             return [f"    do: {visible(why)}" for why in dict.fromkeys(whys) if why]
         texts = [mend.text for mend in group[0].mends]
         return [f"    add: {self.paint(visible(text), GREEN)}" for text in texts]
@@ -91,7 +91,7 @@ class Writer:
 
     def excerpt(self, finding: Finding) -> None:
         """The line of the makefile, with a mark under the word."""
-        text = self.sources.line(finding.spot)
+        text = self.judgement.sources.line(finding.spot)
         if text is None:
             return
         shown = visible(text).expandtabs(8)

@@ -44,8 +44,8 @@ WAYS_AT_MOST = 10_000
 WAYS_BYTES = 2_000_000
 
 
-def page(judged: Judged) -> str:
-    """The page."""
+def page(judged: Judged, front: str = "") -> str:
+    """The page. `front` is markup that stands before all but the head."""
     title = f"mkcheck: {judged.answer}, {shortened(judged.makefile)}"
     if judged.refusal is not None:
         body = refusal(judged)
@@ -57,7 +57,7 @@ def page(judged: Judged) -> str:
         '<!DOCTYPE html>\n<html lang="en">\n<head>\n<meta charset="utf-8">\n'
         '<meta name="viewport" content="width=device-width, initial-scale=1">\n'
         f"<title>{markup(title)}</title>\n<style>{STYLE}</style>\n</head>\n<body>\n"
-        f"<main>\n{head(judged)}{body}</main>\n<script>{SCRIPT}</script>\n</body>\n</html>\n"
+        f"<main>\n{head(judged)}{front}{body}</main>\n<script>{SCRIPT}</script>\n</body>\n</html>\n"
     )
 
 
