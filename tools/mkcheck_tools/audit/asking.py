@@ -39,6 +39,12 @@ class Asked:
     trusted: tuple[str, ...] = ()
     jobs: int | None = None
     replay: bool = True
+    record: bool = True
+    """Whether what has changed is recorded; else what was recorded before is judged."""
+
+    fresh_only: bool = False
+    """Whether footprints of other sources than today's are no evidence."""
+
     allow_unjudged: bool = False
     accepted: tuple[Accepted, ...] = ()
     new_baseline: str | None = None

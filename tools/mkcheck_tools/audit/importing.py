@@ -12,7 +12,7 @@ from typing import Any
 from mkcheck_tools.audit.asking import Asked
 from mkcheck_tools.audit.makefile_lines import Sources, rule_line
 from mkcheck_tools.audit.readers import NINJA, Reader
-from mkcheck_tools.audit.recording import program
+from mkcheck_tools.audit.recording import KEPT, program
 from mkcheck_tools.audit.verdicts import Audited, Finding, Mend, Spot
 from mkcheck_tools.book.note_files import read_notes
 from mkcheck_tools.faults import Fault
@@ -29,10 +29,14 @@ PRESUMED = "Of a recipe that isn't judged it is presumed that it writes its targ
 def audit_of_build(asked: Asked, reader: Reader) -> Audited:
     """Imports what has changed, and gives the answer."""
     status = imported(asked, reader)
-    path = Path(asked.root, ANSWER)
-    if not path.exists():
+    if not os.path.exists(os.path.join(asked.root, ANSWER)):
         raise Failed(status)
-    value = read(path)
+    return answer_before(asked, reader)
+
+
+def answer_before(asked: Asked, reader: Reader) -> Audited:
+    """The answer of the last import."""
+    value = read(Path(asked.root, ANSWER))
     noted = read_notes(os.path.join(asked.root, BOOK))
     sources = Sources(asked.root)
     return Audited(
@@ -76,9 +80,10 @@ def run(words: list[str]) -> int:
     process = subprocess.Popen(words, stdin=subprocess.DEVNULL, stdout=subprocess.DEVNULL)
     try:
         return process.wait()
-    except Stopped:
+    except Stopped as stopped:
         process.terminate()
         process.wait()
+        stopped.rest = KEPT
         raise
 
 
@@ -89,6 +94,9 @@ def read(path: Path) -> dict[str, Any]:
         value: dict[str, Any] = json.loads(text)
         if value["format"] == FORMAT:
             return value
+    except FileNotFoundError:
+        said = f"there is no answer of an import yet ({path}): leave out --no-record"
+        raise Fault(said) from None
     except (OSError, ValueError, KeyError, TypeError):
         pass
     raise Fault(f"{path} can't be read as an answer of this release: remove {path.parent}")

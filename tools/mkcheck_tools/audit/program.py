@@ -7,6 +7,7 @@ import os
 import sys
 import time
 from collections.abc import Sequence
+from dataclasses import replace
 from functools import partial
 from pathlib import Path
 from typing import Any
@@ -23,13 +24,15 @@ from mkcheck_tools.audit.asking import (
     words_over,
 )
 from mkcheck_tools.audit.baselines import read_baseline, write_baseline
-from mkcheck_tools.audit.importing import audit_of_build
+from mkcheck_tools.audit.freshness import Unknown, changed_since, sentence_of
+from mkcheck_tools.audit.importing import answer_before, audit_of_build
 from mkcheck_tools.audit.makefile_lines import Sources
 from mkcheck_tools.audit.judgements import Judgement
 from mkcheck_tools.audit.mending import mending_of, texts_of
 from mkcheck_tools.audit.outputs import write_output
 from mkcheck_tools.audit.readers import POSIX, READERS, Reader, checker_of, picked
 from mkcheck_tools.audit.recording import audit_of_makefile
+from mkcheck_tools.audit.recording import judged as judged_makefile
 from mkcheck_tools.audit.settings import NAME, Settings, settings_in
 from mkcheck_tools.audit.texts import Paint, headline, is_in_ci
 from mkcheck_tools.audit.verdicts import Audited, number_of
@@ -78,8 +81,17 @@ def words_of(arguments: list[str]) -> argparse.Namespace:
     )
     add("-o", metavar="FILE", dest="outputs", action=Collected, help="where that form goes")
     add("--no-replay", action="store_true", help="don't run each recipe again, and say so")
+    add("--no-record", action="store_true", help="judge what was recorded before, without a build")
+    add(
+        "--fresh-only",
+        action=argparse.BooleanOptionalAction,
+        help="with --no-record: no answer where a source changed since; the default in CI",
+    )
     add("words", metavar="WORD", nargs="*", help="a goal, or a macro where it has an =")
-    return parser.parse_intermixed_args(arguments)
+    asked = parser.parse_intermixed_args(arguments)
+    if asked.no_record and asked.fix:
+        parser.error("--fix records again, so it can't stand beside --no-record")
+    return asked
 
 
 def asked_by(words: argparse.Namespace) -> Asked:
@@ -101,6 +113,8 @@ def asked_by(words: argparse.Namespace) -> Asked:
         settings.trust,
         settings.jobs,
         not words.no_replay,
+        not words.no_record,
+        is_in_ci() if words.fresh_only is None else words.fresh_only,
         words.allow_unjudged,
         accepted,
         new_baseline,
@@ -200,9 +214,30 @@ def fix(asked: Asked, judgement: Judgement, begun: int) -> None:
 
 def audited_by(asked: Asked, reader: Reader) -> Audited:
     """The audit by the reader that was picked."""
+    if not asked.record:
+        return audited_before(asked, reader)
+    audit = audit_of_makefile if reader.kind == POSIX else audit_of_build
+    return audit(asked, reader)
+
+
+def audited_before(asked: Asked, reader: Reader) -> Audited:
+    """The audit of what was recorded before."""
+    old = ""
+    try:
+        changed = changed_since(asked.root, reader)
+        old = sentence_of(changed) if changed else ""
+    except Unknown as unknown:
+        if asked.fresh_only:
+            raise
+        old = str(unknown)
+    if old and asked.fresh_only:
+        refused = f"the build was {old}, so that is no evidence: audit it without --no-record"
+        return Audited(reader.path, "", refused=refused)
     if reader.kind == POSIX:
-        return audit_of_makefile(asked, reader)
-    return audit_of_build(asked, reader)
+        audited = judged_makefile(asked.wanted_by(reader), ())
+    else:
+        audited = answer_before(asked, reader)
+    return replace(audited, remarks=(*audited.remarks, *([old] if old else [])))
 
 
 def make_store(asked: Asked) -> None:

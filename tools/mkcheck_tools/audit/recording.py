@@ -6,6 +6,7 @@ import os
 import shutil
 import sys
 from collections.abc import Sequence
+from functools import partial
 from pathlib import Path
 
 from mkcheck_tools.answers.findings import Group, answer_of
@@ -23,9 +24,12 @@ from mkcheck_tools.imports.recorded import lines_of
 from mkcheck_tools.imports.telling import Telling
 from mkcheck_tools.run.folders import prefix_of
 from mkcheck_tools.run.places import Place
+from mkcheck_tools.run.stopping import Stopped
 
 TOOL = "POSIX make"
 BOOK = os.path.join(".mkcheck", "footprint.json")
+# What is said where a signal ended an audit.
+KEPT = "the next audit takes what was recorded"
 # Kinds by which a recipe has no footprint, so that nothing is known of it.
 UNRECORDED = ("record", "commands")
 
@@ -60,9 +64,13 @@ def recorded(asked: Asked, wanted: Wanted) -> list[str]:
     words += ["--", *wanted.words]
     environment = {**os.environ, "MKCHECK": checker_of(wanted).program}
     place = Place.of(wanted.root)
-    status, said, errors = Telling(program="mkcheck-audit").during(
-        "record", tail.text, lambda: run_here(place, words, environment, tail)
-    )
+    telling = Telling(program="mkcheck-audit")
+    record = partial(run_here, place, words, environment, tail)
+    try:
+        status, said, errors = telling.during("record", tail.text, record)
+    except Stopped as stopped:
+        stopped.rest = KEPT
+        raise
     lines = lines_of(said + errors, asked.trusted)
     if status not in (0, 1) or not book.exists() or (status == 1 and stamp_of(book) == before):
         raise Fault(f"the build can't be recorded:\n{said_of(said + errors)}")
