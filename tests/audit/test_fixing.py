@@ -99,7 +99,7 @@ def test_makefiles_that_a_tool_writes_and_files_elsewhere_are_left_as_they_are(
     mending = mending_of(audited, Sources(str(tmp_path)))
     assert mending.additions == ()
     assert [left.why for left in mending.left] == [
-        "add `a: c` to Makefile; CMake writes it",
+        "Makefile lacks `a: c`; CMake writes it",
         "add `a: c` to /usr/lib/x.mk, which isn't a file of the project",
     ]
 

@@ -92,7 +92,7 @@ def why_left(finding: Finding, audited: Audited, sources: Sources) -> str | None
     for mend in finding.mends:
         name = mend.spot.file
         if name in audited.generators:
-            return f"add `{mend.text}` to {name}; {audited.generators[name]}"
+            return f"{name} lacks `{mend.text}`; {audited.generators[name]}"
         if name.endswith(".ninja"):
             return f"add to that build line: {' '.join(mend.words)}"
         if mend.takes_all:
