@@ -84,9 +84,9 @@ def github_text(judgement: Judgement) -> str:
     audited, prefix = judgement.audited, prefix_of(judgement.sources.root)
     lines = []
     for finding in audited.open:
-        said = [finding.sentence, *(f"add: {mend.text}" for mend in finding.mends)]
         why = judgement.mending.why(finding)
-        said += [why] if why else []
+        lines_to_add = [f"add: {mend.text}" for mend in finding.mends]
+        said = [finding.sentence, *(lines_to_add if why is None else filter(None, [why]))]
         place = {"file": prefix + finding.spot.file, "line": str(finding.spot.line or 1)}
         lines.append(command("error", "\n".join(said), {**place, "title": f"{finding.kind}"}))
     lines += [command("warning", f"not judged: {text}", {}) for text in audited.unjudged]
