@@ -210,7 +210,7 @@ module _ (g : Graph) (s : Setting) (b : Behaviours) (p : Runs) (running : List �
   }
 
 -- the disk of a world is coherent
-coherent_in : (g : Graph) (s : Setting) (b : Behaviours) (w : World) → IsKept g s b w → HasCoherentDiskBy g s b w
+pub coherent_in : (g : Graph) (s : Setting) (b : Behaviours) (w : World) → IsKept g s b w → HasCoherentDiskBy g s b w
 coherent_in g s b (Idle d) kept = kept_is_coherent g s b kept.runs [] d kept.known kept.is kept.are
 coherent_in g s b (Busy m d) kept = kept_is_coherent g s b kept.runs m.running d kept.known kept.is.fits kept.are
 

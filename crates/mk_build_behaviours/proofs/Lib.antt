@@ -8,5 +8,6 @@ pub mod Following
 pub mod Present
 pub mod Keeping
 pub mod Coherence
+pub mod Traces
 pub mod OneJob
 pub mod Straight

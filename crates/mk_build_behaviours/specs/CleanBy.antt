@@ -28,7 +28,8 @@ build_by g s b at goals = make_all_by g s b (Some at) (order_from g goals)
 
 -- Each file written by a recipe that the goals reach is on the disk with the content that a clean
 -- build of the goals gives, from the present contents of the given files.
-pub record IsBuiltBy (g : Graph) (s : Setting) (b : Behaviours) (d : Disk) (goals : List ℕ) : Type 0 where
+pub record IsBuiltBy (g : Graph) (s : Setting) (b : Behaviours) (d : Disk) (goals : List ℕ) :
+    Type 0 where
   pub clean : Contents
   pub has_value : build_by g s b (given_contents s d) goals ≡ Some clean
   pub holds : (t : ℕ) (f : FileName) → ReachedFrom g goals t → Has (writes g s t) f → (c : ℕ) ×
@@ -47,7 +48,7 @@ ReadWithin g s b at (n ∷ ns) =
     ((node g n).recipe ≡ true → IsWithin (path (behaviour g b n) at) (reads g s n)) ×
     ((next : Contents) × (make_by g s b at n ≡ Some next) × ReadWithin g s b next ns)
 
--- The footprints are present: in the clean build of all goals from the present contents of the given
--- files, each recipe reads only files of its footprint.
+-- The footprints are present: in the clean build of all goals from the present contents of the
+-- given files, each recipe reads only files of its footprint.
 abbrev pub ArePresent : Graph → Setting → Behaviours → Disk → Type 0
 ArePresent g s b d = ReadWithin g s b (given_contents s d) (order_from g g.goals)

@@ -9,7 +9,8 @@ use Rattle.mk_build.specs.World.{Disk, World, Idle, Busy, content, HasStamp}
 use Rattle.mk_build.specs.Coherent.{LastRun, IsBoundToRun, ContainsOrChanged}
 use Rattle.mk_build_behaviours.specs.Behaviours.{Behaviours, behaviour, path, result}
 
--- The setting with these reads in its footprints. What recipes write and which files are given stays.
+-- The setting with these reads in its footprints. What recipes write and which files are given
+-- stays.
 abbrev pub with_reads : Setting → (FileName → List FileName) → Setting
 with_reads s footprints = record s { reads = footprints }
 
@@ -18,8 +19,10 @@ abbrev pub without_reads : Setting → Setting
 without_reads s = with_reads s (λ target. [])
 
 -- The recipe is as this run left it: its files contain the result of what the run saw and were last
--- written during it, and each file on the run's path contains what the run saw or has changed since.
-pub record IsAsLeftBy (g : Graph) (s : Setting) (b : Behaviours) (run : LastRun) (d : Disk) (t : ℕ) : Type 0 where
+-- written during it, and each file on the run's path contains what the run saw or has changed
+-- since.
+pub record IsAsLeftBy (g : Graph) (s : Setting) (b : Behaviours) (run : LastRun) (d : Disk)
+    (t : ℕ) : Type 0 where
   pub holds : map (content d) (writes g s t) ≡ map (λ c. Some c) (result (behaviour g b t) run.saw)
   pub during : (f : FileName) (stamp : ℕ) → Has (writes g s t) f → HasStamp d f stamp →
       (run.began < stamp) × (stamp ≤ run.ended)
@@ -29,7 +32,8 @@ pub record IsAsLeftBy (g : Graph) (s : Setting) (b : Behaviours) (run : LastRun)
 -- The disk is coherent while these recipes run: no stamp is later than the clock; each other recipe
 -- is bound to run, or is as its last whole run left it; and of two recipes of which one runs before
 -- the other, the last runs didn't overlap.
-pub record IsCoherentWhileBy (g : Graph) (s : Setting) (b : Behaviours) (running : List ℕ) (d : Disk) : Type 0 where
+pub record IsCoherentWhileBy (g : Graph) (s : Setting) (b : Behaviours) (running : List ℕ)
+    (d : Disk) : Type 0 where
   pub last : ℕ → LastRun
   pub stamped : (f : FileName) (stamp : ℕ) → HasStamp d f stamp → stamp ≤ d.clock
   pub came : (t : ℕ) → ((last t).began ≤ (last t).ended) × ((last t).ended ≤ d.clock)

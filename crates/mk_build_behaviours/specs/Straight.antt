@@ -24,8 +24,8 @@ abbrev pub AgreeWith : (ℕ → List (Option ℕ) → List ℕ) → List Outcome
 AgreeWith write known =
     (t : ℕ) (seen : List (Option ℕ)) (w : List ℕ) → outcome known t seen ≡ Some w → w ≡ write t seen
 
--- The known outcomes are those of the behaviours: a recipe that sees in its footprint what the run of
--- an outcome saw reads only files of its footprint, and writes what the outcome says.
+-- The known outcomes are those of the behaviours: a recipe that sees in its footprint what the run
+-- of an outcome saw reads only files of its footprint, and writes what the outcome says.
 abbrev pub AreOutcomesOf : Graph → Setting → Behaviours → List Outcome → Type 0
 AreOutcomesOf g s b known =
     (t : ℕ) (at : Contents) (w : List ℕ) → (node g t).recipe ≡ true →

@@ -20,8 +20,8 @@ StraightTracesAreTodays =
     ((known : List Outcome) ×
     (after_all g s (Idle d) steps ≡ with_outcomes (after_all_by g s (Idle d) steps) known))
 
--- A trace of today's world is a trace by behaviours if the outcomes known at its end are those of the
--- behaviours, straight or not. Looks may come in any order.
+-- A trace of today's world is a trace by behaviours if the outcomes known at its end are those of
+-- the behaviours, straight or not. Looks may come in any order.
 abbrev pub TodaysTracesAreTraces : Type 0
 TodaysTracesAreTraces =
     (g : Graph) (s : Setting) (b : Behaviours) (d : Disk) (steps : List Step) →

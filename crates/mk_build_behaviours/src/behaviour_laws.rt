@@ -1,7 +1,7 @@
 //! Laws of builds whose recipes behave as trees. Each is the contract of an empty function; calling
 //! the function gives the law.
 
-ghost use Rattle.mk_build_behaviours.specs.BehaviourLaws.{StartIsCoherentBy, CoherenceIsKeptBy, PresentFootprintsSuffice, PresentMakesAreUndisturbed, EachMakeIsRight};
+ghost use Rattle.mk_build_behaviours.specs.BehaviourLaws.{StartIsCoherentBy, CoherenceIsKeptBy, PresentFootprintsSuffice, PresentTracesAreRight, PresentTracesAreUndisturbed, EachMakeIsRight};
 ghost use Rattle.mk_build_behaviours.specs.Undisturbed.{OneJobIsUndisturbed, ApartIsUndisturbed};
 ghost use Rattle.mk_build_behaviours.specs.StraightLaws.{StraightTracesAreTodays, TodaysTracesAreTraces, StraightOutcomesAreThese, StraightFootprintsArePresent};
 
@@ -23,9 +23,15 @@ pub fn present_footprints_suffice()
     ensures { PresentFootprintsSuffice }
 {}
 
-/// Such a make changes no file that a recipe reads before the end of its run.
-pub fn present_makes_are_undisturbed()
-    ensures { PresentMakesAreUndisturbed }
+/// If, beside this, footprints are present whenever a make begins, then each trace from a coherent
+/// disk is right.
+pub fn present_traces_are_right()
+    ensures { PresentTracesAreRight }
+{}
+
+/// In such a trace no file that a recipe reads changes before the end of its run.
+pub fn present_traces_are_undisturbed()
+    ensures { PresentTracesAreUndisturbed }
 {}
 
 /// Each make is right, whatever was before: after any trace from a coherent disk in which no file
@@ -41,8 +47,8 @@ pub fn one_job_is_undisturbed()
     ensures { OneJobIsUndisturbed }
 {}
 
-/// If no recipe runs while another one runs that writes what it has looked at, no file that a recipe
-/// reads changes before the end of its run.
+/// If no recipe runs while another one runs that writes what it has looked at, no file that a
+/// recipe reads changes before the end of its run.
 pub fn apart_is_undisturbed()
     ensures { ApartIsUndisturbed }
 {}
