@@ -1,6 +1,6 @@
 -- A make whose recipes behave as trees follows one of today's world, over outcomes that are true of the clean contents.
 use Rattle.std.proofs.Common.{◌≡◌, ℕ, List, [], ◌∷◌, Bool, true, false, Option, Some, None, map, inl, inr, ⊎_elim, refl, sym, ◌∙◌, ap, subst}
-use Rattle.std.specs.Prelude.{IfSome, if◌then◌else◌}
+use Rattle.std.specs.Prelude.{if◌then◌else◌}
 use Rattle.std.specs.Option.{option_flatten, option_map}
 use Rattle.std.proofs.lemmas.Bool.{cases_eq, true≢false}
 use Rattle.mk_graph.specs.Membership.{Has}
@@ -25,15 +25,10 @@ use Rattle.mk_build.proofs.Invariant.{start_after}
 use Rattle.mk_build.proofs.Histories.{step_keeps, step_settles, IsWhole}
 use Rattle.mk_build_behaviours.specs.Behaviours.{Behaviours, behaviour, path, result}
 use Rattle.mk_build_behaviours.specs.StepsBy.{saw_in, MayEndBy, AllowedBy, after_by, IsLegalBy, after_all_by, IsUndisturbed}
-use Rattle.mk_build_behaviours.proofs.Paths.{same_walk}
+use Rattle.mk_build_behaviours.proofs.Paths.{same_walk, if_some_from}
 use Rattle.mk_build_behaviours.proofs.Putting.{put_is_held}
 use Rattle.mk_build_behaviours.proofs.CleanContents.{IsClean}
 use Rattle.mk_build_behaviours.proofs.Seeing.{Sees, SeesIn, AreOthers, sees_after}
-
--- what holds of whatever is there holds if something is
-if_some_from : {A : Type 0} (o : Option A) (P : A → Type 0) → ((a : A) → o ≡ Some a → P a) → IfSome o P
-if_some_from None P h = tt
-if_some_from (Some a) P h = h a refl
 
 module _ (g : Graph) (s : Setting) (b : Behaviours) (graph : IsGraph g) (sound : AreSound g s) (no_race : HaveNoRace g s) (ways : HaveWays g s)
     (given clean : Contents) (all : List ℕ) (is : IsClean g s b given clean all)

@@ -9,5 +9,6 @@ pub mod Present
 pub mod Keeping
 pub mod Coherence
 pub mod Traces
+pub mod OtherReads
 pub mod OneJob
 pub mod Straight

@@ -1,6 +1,6 @@
 -- Traces of today's world are traces by behaviours, and those by straight behaviours are of today's world.
-use Rattle.std.proofs.Common.{◌≡◌, ℕ, List, [], ◌∷◌, Bool, true, false, Option, Some, None, map, length, ⊎_elim, refl, sym, ◌∙◌, ap, subst}
-use Rattle.std.specs.Prelude.{IfSome, is_some}
+use Rattle.std.proofs.Common.{◌≡◌, ℕ, List, [], ◌∷◌, Bool, true, false, Option, Some, map, length, ⊎_elim, refl, sym, ◌∙◌, ap, subst}
+use Rattle.std.specs.Prelude.{is_some}
 use Rattle.std.proofs.lemmas.Bool.{cases_Bool, cond-true, cond-false}
 use Rattle.mk_graph.specs.Membership.{Has}
 use Rattle.mk_graph.specs.Graph.{Graph, node}
@@ -16,6 +16,7 @@ use Rattle.mk_build_behaviours.specs.Behaviours.{Behaviour, Behaviours, behaviou
 use Rattle.mk_build_behaviours.specs.CleanBy.{run_by, make_by, ReadWithin, ArePresent}
 use Rattle.mk_build_behaviours.specs.StepsBy.{saw_in, MayEndBy, AllowedBy, after_by, IsLegalBy, after_all_by}
 use Rattle.mk_build_behaviours.specs.Straight.{straight, AreStraight, AgreeWith, AreOutcomesOf, LooksWithin, AllLookWithin, with_outcomes}
+use Rattle.mk_build_behaviours.proofs.Paths.{if_some_from}
 use Rattle.mk_build_behaviours.proofs.Known.{outcome_cases}
 
 -- a straight behaviour reads its files
@@ -27,11 +28,6 @@ path_straight (f ∷ files) write at = ap (λ (l : List FileName). f ∷ l) (pat
 result_straight : (files : List FileName) (write : List (Option ℕ) → List ℕ) (at : Contents) → result (straight files write) at ≡ write (map at files)
 result_straight [] write at = refl
 result_straight (f ∷ files) write at = result_straight files (λ seen. write (at f ∷ seen)) at
-
--- what holds of whatever is there holds if something is
-if_some_from : {A : Type 0} (o : Option A) (P : A → Type 0) → ((a : A) → o ≡ Some a → P a) → IfSome o P
-if_some_from None P h = tt
-if_some_from (Some a) P h = h a refl
 
 -- an outcome that agrees may be noted
 agree_noted : (write : ℕ → List (Option ℕ) → List ℕ) (d : Disk) (o : Outcome) → AgreeWith write d.known → o.written ≡ write o.recipe o.seen → AgreeWith write (noted d o).known

@@ -86,3 +86,16 @@ EachMakeIsRight =
     IsLegalBy g (with_reads s footprints) b (Idle now) (Make jobs goals ∷ steps) →
     IsRightBy g (with_reads s footprints) b
     (after_all_by g (with_reads s footprints) (Idle now) (Make jobs goals ∷ steps))
+
+-- What footprints say is read decides nothing of traces and of coherent disks: with other reads a
+-- coherent disk is coherent, and a trace is one, leaves the same world, and disturbs no recipe if
+-- it didn't.
+abbrev pub ReadsDecideNothing : Type 0
+ReadsDecideNothing =
+    (g : Graph) (s : Setting) (b : Behaviours) (footprints : FileName → List FileName) →
+    ((d : Disk) → IsCoherentBy g s b d → IsCoherentBy g (with_reads s footprints) b d) ×
+    ((world : World) (steps : List Step) → IsLegalBy g s b world steps →
+    IsLegalBy g (with_reads s footprints) b world steps ×
+    (after_all_by g (with_reads s footprints) world steps ≡ after_all_by g s world steps) ×
+    (AreUndisturbed g s b world steps →
+    AreUndisturbed g (with_reads s footprints) b world steps))

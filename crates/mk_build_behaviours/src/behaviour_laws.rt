@@ -1,7 +1,7 @@
 //! Laws of builds whose recipes behave as trees. Each is the contract of an empty function; calling
 //! the function gives the law.
 
-ghost use Rattle.mk_build_behaviours.specs.BehaviourLaws.{StartIsCoherentBy, CoherenceIsKeptBy, PresentFootprintsSuffice, PresentTracesAreRight, PresentTracesAreUndisturbed, EachMakeIsRight};
+ghost use Rattle.mk_build_behaviours.specs.BehaviourLaws.{StartIsCoherentBy, CoherenceIsKeptBy, PresentFootprintsSuffice, PresentTracesAreRight, PresentTracesAreUndisturbed, EachMakeIsRight, ReadsDecideNothing};
 ghost use Rattle.mk_build_behaviours.specs.Undisturbed.{OneJobIsUndisturbed, ApartIsUndisturbed};
 ghost use Rattle.mk_build_behaviours.specs.StraightLaws.{StraightTracesAreTodays, TodaysTracesAreTraces, StraightOutcomesAreThese, StraightFootprintsArePresent};
 
@@ -74,4 +74,10 @@ pub fn straight_outcomes_are_these()
 /// are present, whatever the sources contain.
 pub fn straight_footprints_are_present()
     ensures { StraightFootprintsArePresent }
+{}
+
+/// With other reads in its footprints a coherent disk is coherent, and a trace is one, leaves the
+/// same world, and disturbs no recipe if it didn't.
+pub fn reads_decide_nothing()
+    ensures { ReadsDecideNothing }
 {}
