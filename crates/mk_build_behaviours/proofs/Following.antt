@@ -24,7 +24,7 @@ use Rattle.mk_build.proofs.Removing.{stays_there}
 use Rattle.mk_build.proofs.Invariant.{start_after}
 use Rattle.mk_build.proofs.Histories.{step_keeps, step_settles, IsWhole}
 use Rattle.mk_build_behaviours.specs.Behaviours.{Behaviours, behaviour, path, result}
-use Rattle.mk_build_behaviours.specs.StepsBy.{saw_in, MayEndBy, AllowedBy, after_by, IsLegalBy, after_all_by, IsUndisturbed}
+use Rattle.mk_build_behaviours.specs.StepsBy.{saw_in, MayEndBy, AllowedBy, after_by, IsLegalBy, after_all_by, IsUndisturbed, AreUndisturbed}
 use Rattle.mk_build_behaviours.proofs.Paths.{same_walk, if_some_from}
 use Rattle.mk_build_behaviours.proofs.Putting.{put_is_held}
 use Rattle.mk_build_behaviours.proofs.CleanContents.{IsClean}
@@ -294,3 +294,9 @@ module _ (g : Graph) (s : Setting) (b : Behaviours) (graph : IsGraph g) (sound :
   follow_all w [] follows inside legal = follows
   follow_all (Idle d) (first ∷ steps) follows inside legal = absurd follows
   follow_all (Busy m d) (first ∷ steps) follows inside legal = follow_all (after_by g s (Busy m d) first) steps (follow m d follows first inside.0 legal.0) inside.1 legal.1
+
+  -- which disturb no recipe
+  pub all_undisturbed : (w : World) (steps : List Step) → FollowsIn w → AreInside steps → IsLegalBy g s b w steps → AreUndisturbed g s b w steps
+  all_undisturbed w [] follows inside legal = tt
+  all_undisturbed (Idle d) (first ∷ steps) follows inside legal = absurd follows
+  all_undisturbed (Busy m d) (first ∷ steps) follows inside legal = (undisturbed m d follows first legal.0, all_undisturbed (after_by g s (Busy m d) first) steps (follow m d follows first inside.0 legal.0) inside.1 legal.1)

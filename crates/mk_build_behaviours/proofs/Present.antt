@@ -22,12 +22,12 @@ use Rattle.mk_build.proofs.CleanEnd.{open_is_needed}
 use Rattle.mk_build.proofs.StaleHistory.{recipe_among}
 use Rattle.mk_build_behaviours.specs.Behaviours.{Behaviours}
 use Rattle.mk_build_behaviours.specs.CleanBy.{make_all_by, IsRightBy, ReadWithin, ArePresent}
-use Rattle.mk_build_behaviours.specs.StepsBy.{IsLegalBy, after_all_by}
+use Rattle.mk_build_behaviours.specs.StepsBy.{IsLegalBy, after_all_by, AreUndisturbed}
 use Rattle.mk_build_behaviours.specs.CoherentBy.{IsCoherentBy}
 use Rattle.mk_build_behaviours.proofs.CleanContents.{IsClean, within_split, clean_after}
 use Rattle.mk_build_behaviours.proofs.CleanEnd.{build_agrees}
 use Rattle.mk_build_behaviours.proofs.Known.{with_known, known, coherent_with_known, known_is_true}
-use Rattle.mk_build_behaviours.proofs.Following.{Follows, FollowsIn, done_is_clean, follow_all}
+use Rattle.mk_build_behaviours.proofs.Following.{Follows, FollowsIn, done_is_clean, follow_all, all_undisturbed}
 
 -- where there are goals of a part, there are goals
 whole_part : (g : Graph) (goals : List ℕ) → IsPart goals g.goals → IsPart g.goals g.goals
@@ -131,3 +131,8 @@ module _ (g : Graph) (s : Setting) (b : Behaviours) (graph : IsGraph g) (sound :
     present_is_right steps inside legal =
         right_in (given_contents s d) build.0 is_clean (after_all_by g s (Busy (make_of jobs goals) d) steps)
         (follow_all g s b graph sound no_race ways (given_contents s d) build.0 (all_nodes g graph) is_clean (all_recipes g graph s sound) (Busy (make_of jobs goals) d) steps begins inside legal)
+
+    -- and disturbs no recipe
+    pub present_is_undisturbed : (steps : List Step) → AreInside steps → IsLegalBy g s b (Busy (make_of jobs goals) d) steps → AreUndisturbed g s b (Busy (make_of jobs goals) d) steps
+    present_is_undisturbed steps inside legal =
+        all_undisturbed g s b graph sound no_race ways (given_contents s d) build.0 (all_nodes g graph) is_clean (all_recipes g graph s sound) (Busy (make_of jobs goals) d) steps begins inside legal

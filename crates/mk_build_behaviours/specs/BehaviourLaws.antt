@@ -41,6 +41,15 @@ PresentFootprintsSuffice =
     IsLegalBy g s b (Idle d) (Make jobs goals ∷ steps) →
     IsRightBy g s b (after_all_by g s (Idle d) (Make jobs goals ∷ steps))
 
+-- Such a make disturbs no recipe, so it keeps the disk coherent.
+abbrev pub PresentMakesAreUndisturbed : Type 0
+PresentMakesAreUndisturbed =
+    (g : Graph) (s : Setting) (b : Behaviours) → IsGraph g → AreSound g s → HaveNoRace g s →
+    HaveWays g s → (d : Disk) → IsCoherentBy g s b d → ArePresent g s b d →
+    (jobs : ℕ) (goals : List ℕ) (steps : List Step) → AreInside steps →
+    IsLegalBy g s b (Idle d) (Make jobs goals ∷ steps) →
+    AreUndisturbed g s b (Idle d) (Make jobs goals ∷ steps)
+
 -- If the step begins a make, the footprints are present then.
 abbrev pub IsPresentAt : Graph → Setting → Behaviours → World → Step → Type 0
 IsPresentAt g s b (Idle d) (Make jobs goals) = ArePresent g s b d

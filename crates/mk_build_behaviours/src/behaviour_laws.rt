@@ -1,7 +1,7 @@
 //! Laws of builds whose recipes behave as trees. Each is the contract of an empty function; calling
 //! the function gives the law.
 
-ghost use Rattle.mk_build_behaviours.specs.BehaviourLaws.{StartIsCoherentBy, CoherenceIsKeptBy, PresentFootprintsSuffice, PresentTracesAreRight, PresentTracesAreUndisturbed, EachMakeIsRight, ReadsDecideNothing};
+ghost use Rattle.mk_build_behaviours.specs.BehaviourLaws.{StartIsCoherentBy, CoherenceIsKeptBy, PresentFootprintsSuffice, PresentMakesAreUndisturbed, PresentTracesAreRight, PresentTracesAreUndisturbed, EachMakeIsRight, ReadsDecideNothing};
 ghost use Rattle.mk_build_behaviours.specs.Undisturbed.{OneJobIsUndisturbed, ApartIsUndisturbed};
 ghost use Rattle.mk_build_behaviours.specs.StraightLaws.{StraightTracesAreTodays, TodaysTracesAreTraces, StraightOutcomesAreThese, StraightFootprintsArePresent};
 
@@ -21,6 +21,11 @@ pub fn coherence_is_kept_by()
 /// disk is right. What recipes read when they last ran doesn't matter.
 pub fn present_footprints_suffice()
     ensures { PresentFootprintsSuffice }
+{}
+
+/// Such a make changes no file that a recipe reads before the end of its run.
+pub fn present_makes_are_undisturbed()
+    ensures { PresentMakesAreUndisturbed }
 {}
 
 /// If, beside this, footprints are present whenever a make begins, then each trace from a coherent
