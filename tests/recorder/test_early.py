@@ -18,6 +18,7 @@ namespaces = unittest.skipUnless(
 
 # Runs the recorder, and tells when a recipe was recorded, and when its replay begins.
 TOLD = """\
+import os
 import sys
 from mkcheck_tools.record import program, recording
 from mkcheck_tools.replay.replays import Replay
@@ -27,12 +28,12 @@ run, replay = recording.run, Replay.replay_safely
 
 def recorded(recipe, *more):
     output = run(recipe, *more)
-    print("recorded", recipe.target, flush=True)
+    os.write(1, f"recorded {recipe.target}\\n".encode())
     return output
 
 
 def replayed(own, trial, *more):
-    print("replay of", trial.recipe.target, flush=True)
+    os.write(1, f"replay of {trial.recipe.target}\\n".encode())
     return replay(own, trial, *more)
 
 
