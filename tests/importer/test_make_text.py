@@ -18,6 +18,7 @@ from mkcheck_tools.imports.saving import build_of_text, text_of_build
 from mkcheck_tools.imports.transcripts import BEGINNING, MARK, prefix_of, read_transcript
 from mkcheck_tools.imports.translating import Translation
 from mkcheck_tools.imports.trying import Said, Trial
+from mkcheck_tools.imports.views import Subject
 from mkcheck_tools.judge.refusals import started_make
 from mkcheck_tools.run.places import Place
 
@@ -314,7 +315,8 @@ class TranslationTest(unittest.TestCase):
         )
         transcript = read_transcript(text.encode(), [])
         make = Make(1, [], "/p", {"A": "b"}, transcript, 0, "")
-        build = Translation("/p", [make], {"a", "b", "c"}, None, "make", {"A": "b"}).translate()
+        subject = Subject("/p", [make], {"a", "b", "c"}, None, "make", {}, {})
+        build = Translation(subject, {"A": "b"}).translate()
         self.assertEqual(build.problems, [])
         lines = makefile(build, later=False).splitlines()
         return next(line for line in lines if line.startswith("all:"))
