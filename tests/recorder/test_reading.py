@@ -135,6 +135,15 @@ class CallsTest(unittest.TestCase):
         trace.feed("7 +++ killed by SIGKILL +++")
         self.assertTrue(trace.is_whole())
 
+    def test_such_a_call_in_two_lines_is_none(self) -> None:
+        for ends in ([], ["7 <... ??? resumed>) = ?"], ["7 <... ??? resumed>)  = ? <unavailable>"]):
+            trace = Trace()
+            trace.feed('7 execve("/bin/true", ["true"], 0x7f /* 1 var */) = 0')
+            for line in ("7 ???( <unfinished ...>", *ends, "7 +++ killed by SIGKILL +++"):
+                trace.feed(line)
+            self.assertTrue(trace.is_whole())
+            self.assertEqual([call.name for call in trace.calls()], ["execve"])
+
     def test_a_call_whose_result_is_unavailable_since_its_process_was_killed_is_none(self) -> None:
         for end in ("= ?", "= ? <unavailable>"):
             trace = Trace()

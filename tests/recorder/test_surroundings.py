@@ -128,11 +128,15 @@ class AmidTest(SurroundingsTest):
 
     @faked
     def test_nothing_is_left_of_the_clock(self) -> None:
-        before = {*os.listdir("/dev/shm")}
         self.write({"makefile": "out: a\n\tcat a > out\n", "a": ""})
-        self.recorded()
-        left = {*os.listdir("/dev/shm")} - before
-        gone = [name for name in left if not os.path.exists(f"/proc/{name.rpartition('_')[2]}")]
+        gone = []
+        for _ in range(3):  # A recorder that another test kills meanwhile leaves its own.
+            before = {*os.listdir("/dev/shm")}
+            self.recorded()
+            left = {*os.listdir("/dev/shm")} - before
+            gone = [name for name in left if not os.path.exists(f"/proc/{name.rpartition('_')[2]}")]
+            if not gone:
+                break
         self.assertEqual(gone, [])
 
     @faked

@@ -151,8 +151,12 @@ RESUMED = re.compile(r"<\.\.\. (\w+) resumed>")
 ENDED = re.compile(r"\+\+\+ (?:exited with \d+|killed by \w+(?: \(core dumped\))?) \+\+\+$")
 SUPERSEDED = re.compile(r"\+\+\+ superseded by execve in pid (\d+) \+\+\+$")
 # Stops by a signal, and a note on programs for another processor.
-# A process that was killed as it began a call leaves ???(), which did nothing.
-NOTE = re.compile(r"--- .* ---$|\[ .* \]$|\?\?\?\(\)\s+= \?$")
+# A process that was killed as it began a call leaves ???(), which did nothing. Where another
+# process is told of in between, that stands in two lines, or the first of them alone.
+NOTE = re.compile(
+    r"--- .* ---$|\[ .* \]$|\?\?\?\(\)\s+= \?(?: <unavailable>)?$"
+    r"|\?\?\?\( <unfinished \.\.\.>$|<\.\.\. \?\?\? resumed>\)\s+= \?(?: <unavailable>)?$"
+)
 UNFINISHED = " <unfinished ...>"
 # A look at what a descriptor has open, as C's fstat is one.
 OF_DESCRIPTOR = re.compile(r'(?:newfstatat|fstatat64|statx)\(\d+(?:<[^<>]*>)?, "", ')
