@@ -106,6 +106,6 @@ def name_of(word: str) -> str:
 
 
 def use_processors(jobs: int | None) -> None:
-    """Lets this program, and all that it starts, use so many processors at most."""
+    """Lets this program, and all that it starts, use at most `jobs` processors; all without it."""
     if jobs is not None and hasattr(os, "sched_setaffinity"):
         os.sched_setaffinity(0, sorted(os.sched_getaffinity(0))[:jobs])

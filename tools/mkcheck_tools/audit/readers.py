@@ -62,7 +62,7 @@ class Reader:
 
     @property
     def line(self) -> str:
-        """What is told of it."""
+        """The sentence that says which makefile is read, and how."""
         return f"{self.path} is read as {self.why}"
 
 

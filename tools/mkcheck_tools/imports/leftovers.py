@@ -27,7 +27,7 @@ CLEAN = "clean"
 CLEAN_SECONDS = 60
 # The files of a release are made within that time, in nanoseconds.
 A_DAY = 86_400 * 10**9
-# Cleans in a copy: runs make with these words, for at most so many seconds.
+# Cleans in a copy: runs make with these words, and ends it after this number of seconds.
 Cleaning = Callable[[Sequence[str], float], list[Make]]
 
 

@@ -26,7 +26,7 @@ KINDS = {
 }
 CHUNK = 1 << 20
 NOWHERE = RealPath("")
-# A file that changed later than so many nanoseconds ago may change again and keep its stamp, since
+# In nanoseconds: a file that changed less than this ago may change again and keep its stamp, since
 # the clocks of file systems go on in steps.
 SETTLING = 2_500_000_000
 
