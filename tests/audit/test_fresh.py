@@ -26,7 +26,9 @@ def test_footprints_of_other_sources_are_no_evidence_in_a_job(project: Project) 
     )
     assert outcome.status == 2
     outcome = project.audit("--no-record")
-    assert f"To know:\n    {CHANGED}\n" in outcome.output
+    doubts = outcome.output.partition("Doubts, by which this answer may be wrong:\n")[2]
+    assert f"    {CHANGED}\n" in doubts
+    assert "with 2 doubts" in outcome.output  # The other one is that no recipe was run again.
     assert outcome.status == 1
     (project.folder / ".mkcheck/footprint.json.state").unlink()
     outcome = project.audit("--no-record", "--fresh-only")

@@ -38,6 +38,7 @@ from mkcheck_tools.audit.texts import Paint, headline, is_in_ci
 from mkcheck_tools.audit.verdicts import Audited, number_of
 from mkcheck_tools.audit.writing import patch, write_all
 from mkcheck_tools.faults import Fault
+from mkcheck_tools.judge.notes import Kind, Note
 from mkcheck_tools.report.escaping import counted, visible
 from mkcheck_tools.run.ending import ended, write_out
 from mkcheck_tools.run.paths import resolved
@@ -237,7 +238,9 @@ def audited_before(asked: Asked, reader: Reader) -> Audited:
         audited = judged_makefile(asked.wanted_by(reader), ())
     else:
         audited = answer_before(asked, reader)
-    return replace(audited, remarks=(*audited.remarks, *([old] if old else [])))
+    if not old:
+        return audited
+    return replace(audited, notes=(*audited.notes, Note("", Kind.OUTDATED, old)))
 
 
 def make_store(asked: Asked) -> None:

@@ -44,6 +44,7 @@ class Kind(Enum):
     OLD_LINK = ("old-link", DOUBT, "a recipe makes a link to a file that is older")
     OPEN = ("open", HINT, "recipes could write outside of the folder")
     OTHER_MAKEFILE = ("other-makefile", DOUBT, "GNU make reads another makefile")
+    OUTDATED = ("outdated", DOUBT, "sources changed since they were recorded (`--no-record`)")
     PORT = ("port", DOUBT, "two recipes that may run at once serve at the same address")
     PREDEFINED = ("predefined", DOUBT, "GNU make has a value of its own for a macro")
     PREFIX = ("prefix", HINT, "no file can lie under a fixed prefix")
