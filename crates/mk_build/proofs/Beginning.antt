@@ -10,9 +10,9 @@ use Rattle.mk_build.specs.Steps.{Begin, Ready, begun}
 use Rattle.mk_build.specs.Runs.{Runs, runs_after}
 use Rattle.mk_build.proofs.Changes.{changed_at_here, changed_at_there}
 use Rattle.mk_build.proofs.InOrder.{runs_not_done, begun_in_order}
-use Rattle.mk_build.proofs.Invariant.{WasThrough, Fits, InMake, AreUpToDate, Holds, ran_moved, up_moved}
+use Rattle.mk_build.proofs.Invariant.{WasThrough, AreOld, Fits, InMake, AreUpToDate, Holds, ran_moved, up_moved}
 
-module _ (g : Graph) (s : Setting) (p : Runs) (start : ℕ) (m : Making) (d : Disk) (fits : Fits g s p m.running d) (is : InMake g s p start m d) (x : ℕ) (ready : Ready g m x) (recipe : (node g x).recipe ≡ true) where
+module _ (g : Graph) (s : Setting) (epoch : ℕ) (p : Runs) (start : ℕ) (m : Making) (d : Disk) (fits : Fits g s epoch p m.running d) (is : InMake g s epoch p start m d) (x : ℕ) (ready : Ready g m x) (recipe : (node g x).recipe ≡ true) where
   -- the runs after the begin
   abbrev now : Runs
   now = runs_after (Busy m d) (Begin x) p
@@ -49,23 +49,24 @@ module _ (g : Graph) (s : Setting) (p : Runs) (start : ℕ) (m : Making) (d : Di
   moved o t differ was = subst (λ (k : ℕ). WasThrough g s (p.last o) (x ∷ m.running) d o (now.began t) k) (sym (step_there t differ)) (subst (λ (k : ℕ). WasThrough g s (p.last o) (x ∷ m.running) d o k (p.begin_step t)) (sym (began_there t differ)) was)
 
   -- of two of which one is before the other, one was through when the other last began
-  apart_begun : (o t : ℕ) → Before g o t → WasThrough g s (p.last o) (x ∷ m.running) d o (now.began t) (now.begin_step t) ⊎ WasThrough g s (p.last t) (x ∷ m.running) d t (now.began o) (now.begin_step o)
+  apart_begun : (o t : ℕ) → Before g o t → WasThrough g s (p.last o) (x ∷ m.running) d o (now.began t) (now.begin_step t) ⊎ WasThrough g s (p.last t) (x ∷ m.running) d t (now.began o) (now.begin_step o) ⊎ AreOld epoch now (x ∷ m.running) o t
   apart_begun o t before =
       ⊎_elim (λ same. let o_done : Has m.done o = subst (λ (k : ℕ). Before g o k) (sym same) before recipe
       m.goals m.done is.order.part is.order.turns ready.0 in inl
       (through_now o (now.began t) (now.begin_step t) (λ here. ready.0.not_done
       (subst (λ (k : ℕ). Has m.done k) (sym here) o_done))
       (λ runs. runs_not_done g m is.order o runs o_done) (began_here t same) (step_here t same)))
-      (λ differ. ⊎_elim (λ same. inr (through_now t (now.began o) (now.begin_step o) differ
+      (λ differ. ⊎_elim (λ same. inr (inl (through_now t (now.began o) (now.begin_step o) differ
       (λ runs. ready.0.not_done (subst (λ (k : ℕ). Has m.done k) (sym same)
       (before (is.order.recipes t runs) m.goals m.done is.order.part is.order.turns
-      (is.order.running t runs)))) (began_here o same) (step_here o same)))
+      (is.order.running t runs)))) (began_here o same) (step_here o same))))
       (λ apart. ⊎_elim (λ one. inl (moved o t differ (through_there o (p.began t) (p.begin_step t) apart one)))
-      (λ two. inr (moved t o apart (through_there t (p.began o) (p.begin_step o) differ two))) (fits.apart o t before))
+      (λ rest. inr (⊎_elim (λ two. inl (moved t o apart (through_there t (p.began o) (p.begin_step o) differ two)))
+      (λ old. inr (record { first_stopped = λ h. ⊎_elim apart old.first_stopped h; second_stopped = λ h. ⊎_elim differ old.second_stopped h; in_order = old.in_order })) rest)) (fits.apart o t before))
       (cases_eq x o)) (cases_eq x t)
 
   -- the disk fits the runs after the begin
-  fits_begun : Fits g s now (x ∷ m.running) d
+  fits_begun : Fits g s epoch now (x ∷ m.running) d
   fits_begun = record {
     stamped = fits.stamped;
     began = λ t. ⊎_elim (λ same. let at = began_here t same in omega arith) (λ differ. let same = began_there t differ in let came = fits.began t in omega arith) (cases_eq x t);
@@ -73,6 +74,7 @@ module _ (g : Graph) (s : Setting) (p : Runs) (start : ℕ) (m : Making) (d : Di
     end_step = λ t run is_last. let came = fits.end_step t run is_last in omega arith;
     whole = λ t t_recipe stopped. ⊎_elim (λ bound. inl bound) (λ ran. inr (ran.0, ran_moved g s p now ran.0 d t refl (began_there t (other t stopped)) (step_there t (other t stopped)) ran.1)) (fits.whole t t_recipe (λ runs. stopped (inr runs)));
     saw = fits.saw;
+    epoch_came = fits.epoch_came;
     apart = apart_begun;
   }
 
@@ -105,12 +107,13 @@ module _ (g : Graph) (s : Setting) (p : Runs) (start : ℕ) (m : Making) (d : Di
   begin_settled up t t_done t_recipe = up_moved g s p now start d t refl (began_there t (done_differs t t_done)) (step_there t (done_differs t t_done)) (up t t_done t_recipe)
 
   -- the invariant after the begin of a recipe
-  pub begin_holds : Holds g s now start (begun m x) d
+  pub begin_holds : Holds g s epoch now start (begun m x) d
   begin_holds = record {
     fits = fits_begun;
     make = record {
       order = begun_in_order g m is.order x ready recipe;
       start_came = is.start_came;
+      epoch_before = is.epoch_before;
       seen = λ t f v runs read e. let old = seen_before t f v e in is.seen t f v (ran t old.0 runs) read old.1;
       put = λ t f c runs wrote e. let old = put_before t f c e in is.put t f c (ran t old.0 runs) wrote old.1;
       put_late = λ t f c stamp runs wrote e has. let old = put_before t f c e in let same = began_there t old.0 in let late = is.put_late t f c stamp (ran t old.0 runs) wrote old.1 has in omega arith;

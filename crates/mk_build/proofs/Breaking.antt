@@ -1,5 +1,5 @@
 -- The invariant over a recipe that breaks off.
-use Rattle.std.proofs.Common.{◌≡◌, ℕ, true, false, Bool, Option, Some, None, inl, inr, ⊎_elim, refl, sym, ◌∙◌, ap, subst, ◌⊎◌}
+use Rattle.std.proofs.Common.{◌≡◌, ℕ, true, false, Bool, Option, Some, None, inl, inr, ⊎_elim, refl, sym, ◌∙◌, ap, subst}
 use Rattle.std.specs.Prelude.{if◌then◌else◌}
 use Rattle.std.specs.Option.{option_map}
 use Rattle.std.proofs.lemmas.Bool.{cases_eq}
@@ -19,13 +19,13 @@ use Rattle.mk_build.proofs.Putting.{before_running, before_done}
 use Rattle.mk_build.proofs.Removing.{fits_without, gone_here, stays_there}
 use Rattle.mk_build.proofs.Invariant.{RanWhole, WasThrough, Fits, InMake, AreUpToDate, Holds}
 
-module _ (g : Graph) (s : Setting) (p : Runs) (m : Making) (d : Disk) (fits : Fits g s p m.running d) (x : ℕ) where
+module _ (g : Graph) (s : Setting) (epoch : ℕ) (p : Runs) (m : Making) (d : Disk) (fits : Fits g s epoch p m.running d) (x : ℕ) where
   -- what was through is through
   through_broken : (t clock step : ℕ) → WasThrough g s (p.last t) m.running d t clock step → WasThrough g s (p.last t) (broken_off m x).running d t clock step
   through_broken t clock step was = record { stopped = λ runs. was.stopped (Has-without x t m.running runs).0; early = was.early; ended = was.ended; end_step = was.end_step }
 
   -- a recipe that no longer runs and is bound to run fits
-  fits_broken : IsBoundToRun g s d x → Fits g s p (broken_off m x).running d
+  fits_broken : IsBoundToRun g s d x → Fits g s epoch p (broken_off m x).running d
   fits_broken bound = record {
     stamped = fits.stamped;
     began = fits.began;
@@ -33,11 +33,12 @@ module _ (g : Graph) (s : Setting) (p : Runs) (m : Making) (d : Disk) (fits : Fi
     end_step = fits.end_step;
     whole = λ t recipe stopped. ⊎_elim (λ same. inl (subst (λ (k : ℕ). IsBoundToRun g s d k) same bound)) (λ differ. fits.whole t recipe (λ runs. stopped (Has-from_without x t m.running runs differ))) (cases_eq x t);
     saw = fits.saw;
-    apart = λ o t before. ⊎_elim (λ one. inl (through_broken o (p.began t) (p.begin_step t) one)) (λ two. inr (through_broken t (p.began o) (p.begin_step o) two)) (fits.apart o t before);
+    epoch_came = fits.epoch_came;
+    apart = λ o t before. ⊎_elim (λ one. inl (through_broken o (p.began t) (p.begin_step t) one)) (λ rest. inr (⊎_elim (λ two. inl (through_broken t (p.began o) (p.begin_step o) two)) (λ old. inr (record { first_stopped = λ runs. old.first_stopped (Has-without x o m.running runs).0; second_stopped = λ runs. old.second_stopped (Has-without x t m.running runs).0; in_order = old.in_order })) rest)) (fits.apart o t before);
   }
 
 module _ (g : Graph) (s : Setting) (graph : IsGraph g) (sound : AreSound g s) (no_race : HaveNoRace g s)
-    (p : Runs) (start : ℕ) (m : Making) (d : Disk) (is : InMake g s p start m d) (x : ℕ)
+    (epoch : ℕ) (p : Runs) (start : ℕ) (m : Making) (d : Disk) (is : InMake g s epoch p start m d) (x : ℕ)
     (runs : Has m.running x) (files : FileName → Option File)
     (keeps : (h : FileName) → ¬ (Has (writes g s x) h) → files h ≡ d.files h) where
   -- the disk that is left, on which only files of the recipe may differ
@@ -122,10 +123,11 @@ module _ (g : Graph) (s : Setting) (graph : IsGraph g) (sound : AreSound g s) (n
   put_before t h c t_runs e = sym (ap (λ (at : FileName → Option ℕ). at h) (changed_at_there m.put x t (λ k. None) (runs_before t t_runs).1)) ∙ e
 
   -- the make in progress after the break
-  break_make : InMake g s p start (broken_off m x) left
+  break_make : InMake g s epoch p start (broken_off m x) left
   break_make = record {
     order = broken_in_order g m is.order x;
     start_came = is.start_came;
+    epoch_before = is.epoch_before;
     seen = λ t h v t_runs read e. let ran = runs_before t t_runs in content_kept h (not_read t h ran.0 read) ∙ is.seen t h v ran.0 read (seen_before t h v t_runs e);
     put = λ t h c t_runs wrote e. let ran = runs_before t t_runs in content_kept h (not_written t h ran.1 wrote) ∙ is.put t h c ran.0 wrote (put_before t h c t_runs e);
     put_late = λ t h c stamp t_runs wrote e has. let ran = runs_before t t_runs in is.put_late t h c stamp ran.0 wrote (put_before t h c t_runs e) (stamp_kept h stamp (not_written t h ran.1 wrote) has);
@@ -134,23 +136,23 @@ module _ (g : Graph) (s : Setting) (graph : IsGraph g) (sound : AreSound g s) (n
   }
 
   -- the invariant after the break, if the recipe is bound to run then
-  pub break_holds : Fits g s p m.running left → IsBoundToRun g s left x → Holds g s p start (broken_off m x) left
-  break_holds fits bound = record { fits = fits_broken g s p m left fits x bound; make = break_make }
+  pub break_holds : Fits g s epoch p m.running left → IsBoundToRun g s left x → Holds g s epoch p start (broken_off m x) left
+  break_holds fits bound = record { fits = fits_broken g s epoch p m left fits x bound; make = break_make }
 
 module _ (g : Graph) (s : Setting) (graph : IsGraph g) (sound : AreSound g s) (no_race : HaveNoRace g s)
-    (p : Runs) (start : ℕ) (m : Making) (d : Disk) (fits : Fits g s p m.running d)
-    (is : InMake g s p start m d) (x : ℕ) (runs : Has m.running x) where
+    (epoch : ℕ) (p : Runs) (start : ℕ) (m : Making) (d : Disk) (fits : Fits g s epoch p m.running d)
+    (is : InMake g s epoch p start m d) (x : ℕ) (runs : Has m.running x) where
   -- no other file than a target that the recipe writes is removed
   only_target : Has (writes g s x) (name g x) → (h : FileName) → ¬ (Has (writes g s x) h) → (without d (name g x)).files h ≡ d.files h
   only_target wrote h other = stays_there d (name g x) h (λ same. other (subst (λ (k : FileName). Has (writes g s x) k) same wrote))
 
   -- the invariant after a break, in which the target is removed or not
-  pub broken_holds : (removed : Bool) → IsLeftToRun g s d x removed → Holds g s p start (broken_off m x) (if removed then without d (name g x) else d)
+  pub broken_holds : (removed : Bool) → IsLeftToRun g s d x removed → Holds g s epoch p start (broken_off m x) (if removed then without d (name g x) else d)
   broken_holds true wrote =
-      break_holds g s graph sound no_race p start m d is x runs (without d (name g x)).files (only_target wrote) (fits_without g s p m.running d fits x (name g x) wrote (λ t own. subst (λ (k : ℕ). Has m.running k) (sound.one_writer x t (name g x) wrote own) runs)) (inl (inr (inl (gone_here d (name g x) (name g x) refl))))
-  broken_holds false must = break_holds g s graph sound no_race p start m d is x runs d.files (λ h other. refl) fits (inl must)
+      break_holds g s graph sound no_race epoch p start m d is x runs (without d (name g x)).files (only_target wrote) (fits_without g s epoch p m.running d fits x (name g x) wrote (λ t own. subst (λ (k : ℕ). Has m.running k) (sound.one_writer x t (name g x) wrote own) runs)) (inl (inr (inl (gone_here d (name g x) (name g x) refl))))
+  broken_holds false must = break_holds g s graph sound no_race epoch p start m d is x runs d.files (λ h other. refl) fits (inl must)
 
   -- what is done stays up to date
   pub broken_settled : (removed : Bool) → IsLeftToRun g s d x removed → AreUpToDate g s p start m d → AreUpToDate g s p start (broken_off m x) (if removed then without d (name g x) else d)
-  broken_settled true wrote are = break_settled g s graph sound no_race p start m d is x runs (without d (name g x)).files (only_target wrote) are
-  broken_settled false must are = break_settled g s graph sound no_race p start m d is x runs d.files (λ h other. refl) are
+  broken_settled true wrote are = break_settled g s graph sound no_race epoch p start m d is x runs (without d (name g x)).files (only_target wrote) are
+  broken_settled false must are = break_settled g s graph sound no_race epoch p start m d is x runs d.files (λ h other. refl) are

@@ -4,6 +4,7 @@ use Rattle.std.specs.List.{flat_map}
 use Rattle.std.specs.Option.{option_and_then}
 use Rattle.std.proofs.lemmas.Bool.{cases_Bool, cond-true, cond-false, true≢false}
 use mathlib.Core.List.{reverse-cons}
+use Rattle.mk_lemmas.proofs.Members.{Has-left, Has-right}
 use Rattle.mk_graph.specs.Membership.{Has, has}
 use Rattle.mk_graph.specs.Graph.{Graph, node, goal, onward, IsGraph}
 use Rattle.mk_graph.specs.Serial.{visits}
@@ -12,7 +13,6 @@ use Rattle.mk_build.specs.World.{Disk, content, changed, outcome}
 use Rattle.mk_graph.specs.Schedules.{HasAll, InOpenGroup, Wanted, goal as wanted_goal, onward as wanted_onward, CanStart, IsSchedule, IsPart}
 use Rattle.mk_build.specs.Clean.{Contents, given_contents, put_all, run_clean, make_clean, make_all_clean, ReachedFrom, IsBuilt, IsFresh}
 use Rattle.mk_build.specs.Right.{AreSound, HaveNoRace}
-use Rattle.mk_graph.specs.Lists.{has_left, has_right}
 use Rattle.mk_build.proofs.Changes.{cases_name, changed_here, changed_there}
 use Rattle.mk_graph.proofs.Turning.{HasAll-has, turn_has_prerequisites}
 use Rattle.mk_graph.proofs.SerialTurns.{serial_turns, order_back, goal_is_chosen}
@@ -33,8 +33,8 @@ cases_among (k ∷ files) f = ⊎_elim (λ here. inl (inl here)) (λ differ. ⊎
 -- what stands in an open group is a direct prerequisite
 pub open_is_needed : (groups : List (List ℕ)) (done : List ℕ) (n : ℕ) → InOpenGroup done groups n → Has (flat_map (λ group. group) groups) n
 open_is_needed [] done n h = absurd h
-open_is_needed (group ∷ groups) done n (inl here) = has_left group (flat_map (λ group. group) groups) n here
-open_is_needed (group ∷ groups) done n (inr there) = has_right group (flat_map (λ group. group) groups) n (open_is_needed groups done n there.1)
+open_is_needed (group ∷ groups) done n (inl here) = Has-left group (flat_map (λ group. group) groups) n here
+open_is_needed (group ∷ groups) done n (inr there) = Has-right group (flat_map (λ group. group) groups) n (open_is_needed groups done n there.1)
 
 -- what files hold can be put into them, and then agrees with the disk where it did or where it was put
 pub put_all_agrees : (d : Disk) (files : List FileName) (cs : List ℕ) (at : Contents) → map (content d) files ≡ map (λ c. Some c) cs → (end : Contents) × (put_all at files cs ≡ Some end) × ((f : FileName) → (at f ≡ content d f) ⊎ Has files f → end f ≡ content d f)

@@ -1,15 +1,15 @@
 -- A coherent disk fits runs before it, and a disk that fits the runs so far is coherent.
 use Rattle.std.proofs.Common.{◌≡◌, ℕ, ◌+◌, ◌*◌, ◌<◌, ◌≤◌, List, [], true, Option, Some, None, ◌⊎◌, inl, inr, ⊎_elim, refl, sym, ◌∙◌, ap, subst, arith}
 use Rattle.std.proofs.lemmas.Bool.{cases_Bool, true≢false}
+use Rattle.mk_lemmas.proofs.Members.{cases_Has}
 use Rattle.mk_graph.specs.Membership.{Has}
 use Rattle.mk_graph.specs.Graph.{Graph, node}
 use Rattle.mk_graph.specs.Schedules.{Before}
-use Rattle.mk_graph.proofs.Members.{cases_Has}
 use Rattle.mk_build.specs.Setting.{Setting}
 use Rattle.mk_build.specs.World.{Disk}
 use Rattle.mk_build.specs.Runs.{WholeRun, Runs}
 use Rattle.mk_build.specs.Coherent.{LastRun, IsBoundToRun, IsAsLeft, IsCoherentWhile, IsCoherent}
-use Rattle.mk_build.proofs.Invariant.{RanWhole, WasThrough, SawOrLater, Fits}
+use Rattle.mk_build.proofs.Invariant.{RanWhole, WasThrough, SawOrLater, AreOld, Fits}
 
 module _ (g : Graph) (s : Setting) (d : Disk) (is : IsCoherent g s d) where
   -- a node is as its last run left it, or is bound to run if it has a recipe
@@ -96,14 +96,18 @@ module _ (g : Graph) (s : Setting) (d : Disk) (is : IsCoherent g s d) where
   }
 
   -- of two of which one is before the other, one was through when the other last began
-  apart_in : (o t : ℕ) (a : State o) (b : State t) → Before g o t → WasThrough g s (last_in o a) [] d o (began_in t b) (step_in t b) ⊎ WasThrough g s (last_in t b) [] d t (began_in o a) (step_in o a)
-  apart_in o t (inl first) (inl second) before =
-      ⊎_elim (λ early. inl (through_then o (is.last t).began first early)) (λ early. inr (through_then t (is.last o).began second early)) (is.apart o t before)
-  apart_in o t (inl first) (inr bound) before = inl (through_now o (inl first))
-  apart_in o t (inr bound) b before = inr (through_now t b)
+  apart_in : (o t : ℕ) (a : State o) (b : State t) (q : Runs) → q.last o ≡ last_in o a → q.last t ≡ last_in t b → Before g o t → WasThrough g s (last_in o a) [] d o (began_in t b) (step_in t b) ⊎ WasThrough g s (last_in t b) [] d t (began_in o a) (step_in o a) ⊎ AreOld d.clock q [] o t
+  apart_in o t (inl first) (inl second) q last_o last_t before =
+      ⊎_elim (λ early. inr (inr (record {
+        first_stopped = λ h. h;
+        second_stopped = λ h. h;
+        in_order = λ a b is_a is_b. let one : Some (run_at o) ≡ Some a = sym last_o ∙ is_a in let two : Some (run_at t) ≡ Some b = sym last_t ∙ is_b in let same_a : run_at o ≡ a = cc in let same_b : run_at t ≡ b = cc in let a_ended : (is.last o).ended ≡ a.ended = ap (λ (r : WholeRun). r.ended) same_a in let b_ended : (is.last t).ended ≡ b.ended = ap (λ (r : WholeRun). r.ended) same_b in let came = (is.came t).1 in (omega arith, omega arith);
+      }))) (λ early. inr (inl (through_then t (is.last o).began second early))) (is.apart o t before)
+  apart_in o t (inl first) (inr bound) q last_o last_t before = inl (through_now o (inl first))
+  apart_in o t (inr bound) b q last_o last_t before = inr (inl (through_now t b))
 
   -- a coherent disk fits these runs
-  pub coherent_fits : Fits g s runs_before [] d
+  pub coherent_fits : Fits g s d.clock runs_before [] d
   unfolding runs_before
   coherent_fits = record {
     stamped = is.stamped;
@@ -112,10 +116,11 @@ module _ (g : Graph) (s : Setting) (d : Disk) (is : IsCoherent g s d) where
     end_step = λ t run e. (ended_came t (state t) run e).1;
     whole = λ t recipe stopped. whole_in t (state t) runs_before refl refl refl recipe;
     saw = λ t run e. saw_in t (state t) run e;
-    apart = λ o t before. apart_in o t (state o) (state t) before;
+    epoch_came = omega arith;
+    apart = λ o t before. apart_in o t (state o) (state t) runs_before refl refl before;
   }
 
-module _ (g : Graph) (s : Setting) (p : Runs) (running : List ℕ) (d : Disk) (fits : Fits g s p running d) where
+module _ (g : Graph) (s : Setting) (epoch : ℕ) (p : Runs) (running : List ℕ) (d : Disk) (fits : Fits g s epoch p running d) where
   -- a node ran whole, or is bound to run if it has a recipe that doesn't run
   abbrev Status : ℕ → Type 0
   Status t = ((run : WholeRun) × RanWhole g s p run d t) ⊎ ((node g t).recipe ≡ true → ¬ (Has running t) → IsBoundToRun g s d t)
@@ -144,10 +149,10 @@ module _ (g : Graph) (s : Setting) (p : Runs) (running : List ℕ) (d : Disk) (f
       inr (record { written = ran.1.whole.written; known = ran.1.whole.known; holds = ran.1.whole.holds; during = λ f stamp wrote has. (ran.1.after_begin f stamp wrote has, ran.1.whole.early f stamp wrote has) }, λ f read. fits.saw t ran.0 ran.1.is_last f read)
   left_of t (inr bound) recipe stopped = inl (bound recipe stopped)
 
-  -- the last runs of two of which one is before the other didn't overlap
-  apart_of : (o t : ℕ) (a : Status o) (b : Status t) → Before g o t → ((last_of o a).ended ≤ (last_of t b).began) ⊎ ((last_of t b).ended ≤ (last_of o a).began)
+  -- of two of which one is before the other, the last run of the first ended no later, or began after the second
+  apart_of : (o t : ℕ) (a : Status o) (b : Status t) → Before g o t → ((last_of o a).ended ≤ (last_of t b).ended) ⊎ ((last_of t b).ended ≤ (last_of o a).began)
   apart_of o t (inl first) (inl second) before =
-      ⊎_elim (λ early. inl (early.ended first.0 first.1.is_last)) (λ early. inr (early.ended second.0 second.1.is_last)) (fits.apart o t before)
+      ⊎_elim (λ early. inl (let first_ended = early.ended first.0 first.1.is_last in let order = second.1.in_order in omega arith)) (λ rest. ⊎_elim (λ early. inr (early.ended second.0 second.1.is_last)) (λ old. inl (old.in_order first.0 second.0 first.1.is_last second.1.is_last).0) rest) (fits.apart o t before)
   apart_of o t (inl first) (inr bound) before = inr (omega arith)
   apart_of o t (inr bound) b before = inl (omega arith)
 

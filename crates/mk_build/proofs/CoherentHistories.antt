@@ -19,12 +19,12 @@ use Rattle.mk_build.proofs.Histories.{start_fits, history_fits, fits_is_right}
 use Rattle.mk_build.proofs.Coherence.{runs_before, coherent_fits, fits_coherent}
 
 -- a world in which the invariant holds has a coherent disk
-world_is_coherent : (g : Graph) (s : Setting) (p : Runs) (start : ℕ) (w : World) → IsInvariant g s p start w → HasCoherentDisk g s w
-world_is_coherent g s p start (Idle d) is = fits_coherent g s p [] d is
-world_is_coherent g s p start (Busy m d) is = fits_coherent g s p m.running d is.fits
+world_is_coherent : (g : Graph) (s : Setting) (epoch : ℕ) (p : Runs) (start : ℕ) (w : World) → IsInvariant g s epoch p start w → HasCoherentDisk g s w
+world_is_coherent g s epoch p start (Idle d) is = fits_coherent g s epoch p [] d is
+world_is_coherent g s epoch p start (Busy m d) is = fits_coherent g s epoch p m.running d is.fits
 
 -- what lists of files have in common, each of the files has
-same_at : {A : Type 0} (one other : FileName → A) (files : List FileName) → map one files ≡ map other files → (f : FileName) → Has files f → one f ≡ other f
+pub same_at : {A : Type 0} (one other : FileName → A) (files : List FileName) → map one files ≡ map other files → (f : FileName) → Has files f → one f ≡ other f
 same_at one other [] e f h = absurd h
 same_at one other (k ∷ files) e f (inl here) = let at_k : one k ≡ other k = cc in subst (λ (x : FileName). one x ≡ other x) here at_k
 same_at one other (k ∷ files) e f (inr there) = let rest : map one files ≡ map other files = cc in same_at one other files rest f there
@@ -47,12 +47,12 @@ module _ (g : Graph) (s : Setting) (graph : IsGraph g) (sound : AreSound g s) (n
   -- a history keeps a coherent disk coherent
   pub coherence_is_kept : HasCoherentDisk g s (after_all g s (Idle d) steps)
   coherence_is_kept =
-      let fits = history_fits g s graph sound no_race (runs_before g s d is) d steps (coherent_fits g s d is) legal in
-      world_is_coherent g s (runs_after_all g s (Idle d) steps (runs_before g s d is)) fits.0 (after_all g s (Idle d) steps) fits.1
+      let fits = history_fits g s graph sound d.clock no_race (runs_before g s d is) d steps (coherent_fits g s d is) legal in
+      world_is_coherent g s d.clock (runs_after_all g s (Idle d) steps (runs_before g s d is)) fits.0 (after_all g s (Idle d) steps) fits.1
 
   -- it is right
   pub coherent_is_right : HaveWays g s → IsRightAt g s (after_all g s (Idle d) steps)
-  coherent_is_right ways = fits_is_right g s graph sound no_race ways (runs_before g s d is) d steps (coherent_fits g s d is) legal
+  coherent_is_right ways = fits_is_right g s graph sound d.clock no_race ways (runs_before g s d is) d steps (coherent_fits g s d is) legal
 
 module _ (g : Graph) (s : Setting) (sound : AreSound g s) (d : Disk) (is : IsCoherent g s d) (t : ℕ) (recipe : (node g t).recipe ≡ true) (not_bound : ¬ (IsBoundToRun g s d t)) (late : ReadsNothingLater g s d t) where
   -- it is as its last run left it

@@ -13,7 +13,7 @@ use Rattle.mk_build.specs.Coherent.{IsBoundToRun}
 use Rattle.mk_build.proofs.Changes.{changed_at_here, changed_at_there}
 use Rattle.mk_build.proofs.InOrder.{runs_not_done, finished_in_order, Has-without, Has-from_without}
 use Rattle.mk_build.proofs.Outcomes.{noted_new, noted_old}
-use Rattle.mk_build.proofs.Invariant.{HasRunWhole, RanWhole, WasThrough, SawOrLater, Fits, InMake, IsUpToDate, AreUpToDate, Holds}
+use Rattle.mk_build.proofs.Invariant.{HasRunWhole, RanWhole, WasThrough, SawOrLater, AreOld, Fits, InMake, IsUpToDate, AreUpToDate, Holds}
 
 -- what was put was put somewhere
 pub put_somewhere : (o : Option ℕ) → ¬ (o ≡ None) → o ≡ Some (unwrap_or o 0)
@@ -30,7 +30,7 @@ pub holds_put : (d : Disk) (put : FileName → Option ℕ) (files : List FileNam
 holds_put d put [] h = refl
 holds_put d put (f ∷ files) h = let here = h f (inl refl) in let rest = holds_put d put files (λ k there. h k (inr there)) in cc
 
-module _ (g : Graph) (s : Setting) (p : Runs) (start : ℕ) (m : Making) (d : Disk) (fits : Fits g s p m.running d) (is : InMake g s p start m d) (x : ℕ) where
+module _ (g : Graph) (s : Setting) (epoch : ℕ) (p : Runs) (start : ℕ) (m : Making) (d : Disk) (fits : Fits g s epoch p m.running d) (is : InMake g s epoch p start m d) (x : ℕ) where
   -- what doesn't run after one is finished is it or didn't run
   stopped_before : (t : ℕ) → ¬ (Has (finished m x).running t) → ¬ (x ≡ t) → ¬ (Has m.running t)
   stopped_before t stopped differ runs = stopped (Has-from_without x t m.running runs differ)
@@ -115,6 +115,14 @@ module _ (g : Graph) (s : Setting) (p : Runs) (start : ℕ) (m : Making) (d : Di
           end_step = λ r is_last. ⊎_elim (λ here. absurd (was.stopped (subst (λ (k : ℕ). Has m.running k) here.0 may.runs))) (λ there. was.end_step r there.1) (last_cases t r is_last);
         }
 
+    -- two that last ran before the epoch did so, and neither is the one that ends
+    old_ended : (o t : ℕ) → AreOld epoch p m.running o t → AreOld epoch (record (one_later p) { last = last }) (finished m x).running o t
+    old_ended o t old = record {
+      first_stopped = λ runs. old.first_stopped (Has-without x o m.running runs).0;
+      second_stopped = λ runs. old.second_stopped (Has-without x t m.running runs).0;
+      in_order = λ a b is_a is_b. ⊎_elim (λ here. absurd (old.first_stopped (subst (λ (k : ℕ). Has m.running k) here.0 may.runs))) (λ first. ⊎_elim (λ here. absurd (old.second_stopped (subst (λ (k : ℕ). Has m.running k) here.0 may.runs))) (λ second. old.in_order a b first.1 second.1) (last_cases t b is_b)) (last_cases o a is_a);
+    }
+
     -- it ran whole
     ran_now : (q : Runs) → q.last x ≡ Some run → q.began x ≡ p.began x → q.begin_step x ≡ p.begin_step x → RanWhole g s q run (noted d result) x
     unfolding result
@@ -155,7 +163,7 @@ module _ (g : Graph) (s : Setting) (p : Runs) (start : ℕ) (m : Making) (d : Di
         ⊎_elim (λ here. inl (sees_now f (subst (λ (k : ℕ). Has (reads g s k) f) (sym here.0) read) ∙ ap (λ (k : WholeRun). k.saw f) here.1)) (λ there. fits.saw t r there.1 f read) (last_cases t r is_last)
 
     -- the disk fits the runs after the end
-    fits_ended : Fits g s (record (one_later p) { last = last }) (finished m x).running (noted d result)
+    fits_ended : Fits g s epoch (record (one_later p) { last = last }) (finished m x).running (noted d result)
     fits_ended = record {
       stamped = fits.stamped;
       began = fits.began;
@@ -163,17 +171,19 @@ module _ (g : Graph) (s : Setting) (p : Runs) (start : ℕ) (m : Making) (d : Di
       end_step = λ t r is_last. ⊎_elim (λ here. let same = ap (λ (k : WholeRun). k.end_step) here.1 in omega arith) (λ there. let came = fits.end_step t r there.1 in omega arith) (last_cases t r is_last);
       whole = whole_ended;
       saw = saw_ended;
-      apart = λ o t before. ⊎_elim (λ one. inl (through_ended o (p.began t) (p.begin_step t) one)) (λ two. inr (through_ended t (p.began o) (p.begin_step o) two)) (fits.apart o t before);
+      epoch_came = fits.epoch_came;
+      apart = λ o t before. ⊎_elim (λ one. inl (through_ended o (p.began t) (p.begin_step t) one)) (λ rest. inr (⊎_elim (λ two. inl (through_ended t (p.began o) (p.begin_step o) two)) (λ old. inr (old_ended o t old)) rest)) (fits.apart o t before);
     }
 
     -- the invariant after the end of a recipe
-    pub end_holds : Holds g s (runs_after (Busy m d) (End x) p) start (finished m x) (noted d (record { recipe = x; seen = seen_by g s m x; written = put_by g s m x }))
+    pub end_holds : Holds g s epoch (runs_after (Busy m d) (End x) p) start (finished m x) (noted d (record { recipe = x; seen = seen_by g s m x; written = put_by g s m x }))
     unfolding result last
     end_holds = record {
       fits = fits_ended;
       make = record {
         order = finished_in_order g m is.order x (is.order.running x may.runs);
         start_came = is.start_came;
+        epoch_before = is.epoch_before;
         seen = λ t f v runs read e. let old = seen_finished t f v runs e in is.seen t f v old.0 read old.1;
         put = λ t f c runs wrote e. let old = put_finished t f c runs e in is.put t f c old.0 wrote old.1;
         put_late = λ t f c stamp runs wrote e has. let old = put_finished t f c runs e in is.put_late t f c stamp old.0 wrote old.1 has;
@@ -198,7 +208,7 @@ module _ (g : Graph) (s : Setting) (p : Runs) (start : ℕ) (m : Making) (d : Di
     stopped_passed t stopped runs = stopped (Has-from_without x t m.running runs (λ same. ready.1 (subst (λ (k : ℕ). Has m.running k) (sym same) runs)))
 
     -- the invariant after a node was passed
-    pub pass_holds : Holds g s p start (finished m x) d
+    pub pass_holds : Holds g s epoch p start (finished m x) d
     pass_holds = record {
       fits = record {
         stamped = fits.stamped;
@@ -207,11 +217,13 @@ module _ (g : Graph) (s : Setting) (p : Runs) (start : ℕ) (m : Making) (d : Di
         end_step = fits.end_step;
         whole = λ t recipe stopped. fits.whole t recipe (stopped_passed t stopped);
         saw = fits.saw;
-        apart = λ o t before. ⊎_elim (λ one. inl (through_finished o (p.began t) (p.begin_step t) (p.last o) one)) (λ two. inr (through_finished t (p.began o) (p.begin_step o) (p.last t) two)) (fits.apart o t before);
+        epoch_came = fits.epoch_came;
+        apart = λ o t before. ⊎_elim (λ one. inl (through_finished o (p.began t) (p.begin_step t) (p.last o) one)) (λ rest. inr (⊎_elim (λ two. inl (through_finished t (p.began o) (p.begin_step o) (p.last t) two)) (λ old. inr (record { first_stopped = λ runs. old.first_stopped (Has-without x o m.running runs).0; second_stopped = λ runs. old.second_stopped (Has-without x t m.running runs).0; in_order = old.in_order })) rest)) (fits.apart o t before);
       };
       make = record {
         order = finished_in_order g m is.order x ready.0;
         start_came = is.start_came;
+        epoch_before = is.epoch_before;
         seen = λ t f v runs read e. let old = seen_finished t f v runs e in is.seen t f v old.0 read old.1;
         put = λ t f c runs wrote e. let old = put_finished t f c runs e in is.put t f c old.0 wrote old.1;
         put_late = λ t f c stamp runs wrote e has. let old = put_finished t f c runs e in is.put_late t f c stamp old.0 wrote old.1 has;

@@ -65,7 +65,7 @@ module _ (g : Graph) (s : Setting) (sound : AreSound g s) where
   no_last run e = absurd (cc)
 
   -- the invariant at a start
-  pub start_fits : (d : Disk) → IsStartDisk s d → Fits g s no_runs [] d
+  pub start_fits : (d : Disk) → IsStartDisk s d → Fits g s 0 no_runs [] d
   start_fits d start = record {
     stamped = λ f stamp has. let is = stamped_file d f stamp has in let early = start.stamped f is.0 is.1 in let same = is.2 in omega arith;
     began = λ t. omega arith;
@@ -73,21 +73,23 @@ module _ (g : Graph) (s : Setting) (sound : AreSound g s) where
     end_step = λ t run e. no_last run e;
     whole = λ t recipe stopped. inl (inl (untouched_must_run d t recipe (untouched_at_start d start t)));
     saw = λ t run e. no_last run e;
+    epoch_came = omega arith;
     apart = λ o t before. inl (record { stopped = λ h. h; early = λ f stamp wrote has. absurd (no_stamp d o (untouched_at_start d start o) f stamp wrote has); ended = λ run e. no_last run e; end_step = λ run e. no_last run e });
   }
 
-module _ (g : Graph) (s : Setting) (graph : IsGraph g) (sound : AreSound g s) where
+module _ (g : Graph) (s : Setting) (graph : IsGraph g) (sound : AreSound g s) (epoch : ℕ) where
   -- after an edit
-  edit_fits : (p : Runs) (d : Disk) (f : FileName) (c : ℕ) → Fits g s p [] d → is_editable s f ≡ true → Fits g s p [] (written d f c)
-  edit_fits p d f c fits editable = fits_written g s p [] d fits f c (inl editable) (λ t wrote. absurd (editable_is_not_written g s graph sound t f editable wrote)) sound
+  edit_fits : (p : Runs) (d : Disk) (f : FileName) (c : ℕ) → Fits g s epoch p [] d → is_editable s f ≡ true → Fits g s epoch p [] (written d f c)
+  edit_fits p d f c fits editable = fits_written g s epoch p [] d fits f c (inl editable) (λ t wrote. absurd (editable_is_not_written g s graph sound t f editable wrote)) sound
 
   -- after the begin of a make
-  pub make_holds : (p : Runs) (d : Disk) (jobs : ℕ) (goals : List ℕ) → Fits g s p [] d → IsPart goals g.goals → Holds g s p d.clock (make_of jobs goals) d
+  pub make_holds : (p : Runs) (d : Disk) (jobs : ℕ) (goals : List ℕ) → Fits g s epoch p [] d → IsPart goals g.goals → Holds g s epoch p d.clock (make_of jobs goals) d
   make_holds p d jobs goals fits part = record {
     fits = fits;
     make = record {
       order = record { part = part; turns = tt; recipes = λ t h. absurd h; running = λ t h. absurd h };
       start_came = omega arith;
+      epoch_before = fits.epoch_came;
       seen = λ t f c runs. absurd runs;
       put = λ t f c runs. absurd runs;
       put_late = λ t f c stamp runs. absurd runs;
@@ -97,14 +99,14 @@ module _ (g : Graph) (s : Setting) (graph : IsGraph g) (sound : AreSound g s) wh
   }
 
   -- after a make in which nothing runs
-  rest_after : (p : Runs) (start : ℕ) (m : Making) (d : Disk) → Holds g s p start m d → m.running ≡ [] → Fits g s p [] d
-  rest_after p start m d is none = subst (λ (l : List ℕ). Fits g s p l d) none is.fits
+  rest_after : (p : Runs) (start : ℕ) (m : Making) (d : Disk) → Holds g s epoch p start m d → m.running ≡ [] → Fits g s epoch p [] d
+  rest_after p start m d is none = subst (λ (l : List ℕ). Fits g s epoch p l d) none is.fits
 
   module _ (no_race : HaveNoRace g s) where
     -- each step keeps the invariant
-    pub step_keeps : (p : Runs) (start : ℕ) (w : World) (step : Step) → IsInvariant g s p start w → Allowed g s w step → IsInvariant g s (runs_after w step p) (start_after w step start) (after g s w step)
-    step_keeps p start (Idle d) (Edit f c) is may = fits_later g s p [] (written d f c) (edit_fits p d f c is may.0)
-    step_keeps p start (Idle d) (Make jobs goals) is may = holds_later g s p d.clock (make_of jobs goals) d (make_holds p d jobs goals is may.1)
+    pub step_keeps : (p : Runs) (start : ℕ) (w : World) (step : Step) → IsInvariant g s epoch p start w → Allowed g s w step → IsInvariant g s epoch (runs_after w step p) (start_after w step start) (after g s w step)
+    step_keeps p start (Idle d) (Edit f c) is may = fits_later g s epoch p [] (written d f c) (edit_fits p d f c is may.0)
+    step_keeps p start (Idle d) (Make jobs goals) is may = holds_later g s epoch p d.clock (make_of jobs goals) d (make_holds p d jobs goals is may.1)
     step_keeps p start (Idle d) (Begin t) is may = absurd may
     step_keeps p start (Idle d) (Look t f) is may = absurd may
     step_keeps p start (Idle d) (Put t f c) is may = absurd may
@@ -115,45 +117,39 @@ module _ (g : Graph) (s : Setting) (graph : IsGraph g) (sound : AreSound g s) wh
     step_keeps p start (Idle d) EndMake is may = absurd may
     step_keeps p start (Busy m d) (Edit f c) is may = absurd may
     step_keeps p start (Busy m d) (Make jobs goals) is may = absurd may
-    step_keeps p start (Busy m d) (Begin t) is may = begin_holds g s p start m d is.fits is.make t may.0 may.1
-    step_keeps p start (Busy m d) (Look t f) is may = holds_later g s p start (looked m t f (content d f)) d (look_holds g s p start m d is.fits is.make t f)
-    step_keeps p start (Busy m d) (Put t f c) is may = holds_later g s p start (has_put m t f c) (written d f c) (put_holds g s graph sound no_race p start m d is.fits is.make t f c may.0 may.1)
-    step_keeps p start (Busy m d) (End t) is may = end_holds g s p start m d is.fits is.make t may
-    step_keeps p start (Busy m d) (Break t removed) is may = holds_later g s p start (broken_off m t) (if removed then without d (name g t) else d) (broken_holds g s graph sound no_race p start m d is.fits is.make t may.0 removed may.1)
-    step_keeps p start (Busy m d) (Pass n) is may = holds_later g s p start (finished m n) d (pass_holds g s p start m d is.fits is.make n may.0)
-    step_keeps p start (Busy m d) Stop is may = fits_later g s p [] d (rest_after p start m d is may)
-    step_keeps p start (Busy m d) EndMake is may = fits_later g s p [] d (rest_after p start m d is may.1)
+    step_keeps p start (Busy m d) (Begin t) is may = begin_holds g s epoch p start m d is.fits is.make t may.0 may.1
+    step_keeps p start (Busy m d) (Look t f) is may = holds_later g s epoch p start (looked m t f (content d f)) d (look_holds g s epoch p start m d is.fits is.make t f)
+    step_keeps p start (Busy m d) (Put t f c) is may = holds_later g s epoch p start (has_put m t f c) (written d f c) (put_holds g s graph sound no_race epoch p start m d is.fits is.make t f c may.0 may.1)
+    step_keeps p start (Busy m d) (End t) is may = end_holds g s epoch p start m d is.fits is.make t may
+    step_keeps p start (Busy m d) (Break t removed) is may = holds_later g s epoch p start (broken_off m t) (if removed then without d (name g t) else d) (broken_holds g s graph sound no_race epoch p start m d is.fits is.make t may.0 removed may.1)
+    step_keeps p start (Busy m d) (Pass n) is may = holds_later g s epoch p start (finished m n) d (pass_holds g s epoch p start m d is.fits is.make n may.0)
+    step_keeps p start (Busy m d) Stop is may = fits_later g s epoch p [] d (rest_after p start m d is may)
+    step_keeps p start (Busy m d) EndMake is may = fits_later g s epoch p [] d (rest_after p start m d is may.1)
 
     -- the invariant after a legal history
-    pub history_fits : (p : Runs) (d : Disk) (steps : List Step) → Fits g s p [] d → IsLegal g s (Idle d) steps → (start : ℕ) × IsInvariant g s (runs_after_all g s (Idle d) steps p) start (after_all g s (Idle d) steps)
-    history_fits p d steps fits legal = kept_with_runs g s (IsInvariant g s) step_keeps p 0 (Idle d) steps fits legal
+    pub history_fits : (p : Runs) (d : Disk) (steps : List Step) → Fits g s epoch p [] d → IsLegal g s (Idle d) steps → (start : ℕ) × IsInvariant g s epoch (runs_after_all g s (Idle d) steps p) start (after_all g s (Idle d) steps)
+    history_fits p d steps fits legal = kept_with_runs g s (IsInvariant g s epoch) step_keeps p 0 (Idle d) steps fits legal
 
     -- the disk of a world fits the runs
-    saw_in : (p : Runs) (start : ℕ) (w : World) → IsInvariant g s p start w → (t : ℕ) (run : WholeRun) → p.last t ≡ Some run → SawOrLater g s run (disk_of w) t
+    pub saw_in : (p : Runs) (start : ℕ) (w : World) → IsInvariant g s epoch p start w → (t : ℕ) (run : WholeRun) → p.last t ≡ Some run → SawOrLater g s run (disk_of w) t
     saw_in p start (Idle d) is = is.saw
     saw_in p start (Busy m d) is = is.fits.saw
-
-    -- so last runs saw what is there, or it was written since
-    pub last_runs_saw : (d : Disk) (steps : List Step) → IsStartDisk s d → IsLegal g s (Idle d) steps → (t : ℕ) (run : WholeRun) → (runs_of g s d steps).last t ≡ Some run → (f : FileName) → Has (reads g s t) f → ContainsOrChanged g s (disk_after g s d steps) f (run.saw f) run.ended
-    last_runs_saw d steps start legal t run is_last f read =
-        let is = history_fits no_runs d steps (start_fits g s sound d start) legal in
-        saw_in (runs_of g s d steps) is.0 (after_all g s (Idle d) steps) is.1 t run is_last f read
 
     -- a node may be passed where it is up to date, if it has a recipe
     abbrev pub PassesUpToDate : Runs → ℕ → Making → Disk → Type 0
     PassesUpToDate p start m d = (n : ℕ) → Ready g m n → (node g n).recipe ≡ true → ¬ (MustRun g d n) → IsUpToDate g s p start d n
 
     -- what is done is up to date after a node was passed
-    pub pass_keeps_settled : (p : Runs) (start : ℕ) (m : Making) (d : Disk) (n : ℕ) → Holds g s p start m d → AreUpToDate g s p start m d → PassesUpToDate p start m d → Allowed g s (Busy m d) (Pass n) → AreUpToDate g s p start (finished m n) d
+    pub pass_keeps_settled : (p : Runs) (start : ℕ) (m : Making) (d : Disk) (n : ℕ) → Holds g s epoch p start m d → AreUpToDate g s p start m d → PassesUpToDate p start m d → Allowed g s (Busy m d) (Pass n) → AreUpToDate g s p start (finished m n) d
     pass_keeps_settled p start m d n is are passes may =
-        pass_settled g s p start m d is.fits is.make n may.0 (λ recipe. ⊎_elim (λ none. absurd (true≢false (sym recipe ∙ none))) (λ need_not. passes n may.0 recipe need_not) may.1) are
+        pass_settled g s epoch p start m d is.fits is.make n may.0 (λ recipe. ⊎_elim (λ none. absurd (true≢false (sym recipe ∙ none))) (λ need_not. passes n may.0 recipe need_not) may.1) are
 
     -- the invariant, with what is done up to date
     abbrev pub IsWhole : Runs → ℕ → World → Type 0
-    IsWhole p start w = IsInvariant g s p start w × IsSettled g s p start w
+    IsWhole p start w = IsInvariant g s epoch p start w × IsSettled g s p start w
 
     -- what is done stays up to date over each step, where what is passed is
-    pub step_settles : ((p : Runs) (start : ℕ) (m : Making) (d : Disk) → Holds g s p start m d
+    pub step_settles : ((p : Runs) (start : ℕ) (m : Making) (d : Disk) → Holds g s epoch p start m d
         → AreUpToDate g s p start m d → PassesUpToDate p start m d)
         → (p : Runs) (start : ℕ) (w : World) (step : Step) → IsWhole p start w → Allowed g s w step
         → IsSettled g s (runs_after w step p) (start_after w step start) (after g s w step)
@@ -169,11 +165,11 @@ module _ (g : Graph) (s : Setting) (graph : IsGraph g) (sound : AreSound g s) wh
     step_settles passes p start (Idle d) EndMake is may = absurd may
     step_settles passes p start (Busy m d) (Edit f c) is may = absurd may
     step_settles passes p start (Busy m d) (Make jobs goals) is may = absurd may
-    step_settles passes p start (Busy m d) (Begin t) is may = begin_settled g s p start m d is.0.fits is.0.make t may.0 may.1 is.1
+    step_settles passes p start (Busy m d) (Begin t) is may = begin_settled g s epoch p start m d is.0.fits is.0.make t may.0 may.1 is.1
     step_settles passes p start (Busy m d) (Look t f) is may = up_later g s p start (looked m t f (content d f)) d is.1
-    step_settles passes p start (Busy m d) (Put t f c) is may = up_later g s p start (has_put m t f c) (written d f c) (put_settled g s graph sound no_race p start m d is.0.fits is.0.make t f c may.0 may.1 is.1)
-    step_settles passes p start (Busy m d) (End t) is may = end_settled g s p start m d is.0.fits is.0.make t may is.1
-    step_settles passes p start (Busy m d) (Break t removed) is may = up_later g s p start (broken_off m t) (if removed then without d (name g t) else d) (broken_settled g s graph sound no_race p start m d is.0.fits is.0.make t may.0 removed may.1 is.1)
+    step_settles passes p start (Busy m d) (Put t f c) is may = up_later g s p start (has_put m t f c) (written d f c) (put_settled g s graph sound no_race epoch p start m d is.0.fits is.0.make t f c may.0 may.1 is.1)
+    step_settles passes p start (Busy m d) (End t) is may = end_settled g s epoch p start m d is.0.fits is.0.make t may is.1
+    step_settles passes p start (Busy m d) (Break t removed) is may = up_later g s p start (broken_off m t) (if removed then without d (name g t) else d) (broken_settled g s graph sound no_race epoch p start m d is.0.fits is.0.make t may.0 removed may.1 is.1)
     step_settles passes p start (Busy m d) (Pass n) is may = up_later g s p start (finished m n) d (pass_keeps_settled p start m d n is.0 is.1 (passes p start m d is.0 is.1) may)
     step_settles passes p start (Busy m d) Stop is may = tt
     step_settles passes p start (Busy m d) EndMake is may = tt
@@ -193,26 +189,33 @@ module _ (g : Graph) (s : Setting) (graph : IsGraph g) (sound : AreSound g s) wh
       -- each step keeps all of it, where each read that needs a way has one
       whole_keeps : (p : Runs) (start : ℕ) (w : World) (step : Step) → IsWhole p start w → Allowed g s w step → IsWhole (runs_after w step p) (start_after w step start) (after g s w step)
       whole_keeps p start w step is may =
-          (step_keeps p start w step is.0 may, step_settles (λ q begun m d at are n ready recipe need_not. passed_is_up_to_date g s graph sound q begun m d at.fits at.make are n ready recipe need_not no_race ways) p start w step is may)
+          (step_keeps p start w step is.0 may, step_settles (λ q begun m d at are n ready recipe need_not. passed_is_up_to_date g s graph sound epoch q begun m d at.fits at.make are n ready recipe need_not no_race ways) p start w step is may)
 
       -- so does each legal history from a disk that fits some runs
-      pub fits_is_whole : (p : Runs) (d : Disk) (steps : List Step) → Fits g s p [] d → IsLegal g s (Idle d) steps → (start : ℕ) × IsWhole (runs_after_all g s (Idle d) steps p) start (after_all g s (Idle d) steps)
+      pub fits_is_whole : (p : Runs) (d : Disk) (steps : List Step) → Fits g s epoch p [] d → IsLegal g s (Idle d) steps → (start : ℕ) × IsWhole (runs_after_all g s (Idle d) steps p) start (after_all g s (Idle d) steps)
       fits_is_whole p d steps fits legal = kept_with_runs g s IsWhole whole_keeps p 0 (Idle d) steps (fits, tt) legal
 
       -- it is right
-      pub fits_is_right : (p : Runs) (d : Disk) (steps : List Step) → Fits g s p [] d → IsLegal g s (Idle d) steps → IsRightAt g s (after_all g s (Idle d) steps)
+      pub fits_is_right : (p : Runs) (d : Disk) (steps : List Step) → Fits g s epoch p [] d → IsLegal g s (Idle d) steps → IsRightAt g s (after_all g s (Idle d) steps)
       fits_is_right p d steps fits legal =
           let is = fits_is_whole p d steps fits legal in
           right_at (runs_after_all g s (Idle d) steps p) is.0 (after_all g s (Idle d) steps) is.1
 
-      -- the last run of what a recipe carries lies before its own, where it may be passed
-      ran_in : (p : Runs) (start : ℕ) (w : World) → IsWhole p start w → (t o : ℕ) → (node g t).recipe ≡ true → Allowed g s w (Pass t) → Carries g s t o → RanBefore p o t
-      ran_in p start (Idle d) is t o recipe may carries = absurd may
-      ran_in p start (Busy m d) is t o recipe may carries =
-          ⊎_elim (λ none. absurd (true≢false (sym recipe ∙ none))) (λ need_not. ready_ran_after g s graph sound p start m d is.0.fits is.0.make is.1 t may.0 recipe need_not o carries) may.1
+      -- from a start, the last run of what a recipe carries lies before its own, where it may be passed
+      pub ran_in : epoch ≡ 0 → (p : Runs) (start : ℕ) (w : World) → IsWhole p start w → (t o : ℕ) → (node g t).recipe ≡ true → Allowed g s w (Pass t) → Carries g s t o → RanBefore p o t
+      ran_in from_start p start (Idle d) is t o recipe may carries = absurd may
+      ran_in from_start p start (Busy m d) is t o recipe may carries =
+          ⊎_elim (λ none. absurd (true≢false (sym recipe ∙ none))) (λ need_not. ready_ran_after g s graph sound epoch p start m d is.0.fits is.0.make is.1 t may.0 recipe need_not from_start o carries) may.1
 
-      -- so in each legal history
-      pub carried_ran_before : (d : Disk) (steps : List Step) → IsStartDisk s d → IsLegal g s (Idle d) steps → (t o : ℕ) → (node g t).recipe ≡ true → Allowed g s (after_all g s (Idle d) steps) (Pass t) → Carries g s t o → RanBefore (runs_of g s d steps) o t
-      carried_ran_before d steps start legal t o recipe may carries =
-          let is = fits_is_whole no_runs d steps (start_fits g s sound d start) legal in
-          ran_in (runs_of g s d steps) is.0 (after_all g s (Idle d) steps) is.1 t o recipe may carries
+module _ (g : Graph) (s : Setting) (graph : IsGraph g) (sound : AreSound g s) (no_race : HaveNoRace g s) (d : Disk) (steps : List Step) (start : IsStartDisk s d) (legal : IsLegal g s (Idle d) steps) where
+  -- after each legal history last runs saw what is there, or it was written since
+  pub last_runs_saw : (t : ℕ) (run : WholeRun) → (runs_of g s d steps).last t ≡ Some run → (f : FileName) → Has (reads g s t) f → ContainsOrChanged g s (disk_after g s d steps) f (run.saw f) run.ended
+  last_runs_saw t run is_last f read =
+      let is = history_fits g s graph sound 0 no_race no_runs d steps (start_fits g s sound d start) legal in
+      saw_in g s graph sound 0 no_race (runs_of g s d steps) is.0 (after_all g s (Idle d) steps) is.1 t run is_last f read
+
+  -- and the last run of what a recipe carries lies before its own, where it may be passed
+  pub carried_ran_before : HaveWays g s → (t o : ℕ) → (node g t).recipe ≡ true → Allowed g s (after_all g s (Idle d) steps) (Pass t) → Carries g s t o → RanBefore (runs_of g s d steps) o t
+  carried_ran_before ways t o recipe may carries =
+      let is = fits_is_whole g s graph sound 0 no_race ways no_runs d steps (start_fits g s sound d start) legal in
+      ran_in g s graph sound 0 no_race ways refl (runs_of g s d steps) is.0 (after_all g s (Idle d) steps) is.1 t o recipe may carries

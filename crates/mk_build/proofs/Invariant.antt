@@ -38,17 +38,25 @@ pub record WasThrough (g : Graph) (s : Setting) (last : Option WholeRun) (runnin
 abbrev pub SawOrLater : Graph → Setting → WholeRun → Disk → ℕ → Type 0
 SawOrLater g s run d t = (f : FileName) → Has (reads g s t) f → ContainsOrChanged g s d f (run.saw f) run.ended
 
+-- Both recipes last ran whole before this clock, the first no later than the second, and don't run.
+pub record AreOld (epoch : ℕ) (p : Runs) (running : List ℕ) (o t : ℕ) : Type 0 where
+  pub first_stopped : ¬ (Has running o)
+  pub second_stopped : ¬ (Has running t)
+  pub in_order : (a b : WholeRun) → p.last o ≡ Some a → p.last t ≡ Some b → (a.ended ≤ b.ended) × (b.ended ≤ epoch)
+
 -- The disk fits the runs so far, while these recipes run: stamps, begins and ends have come; a recipe that doesn't run is
 -- bound to run or is as its last whole run left it; what last runs saw is there or has changed since; and of two of
--- which one is before the other, one was through when the other last began.
-pub record Fits (g : Graph) (s : Setting) (p : Runs) (running : List ℕ) (d : Disk) : Type 0 where
+-- which one is before the other, one was through when the other last began, or both last ran before the epoch, the first no
+-- later than the second.
+pub record Fits (g : Graph) (s : Setting) (epoch : ℕ) (p : Runs) (running : List ℕ) (d : Disk) : Type 0 where
   pub stamped : (f : FileName) (stamp : ℕ) → HasStamp d f stamp → stamp ≤ d.clock
   pub began : (t : ℕ) → p.began t ≤ d.clock
   pub ended : (t : ℕ) (run : WholeRun) → p.last t ≡ Some run → run.ended ≤ d.clock
   pub end_step : (t : ℕ) (run : WholeRun) → p.last t ≡ Some run → run.end_step < p.steps
   pub whole : (t : ℕ) → (node g t).recipe ≡ true → ¬ (Has running t) → IsBoundToRun g s d t ⊎ ((run : WholeRun) × RanWhole g s p run d t)
   pub saw : (t : ℕ) (run : WholeRun) → p.last t ≡ Some run → SawOrLater g s run d t
-  pub apart : (o t : ℕ) → Before g o t → WasThrough g s (p.last o) running d o (p.began t) (p.begin_step t) ⊎ WasThrough g s (p.last t) running d t (p.began o) (p.begin_step o)
+  pub epoch_came : epoch ≤ d.clock
+  pub apart : (o t : ℕ) → Before g o t → WasThrough g s (p.last o) running d o (p.began t) (p.begin_step t) ⊎ WasThrough g s (p.last t) running d t (p.began o) (p.begin_step o) ⊎ AreOld epoch p running o t
 
 -- A done recipe is up to date: it is as its last whole run left it, each file that it read holds what it saw, and it
 -- need not run or has run since the make began.
@@ -60,9 +68,10 @@ pub record IsUpToDate (g : Graph) (s : Setting) (p : Runs) (start : ℕ) (d : Di
 
 -- A make in progress that began at this clock: what running recipes have seen and put is still there, put since they
 -- began; what waits and didn't break off began no later than the make, and what runs no earlier.
-pub record InMake (g : Graph) (s : Setting) (p : Runs) (start : ℕ) (m : Making) (d : Disk) : Type 0 where
+pub record InMake (g : Graph) (s : Setting) (epoch : ℕ) (p : Runs) (start : ℕ) (m : Making) (d : Disk) : Type 0 where
   pub order : InOrder g m
   pub start_came : start ≤ d.clock
+  pub epoch_before : epoch ≤ start
   pub seen : (t : ℕ) (f : FileName) (c : Option ℕ) → Has m.running t → Has (reads g s t) f → m.seen t f ≡ Some c → content d f ≡ c
   pub put : (t : ℕ) (f : FileName) (c : ℕ) → Has m.running t → Has (writes g s t) f → m.put t f ≡ Some c → content d f ≡ Some c
   pub put_late : (t : ℕ) (f : FileName) (c stamp : ℕ) → Has m.running t → Has (writes g s t) f → m.put t f ≡ Some c → HasStamp d f stamp → p.began t < stamp
@@ -70,18 +79,18 @@ pub record InMake (g : Graph) (s : Setting) (p : Runs) (start : ℕ) (m : Making
   pub runs : (t : ℕ) → Has m.running t → start ≤ p.began t
 
 -- the invariant of a make in progress, of which nothing is asked that is done
-pub record Holds (g : Graph) (s : Setting) (p : Runs) (start : ℕ) (m : Making) (d : Disk) : Type 0 where
-  pub fits : Fits g s p m.running d
-  pub make : InMake g s p start m d
+pub record Holds (g : Graph) (s : Setting) (epoch : ℕ) (p : Runs) (start : ℕ) (m : Making) (d : Disk) : Type 0 where
+  pub fits : Fits g s epoch p m.running d
+  pub make : InMake g s epoch p start m d
 
 -- what is done is up to date
 abbrev pub AreUpToDate : Graph → Setting → Runs → ℕ → Making → Disk → Type 0
 AreUpToDate g s p start m d = (t : ℕ) → Has m.done t → (node g t).recipe ≡ true → IsUpToDate g s p start d t
 
 -- the invariant of a world, after these runs
-abbrev pub IsInvariant : Graph → Setting → Runs → ℕ → World → Type 0
-IsInvariant g s p start (Idle d) = Fits g s p [] d
-IsInvariant g s p start (Busy m d) = Holds g s p start m d
+abbrev pub IsInvariant : Graph → Setting → (epoch : ℕ) → Runs → ℕ → World → Type 0
+IsInvariant g s epoch p start (Idle d) = Fits g s epoch p [] d
+IsInvariant g s epoch p start (Busy m d) = Holds g s epoch p start m d
 
 -- what is done in a world is up to date
 abbrev pub IsSettled : Graph → Setting → Runs → ℕ → World → Type 0
@@ -113,23 +122,25 @@ up_moved g s p q start d t same_last same_begin same_step up = record {
 }
 
 -- what fits the runs fits them after one step more
-pub fits_later : (g : Graph) (s : Setting) (p : Runs) (running : List ℕ) (d : Disk) → Fits g s p running d → Fits g s (one_later p) running d
-fits_later g s p running d fits = record {
+pub fits_later : (g : Graph) (s : Setting) (epoch : ℕ) (p : Runs) (running : List ℕ) (d : Disk) → Fits g s epoch p running d → Fits g s epoch (one_later p) running d
+fits_later g s epoch p running d fits = record {
   stamped = fits.stamped;
   began = fits.began;
   ended = fits.ended;
   end_step = λ t run is_last. let came = fits.end_step t run is_last in omega arith;
   whole = λ t recipe stopped. ⊎_elim (λ bound. inl bound) (λ ran. inr (ran.0, ran_moved g s p (one_later p) ran.0 d t refl refl refl ran.1)) (fits.whole t recipe stopped);
   saw = fits.saw;
-  apart = fits.apart;
+  epoch_came = fits.epoch_came;
+  apart = λ o t before. ⊎_elim (λ one. inl one) (λ rest. ⊎_elim (λ two. inr (inl two)) (λ old. inr (inr (record { first_stopped = old.first_stopped; second_stopped = old.second_stopped; in_order = old.in_order }))) rest) (fits.apart o t before);
 }
 
-pub holds_later : (g : Graph) (s : Setting) (p : Runs) (start : ℕ) (m : Making) (d : Disk) → Holds g s p start m d → Holds g s (one_later p) start m d
-holds_later g s p start m d is = record {
-  fits = fits_later g s p m.running d is.fits;
+pub holds_later : (g : Graph) (s : Setting) (epoch : ℕ) (p : Runs) (start : ℕ) (m : Making) (d : Disk) → Holds g s epoch p start m d → Holds g s epoch (one_later p) start m d
+holds_later g s epoch p start m d is = record {
+  fits = fits_later g s epoch p m.running d is.fits;
   make = record {
     order = is.make.order;
     start_came = is.make.start_came;
+    epoch_before = is.make.epoch_before;
     seen = is.make.seen;
     put = is.make.put;
     put_late = is.make.put_late;

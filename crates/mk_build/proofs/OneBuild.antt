@@ -34,7 +34,7 @@ module _ (g : Graph) (s : Setting) (graph : IsGraph g) (sound : AreSound g s) (n
   HaveNoFile (Busy m d) = WaitUntouched m d
 
   -- nothing is passed that has a recipe
-  none_passed : (p : Runs) (start : ℕ) (m : Making) (d : Disk) → WaitUntouched m d → PassesUpToDate g s graph sound no_race p start m d
+  none_passed : (p : Runs) (start : ℕ) (m : Making) (d : Disk) → WaitUntouched m d → PassesUpToDate g s graph sound 0 no_race p start m d
   none_passed p start m d none n ready recipe need_not = absurd (need_not (ready_must_run m d none n ready recipe))
 
   -- what waits after one is finished waited
@@ -70,26 +70,26 @@ module _ (g : Graph) (s : Setting) (graph : IsGraph g) (sound : AreSound g s) (n
   inside_waits (Busy m d) EndMake inside none may = absurd inside
 
   -- what is done stays up to date
-  inside_settles : (p : Runs) (start : ℕ) (w : World) (step : Step) → IsInside step → HaveNoFile w → IsWhole g s graph sound no_race p start w → Allowed g s w step → IsSettled g s (runs_after w step p) (start_after w step start) (after g s w step)
+  inside_settles : (p : Runs) (start : ℕ) (w : World) (step : Step) → IsInside step → HaveNoFile w → IsWhole g s graph sound 0 no_race p start w → Allowed g s w step → IsSettled g s (runs_after w step p) (start_after w step start) (after g s w step)
   inside_settles p start (Idle d) other inside none is may = absurd none
   inside_settles p start (Busy m d) (Edit f c) inside none is may = absurd inside
   inside_settles p start (Busy m d) (Make jobs goals) inside none is may = absurd inside
-  inside_settles p start (Busy m d) (Begin t) inside none is may = begin_settled g s p start m d is.0.fits is.0.make t may.0 may.1 is.1
+  inside_settles p start (Busy m d) (Begin t) inside none is may = begin_settled g s 0 p start m d is.0.fits is.0.make t may.0 may.1 is.1
   inside_settles p start (Busy m d) (Look t f) inside none is may = up_later g s p start (looked m t f (content d f)) d is.1
-  inside_settles p start (Busy m d) (Put t f c) inside none is may = up_later g s p start (has_put m t f c) (written d f c) (put_settled g s graph sound no_race p start m d is.0.fits is.0.make t f c may.0 may.1 is.1)
-  inside_settles p start (Busy m d) (End t) inside none is may = end_settled g s p start m d is.0.fits is.0.make t may is.1
-  inside_settles p start (Busy m d) (Break t removed) inside none is may = up_later g s p start (broken_off m t) (if removed then without d (name g t) else d) (broken_settled g s graph sound no_race p start m d is.0.fits is.0.make t may.0 removed may.1 is.1)
-  inside_settles p start (Busy m d) (Pass n) inside none is may = up_later g s p start (finished m n) d (pass_keeps_settled g s graph sound no_race p start m d n is.0 is.1 (none_passed p start m d none) may)
+  inside_settles p start (Busy m d) (Put t f c) inside none is may = up_later g s p start (has_put m t f c) (written d f c) (put_settled g s graph sound no_race 0 p start m d is.0.fits is.0.make t f c may.0 may.1 is.1)
+  inside_settles p start (Busy m d) (End t) inside none is may = end_settled g s 0 p start m d is.0.fits is.0.make t may is.1
+  inside_settles p start (Busy m d) (Break t removed) inside none is may = up_later g s p start (broken_off m t) (if removed then without d (name g t) else d) (broken_settled g s graph sound no_race 0 p start m d is.0.fits is.0.make t may.0 removed may.1 is.1)
+  inside_settles p start (Busy m d) (Pass n) inside none is may = up_later g s p start (finished m n) d (pass_keeps_settled g s graph sound 0 no_race p start m d n is.0 is.1 (none_passed p start m d none) may)
   inside_settles p start (Busy m d) Stop inside none is may = absurd inside
   inside_settles p start (Busy m d) EndMake inside none is may = absurd inside
 
   -- what a first make leaves is right
-  all_right : (p : Runs) (start : ℕ) (w : World) (steps : List Step) → AreInside steps → HaveNoFile w → IsWhole g s graph sound no_race p start w → IsLegal g s w steps → IsRightAt g s (after_all g s w steps)
-  all_right p start w [] inside none is legal = right_at g s graph sound no_race p start w is
+  all_right : (p : Runs) (start : ℕ) (w : World) (steps : List Step) → AreInside steps → HaveNoFile w → IsWhole g s graph sound 0 no_race p start w → IsLegal g s w steps → IsRightAt g s (after_all g s w steps)
+  all_right p start w [] inside none is legal = right_at g s graph sound 0 no_race p start w is
   all_right p start w (step ∷ steps) inside none is legal =
-      all_right (runs_after w step p) (start_after w step start) (after g s w step) steps inside.1 (inside_waits w step inside.0 none legal.0) (step_keeps g s graph sound no_race p start w step is.0 legal.0, inside_settles p start w step inside.0 none is legal.0) legal.1
+      all_right (runs_after w step p) (start_after w step start) (after g s w step) steps inside.1 (inside_waits w step inside.0 none legal.0) (step_keeps g s graph sound 0 no_race p start w step is.0 legal.0, inside_settles p start w step inside.0 none is legal.0) legal.1
 
   -- one make from a start is right
   pub one_build : (d : Disk) (jobs : ℕ) (goals : List ℕ) (steps : List Step) → IsStartDisk s d → AreInside steps → IsLegal g s (Idle d) (Make jobs goals ∷ steps) → IsRightAt g s (after_all g s (Idle d) (Make jobs goals ∷ steps))
   one_build d jobs goals steps start inside legal =
-      all_right no_runs d.clock (Busy (make_of jobs goals) d) steps inside (λ t not_done stopped not_broken. untouched_at_start g s sound d start t) (make_holds g s graph sound no_runs d jobs goals (start_fits g s sound d start) legal.0.1, λ t done. absurd done) legal.1
+      all_right no_runs d.clock (Busy (make_of jobs goals) d) steps inside (λ t not_done stopped not_broken. untouched_at_start g s sound d start t) (make_holds g s graph sound 0 no_runs d jobs goals (start_fits g s sound d start) legal.0.1, λ t done. absurd done) legal.1

@@ -10,7 +10,7 @@ use Rattle.mk_build.specs.World.{Outcome, Disk, outcome, same_seen}
 use Rattle.mk_build.specs.Steps.{noted}
 
 -- the test on contents, or absences, says whether they are equal
-option_Decides : (a b : Option ℕ) → Decides (option_eq nat_eq a b) (a ≡ b)
+pub option_Decides : (a b : Option ℕ) → Decides (option_eq nat_eq a b) (a ≡ b)
 option_Decides None None = (λ e. refl, λ e. refl)
 option_Decides None (Some y) = (λ e. absurd (false≢true e), λ e. absurd (cc))
 option_Decides (Some x) None = (λ e. absurd (false≢true e), λ e. absurd (cc))
@@ -25,8 +25,8 @@ abbrev finds : Outcome → ℕ → List (Option ℕ) → Bool
 finds o t seen = nat_eq o.recipe t && same_seen o.seen seen
 
 -- an outcome is found where its recipe saw this
-found : (o : Outcome) (known : List Outcome) → outcome (o ∷ known) o.recipe o.seen ≡ Some o.written
-found o known = cond-true (nat_eq o.recipe o.recipe && same_seen o.seen o.seen) (Some o.written) (outcome known o.recipe o.seen) (and_from (nat_eq o.recipe o.recipe) (same_seen o.seen o.seen) ((Decides-eqb o.recipe o.recipe).1 refl) ((same_seen-Decides o.seen o.seen).1 refl))
+pub outcome_here : (o : Outcome) (known : List Outcome) → outcome (o ∷ known) o.recipe o.seen ≡ Some o.written
+outcome_here o known = cond-true (nat_eq o.recipe o.recipe && same_seen o.seen o.seen) (Some o.written) (outcome known o.recipe o.seen) (and_from (nat_eq o.recipe o.recipe) (same_seen o.seen o.seen) ((Decides-eqb o.recipe o.recipe).1 refl) ((same_seen-Decides o.seen o.seen).1 refl))
 
 -- what was known stays known behind an outcome of something that wasn't
 stays : (o : Outcome) (known : List Outcome) (t : ℕ) (seen : List (Option ℕ)) (written : List ℕ) → outcome known o.recipe o.seen ≡ None → outcome known t seen ≡ Some written → outcome (o ∷ known) t seen ≡ Some written
@@ -59,7 +59,7 @@ module _ (d : Disk) (o : Outcome) where
   pub noted_new : IfSome (outcome d.known o.recipe o.seen) (λ known. known ≡ o.written) → outcome (noted d o).known o.recipe o.seen ≡ Some o.written
   noted_new agrees =
       ⊎_elim (λ none. subst (λ (l : List Outcome). outcome l o.recipe o.seen ≡ Some o.written)
-      (sym (noted_unknown none)) (found o d.known)) (λ some. let same : some.0
+      (sym (noted_unknown none)) (outcome_here o d.known)) (λ some. let same : some.0
       ≡ o.written = subst (λ (x : Option (List ℕ)). IfSome x (λ known. known ≡ o.written)) some.1 agrees
       in subst (λ (l : List Outcome). outcome l o.recipe o.seen ≡ Some o.written)
       (sym (noted_known some.0 some.1)) (some.1 ∙ ap (λ k. Some k) same)) (cases_outcome o.recipe o.seen)

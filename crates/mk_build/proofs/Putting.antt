@@ -25,8 +25,8 @@ module _ (g : Graph) (m : Making) (order : InOrder g m) (o t : ℕ) (before : Be
   before_done recipe done o_runs = runs_not_done g m order o o_runs (turn_has_before g m.goals order.part o t recipe before m.done order.turns done)
 
 module _ (g : Graph) (s : Setting) (graph : IsGraph g) (sound : AreSound g s) (no_race : HaveNoRace g s)
-    (p : Runs) (start : ℕ) (m : Making) (d : Disk) (fits : Fits g s p m.running d)
-    (is : InMake g s p start m d) (x : ℕ) (f : FileName) (c : ℕ) (runs : Has m.running x)
+    (epoch : ℕ) (p : Runs) (start : ℕ) (m : Making) (d : Disk) (fits : Fits g s epoch p m.running d)
+    (is : InMake g s epoch p start m d) (x : ℕ) (f : FileName) (c : ℕ) (runs : Has m.running x)
     (wrote : Has (writes g s x) f) where
   -- only the recipe that puts it writes the file
   only_it : (t : ℕ) → Has (writes g s t) f → Has m.running t
@@ -60,9 +60,9 @@ module _ (g : Graph) (s : Setting) (graph : IsGraph g) (sound : AreSound g s) (n
       let up = are t t_done recipe in
       record {
         run = up.run;
-        ran = ran_written g s p m.running d fits f c (written_can_change g s graph sound x f wrote) only_it t up.run (λ h. runs_not_done g m is.order t h t_done) up.ran;
+        ran = ran_written g s epoch p m.running d fits f c (written_can_change g s graph sound x f wrote) only_it t up.run (λ h. runs_not_done g m is.order t h t_done) up.ran;
         sees = λ h read. content_there d f c h (not_read_by_done t h t_done read) ∙ up.sees h read;
-        settled = ⊎_elim (λ need_not. inl (λ must. need_not (must_written g s p m.running d fits f c (written_can_change g s graph sound x f wrote) only_it t (not_target t t_done recipe) (not_needed t t_done recipe) must))) (λ ran. inr ran) up.settled;
+        settled = ⊎_elim (λ need_not. inl (λ must. need_not (must_written g s epoch p m.running d fits f c (written_can_change g s graph sound x f wrote) only_it t (not_target t t_done recipe) (not_needed t t_done recipe) must))) (λ ran. inr ran) up.settled;
       }
 
   -- what a recipe has put after this: the file that is put now, or one from before
@@ -86,12 +86,13 @@ module _ (g : Graph) (s : Setting) (graph : IsGraph g) (sound : AreSound g s) (n
       )) (cases_eq x t)
 
   -- the invariant after a writing of a running recipe
-  pub put_holds : Holds g s p start (has_put m x f c) (written d f c)
+  pub put_holds : Holds g s epoch p start (has_put m x f c) (written d f c)
   put_holds = record {
-    fits = fits_written g s p m.running d fits f c (written_can_change g s graph sound x f wrote) only_it sound;
+    fits = fits_written g s epoch p m.running d fits f c (written_can_change g s graph sound x f wrote) only_it sound;
     make = record {
       order = record { part = is.order.part; turns = is.order.turns; recipes = is.order.recipes; running = is.order.running };
       start_came = let came = is.start_came in omega arith;
+      epoch_before = is.epoch_before;
       seen = λ t h v t_runs read e. content_there d f c h (not_read t h t_runs read) ∙ is.seen t h v t_runs read e;
       put = λ t h new t_runs h_wrote e. ⊎_elim (λ here. content_here d f c h here.0 ∙ ap (λ k. Some k) here.1) (λ there. content_there d f c h there.0 ∙ is.put t h new t_runs h_wrote there.1) (put_cases t h new t_runs h_wrote e);
       put_late = λ t h new stamp t_runs h_wrote e has. ⊎_elim (λ here. let now = stamp_is d f c h stamp here.0 has in let came = fits.began t in omega arith) (λ there. is.put_late t h new stamp t_runs h_wrote there.1 (stamp_there d f c h stamp there.0 has)) (put_cases t h new t_runs h_wrote e);
@@ -100,7 +101,7 @@ module _ (g : Graph) (s : Setting) (graph : IsGraph g) (sound : AreSound g s) (n
     };
   }
 
-module _ (g : Graph) (s : Setting) (p : Runs) (start : ℕ) (m : Making) (d : Disk) (fits : Fits g s p m.running d) (is : InMake g s p start m d) (x : ℕ) (f : FileName) where
+module _ (g : Graph) (s : Setting) (epoch : ℕ) (p : Runs) (start : ℕ) (m : Making) (d : Disk) (fits : Fits g s epoch p m.running d) (is : InMake g s epoch p start m d) (x : ℕ) (f : FileName) where
   -- what a recipe has seen after this is there
   look_cases : (t : ℕ) (h : FileName) (v : Option ℕ) → Has m.running t → Has (reads g s t) h → (looked m x f (content d f)).seen t h ≡ Some v → content d h ≡ v
   look_cases t h v t_runs read e =
@@ -118,12 +119,13 @@ module _ (g : Graph) (s : Setting) (p : Runs) (start : ℕ) (m : Making) (d : Di
       (cases_eq x t)
 
   -- the invariant after a look
-  pub look_holds : Holds g s p start (looked m x f (content d f)) d
+  pub look_holds : Holds g s epoch p start (looked m x f (content d f)) d
   look_holds = record {
     fits = fits;
     make = record {
       order = record { part = is.order.part; turns = is.order.turns; recipes = is.order.recipes; running = is.order.running };
       start_came = is.start_came;
+      epoch_before = is.epoch_before;
       seen = look_cases;
       put = is.put;
       put_late = is.put_late;

@@ -1,5 +1,5 @@
 -- The invariant over the removal of a file that none but a running recipe writes.
-use Rattle.std.proofs.Common.{◌≡◌, ℕ, List, Option, Some, None, ◌⊎◌, inl, inr, ⊎_elim, sym, ◌∙◌, ap, subst}
+use Rattle.std.proofs.Common.{◌≡◌, ℕ, List, Option, Some, None, inl, inr, ⊎_elim, sym, ◌∙◌, ap, subst}
 use Rattle.std.specs.Option.{option_map}
 use Rattle.mk_graph.specs.Membership.{Has}
 use Rattle.mk_graph.specs.Graph.{Graph}
@@ -37,7 +37,7 @@ module _ (d : Disk) (f : FileName) where
   pub none_still : (h : FileName) → d.files h ≡ None → (without d f).files h ≡ None
   none_still h none = ⊎_elim (λ same. gone_here h same) (λ differ. stays_there h differ ∙ none) (cases_name f h)
 
-module _ (g : Graph) (s : Setting) (p : Runs) (running : List ℕ) (d : Disk) (fits : Fits g s p running d) (x : ℕ) (f : FileName) (wrote : Has (writes g s x) f) (only : (t : ℕ) → Has (writes g s t) f → Has running t) where
+module _ (g : Graph) (s : Setting) (epoch : ℕ) (p : Runs) (running : List ℕ) (d : Disk) (fits : Fits g s epoch p running d) (x : ℕ) (f : FileName) (wrote : Has (writes g s x) f) (only : (t : ℕ) → Has (writes g s t) f → Has running t) where
   -- the file is missing
   now_missing : (h : FileName) → f ≡ h → IsMissing g s (without d f) h
   now_missing h same = (gone_here d f h same, (x, subst (λ (k : FileName). Has (writes g s x) k) same wrote))
@@ -87,7 +87,7 @@ module _ (g : Graph) (s : Setting) (p : Runs) (running : List ℕ) (d : Disk) (f
   through_without t clock step was = record { stopped = was.stopped; early = λ h stamp h_wrote has. was.early h stamp h_wrote (stamp_was d f h stamp has); ended = was.ended; end_step = was.end_step }
 
   -- the disk fits the runs after the removal
-  pub fits_without : Fits g s p running (without d f)
+  pub fits_without : Fits g s epoch p running (without d f)
   fits_without = record {
     stamped = λ h stamp has. fits.stamped h stamp (stamp_was d f h stamp has);
     began = fits.began;
@@ -95,5 +95,6 @@ module _ (g : Graph) (s : Setting) (p : Runs) (running : List ℕ) (d : Disk) (f
     end_step = fits.end_step;
     whole = λ t recipe stopped. ⊎_elim (λ bound. inl (bound_without t bound)) (λ ran. inr (ran.0, ran_without t ran.0 stopped ran.1)) (fits.whole t recipe stopped);
     saw = saw_without;
-    apart = λ o t before. ⊎_elim (λ one. inl (through_without o (p.began t) (p.begin_step t) one)) (λ two. inr (through_without t (p.began o) (p.begin_step o) two)) (fits.apart o t before);
+    epoch_came = fits.epoch_came;
+    apart = λ o t before. ⊎_elim (λ one. inl (through_without o (p.began t) (p.begin_step t) one)) (λ rest. inr (⊎_elim (λ two. inl (through_without t (p.began o) (p.begin_step o) two)) (λ old. inr old) rest)) (fits.apart o t before);
   }

@@ -6,6 +6,8 @@ use Rattle.std.proofs.lemmas.Bool.{cases_Bool, cond-true, cond-false, true≢fal
 use Rattle.std.proofs.lemmas.List.{append_assoc}
 use Rattle.std.proofs.lemmas.List.Sums.{sum_by-cons}
 use mathlib.Core.List.{reverse-cons}
+use Rattle.mk_graph.proofs.TurnPast.{turns_end}
+use Rattle.mk_graph.proofs.Parts.{HasAll-from_Has}
 use Rattle.mk_graph.specs.Membership.{Has, has}
 use Rattle.mk_graph.specs.Graph.{Graph, node, HasNoCycle}
 use Rattle.mk_graph.specs.Serial.{visits, order_from}
@@ -15,7 +17,7 @@ use Rattle.mk_graph.specs.Schedules.{HasAll, CanStart, IsSchedule, IsPart}
 use Rattle.mk_build.specs.Steps.{changed_at, Step, Make, Pass, EndMake, after, noted, make_of, IsLegal, after_all}
 use Rattle.mk_build.specs.Clean.{Contents, given_contents, put_all, run_clean, make_clean, make_all_clean, clean_build}
 use Rattle.mk_build.specs.SerialMake.{whole_run, RunsSerially, ends, passes, runs}
-use Rattle.mk_graph.proofs.Turning.{HasAll-has, HasAll-from}
+use Rattle.mk_graph.proofs.Turning.{HasAll-has}
 use Rattle.mk_graph.proofs.SerialTurns.{serial_turns, order_is, goal_is_chosen}
 use Rattle.mk_build.proofs.WholeRuns.{legal_append, after_append, quiet, Ran, whole_run_legal}
 use Rattle.mk_build.proofs.Outcomes.{noted_unknown}
@@ -24,11 +26,6 @@ use Rattle.mk_build.proofs.Outcomes.{noted_unknown}
 abbrev pub TurnOn : Graph → (goals done : List ℕ) → List ℕ → Type 0
 TurnOn g goals done [] = Unit {0}
 TurnOn g goals done (n ∷ ns) = CanStart g goals done n × TurnOn g goals (n ∷ done) ns
-
--- the end of a turn list is one
-turns_end : (g : Graph) (goals front back : List ℕ) → IsSchedule g goals (front ++ back) → IsSchedule g goals back
-turns_end g goals [] back turns = turns
-turns_end g goals (n ∷ front) back turns = turns_end g goals front back turns.1
 
 -- a turn list, the first node first
 pub turn_on : (g : Graph) (goals ns done : List ℕ) → IsSchedule g goals (reverse ns ++ done) → TurnOn g goals done ns
@@ -226,7 +223,7 @@ module _ (g : Graph) (s : Setting) (outcomes : List Outcome) (d : Disk) (goals :
   goals_are_done =
       let serial = serial_turns g is goals in
       subst (λ (l : List ℕ). HasAll l goals) (sym (append-nil (reverse (order_from g goals))
-      ∙ order_is g is goals)) (HasAll-from (visits g [] (filter (has goals) g.goals)) goals
+      ∙ order_is g is goals)) (HasAll-from_Has (visits g [] (filter (has goals) g.goals)) goals
       (λ n h. HasAll-has (visits g [] (filter (has goals) g.goals)) (filter (has goals) g.goals) n
       serial.1 (goal_is_chosen g is goals g.goals n (HasAll-has g.goals goals n part.within h) h)))
 

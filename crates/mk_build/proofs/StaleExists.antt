@@ -1,6 +1,7 @@
 -- There is a history that shows a stale read: reachability by carrying is decidable.
 use Rattle.std.proofs.Common.{◌≡◌, ℕ, ◌+◌, List, [], ◌∷◌, ◌++◌, true, false, ◌⊎◌, inl, inr, ⊎_elim, refl, sym, subst}
 use Rattle.std.proofs.lemmas.Bool.{cases_Bool, cases_eq}
+use Rattle.mk_graph.proofs.Nodes.{recipe_is_node}
 use Rattle.mk_graph.specs.Membership.{Has}
 use Rattle.mk_graph.specs.Graph.{Graph, node, prerequisites, IsGraph}
 use Rattle.mk_build.specs.Setting.{FileName, Setting, is_editable, name, reads, writes}
@@ -16,7 +17,7 @@ use Rattle.mk_build.specs.Stale.{Chain, here, further, IsEditOf, ShowsStale}
 use Rattle.mk_graph.proofs.Turning.{turn_has_before}
 use Rattle.mk_build.proofs.Sound.{writer_has_recipe, reader_has_recipe, carried_is_before}
 use Rattle.mk_build.proofs.CleanEnd.{cases_among}
-use Rattle.mk_build.proofs.StaleHistory.{recipe_is_node, all_goals, all_nodes, all_turns, recipe_among}
+use Rattle.mk_build.proofs.StaleHistory.{all_goals, all_nodes, all_turns, recipe_among}
 
 -- a list has an element whose name is among the files, or none
 cases_named : (g : Graph) (files : List FileName) (ps : List ℕ) → ((p : ℕ) × Has ps p × Has files (name g p)) ⊎ ((p : ℕ) → Has ps p → ¬ (Has files (name g p)))
@@ -93,7 +94,7 @@ makes_exist g s passed told w (n ∷ ns) =
     (λ none. passing (inl none)) (cases_Bool (node g n).recipe)
 
 -- there is an edit of an editable file, or none of another
-edit_exists : (s : Setting) (f : FileName) (d : Disk) → (edit : List Step) × IsEditOf s f d edit
+pub edit_exists : (s : Setting) (f : FileName) (d : Disk) → (edit : List Step) × IsEditOf s f d edit
 edit_exists s f d = ⊎_elim (λ editable. (Edit f (d.clock + 1) ∷ [], inl (editable, refl))) (λ not. ([], inr (not, refl))) (cases_Bool (is_editable s f))
 
 -- there is a history of the described shape

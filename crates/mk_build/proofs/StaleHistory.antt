@@ -1,11 +1,11 @@
 -- A read without a way is shown to be stale: what doesn't reach the file need not run when the file has changed.
 use Rattle.std.proofs.Common.{append-nil, ◌≡◌, ℕ, zero, suc, ◌+◌, ◌*◌, ◌<◌, ◌≤◌, List, [], ◌∷◌, ◌++◌, length, reverse, true, false, Option, Some, None, filter, ◌⊎◌, inl, inr, ⊎_elim, refl, sym, ◌∙◌, ap, subst, arith}
 use Rattle.std.specs.Option.{option_map}
-use Rattle.std.proofs.lemmas.Bool.{cases_Bool, cases_lt, cases_eq, true≢false}
-use Rattle.std.proofs.lemmas.List.{get_or_past}
-use Rattle.mk_graph.specs.declared.node.Node.{Node}
+use Rattle.std.proofs.lemmas.Bool.{cases_Bool, cases_eq, true≢false}
+use Rattle.mk_graph.proofs.Parts.{HasAll-from_Has}
+use Rattle.mk_graph.proofs.Nodes.{recipe_is_node}
 use Rattle.mk_graph.specs.Membership.{Has, has}
-use Rattle.mk_graph.specs.Graph.{Graph, node, no_node, prerequisites, Reached, goal, onward, IsGraph}
+use Rattle.mk_graph.specs.Graph.{Graph, node, prerequisites, Reached, goal, onward, IsGraph}
 use Rattle.mk_build.specs.Setting.{FileName, Setting, is_editable, name, reads, writes, writings}
 use Rattle.mk_build.specs.World.{File, Outcome, Disk, World, Idle, Busy, IsStartDisk, HasStamp, written, last_stamp, outcome, disk_of}
 use Rattle.mk_graph.specs.Schedules.{HasAll, CanStart, IsSchedule, IsPart, Before}
@@ -18,7 +18,7 @@ use Rattle.mk_build.specs.NodeByNode.{MakesAllBut}
 use Rattle.mk_build.specs.Stale.{Chain, here, further, IsEditOf, ShowsStale, IsLaterThanAll}
 use Rattle.mk_build.proofs.ChainWays.{way_over}
 use Rattle.mk_build.proofs.Changes.{cases_name, changed_there}
-use Rattle.mk_graph.proofs.Turning.{HasAll-has, HasAll-from, turn_has_prerequisites}
+use Rattle.mk_graph.proofs.Turning.{HasAll-has, turn_has_prerequisites}
 use Rattle.mk_build.proofs.Sound.{writer_has_recipe, reader_has_recipe, editable_is_not_written, carried_is_before}
 use Rattle.mk_graph.proofs.SerialTurns.{serial_turns, order_is, goal_is_chosen}
 use Rattle.mk_build.proofs.Writing.{one_stamp, stamp_here, stamp_is, stamp_there}
@@ -27,11 +27,6 @@ use Rattle.mk_build.proofs.CleanEnd.{cases_among}
 use Rattle.mk_build.proofs.WholeRuns.{legal_append, after_append}
 use Rattle.mk_build.proofs.SerialHistory.{turn_on}
 use Rattle.mk_build.proofs.MakesBut.{same_stamp, AreByName, Ascends, Keeps, Left, Goes, makes_legal}
-
--- what has a recipe is a node
-pub recipe_is_node : (g : Graph) (n : ℕ) → (node g n).recipe ≡ true → n < length g.nodes
-recipe_is_node g n recipe =
-    ⊎_elim (λ lt. lt) (λ past. let none : node g n ≡ no_node = get_or_past g.nodes n no_node past in absurd (true≢false (sym recipe ∙ ap (λ (v : Node). v.recipe) none))) (cases_lt n (length g.nodes))
 
 -- where a goal is reached there is one
 some_goal : (g : Graph) {n : ℕ} → Reached g n → ¬ (g.goals ≡ [])
@@ -54,7 +49,7 @@ cases_writer g s h = ⊎_elim (λ some. inl some) (λ none. inr (λ o wrote. non
 module _ (g : Graph) (s : Setting) (graph : IsGraph g) (sound : AreSound g s) where
   -- all goals are a part of the goals, where something is reached
   pub all_goals : (n : ℕ) → n < length g.nodes → IsPart g.goals g.goals
-  all_goals n lt = record { not_empty = some_goal g (graph.sound.reached n lt); within = HasAll-from g.goals g.goals (λ k h. h) }
+  all_goals n lt = record { not_empty = some_goal g (graph.sound.reached n lt); within = HasAll-from_Has g.goals g.goals (λ k h. h) }
 
   -- the nodes of a make of all, the last one first
   abbrev pub all_nodes : List ℕ
@@ -66,7 +61,7 @@ module _ (g : Graph) (s : Setting) (graph : IsGraph g) (sound : AreSound g s) wh
 
   -- they hold the goals
   all_hold_goals : HasAll all_nodes g.goals
-  all_hold_goals = HasAll-from all_nodes g.goals (λ n h. HasAll-has all_nodes (filter (has g.goals) g.goals) n all_turns.1 (goal_is_chosen g graph.no_cycle g.goals g.goals n h h))
+  all_hold_goals = HasAll-from_Has all_nodes g.goals (λ n h. HasAll-has all_nodes (filter (has g.goals) g.goals) n all_turns.1 (goal_is_chosen g graph.no_cycle g.goals g.goals n h h))
 
   -- and all that is reached
   reached_among : {n : ℕ} → Reached g n → Has all_nodes n

@@ -55,7 +55,7 @@ module _ (d : Disk) (f : FileName) (c : ℕ) where
   pub stamp_kept : (h : FileName) (stamp : ℕ) → ¬ (f ≡ h) → HasStamp d h stamp → HasStamp (written d f c) h stamp
   stamp_kept h stamp differ has = ap (λ o. option_map (λ (file : File). file.stamp) o) (changed_there d.files f h (Some (record { content = c; stamp = d.clock + 1 })) differ) ∙ has
 
-module _ (g : Graph) (s : Setting) (p : Runs) (running : List ℕ) (d : Disk) (fits : Fits g s p running d) (f : FileName) (c : ℕ) (can : CanChange s f) (only : (t : ℕ) → Has (writes g s t) f → Has running t) where
+module _ (g : Graph) (s : Setting) (epoch : ℕ) (p : Runs) (running : List ℕ) (d : Disk) (fits : Fits g s epoch p running d) (f : FileName) (c : ℕ) (can : CanChange s f) (only : (t : ℕ) → Has (writes g s t) f → Has running t) where
   -- what isn't running doesn't write the file
   not_here : (t : ℕ) (h : FileName) → ¬ (Has running t) → Has (writes g s t) h → ¬ (f ≡ h)
   not_here t h stopped wrote same = stopped (only t (subst (λ (k : FileName). Has (writes g s t) k) (sym same) wrote))
@@ -125,7 +125,7 @@ module _ (g : Graph) (s : Setting) (p : Runs) (running : List ℕ) (d : Disk) (f
         ⊎_elim (λ phony. inl (inl (inl phony))) (λ not_phony. bound_written t (not_here t (name g t) stopped (sound.target t recipe not_phony)) bound) (cases_Bool (node g t).phony)
 
   -- the disk fits the runs after the writing
-  pub fits_written : AreSound g s → Fits g s p running (written d f c)
+  pub fits_written : AreSound g s → Fits g s epoch p running (written d f c)
   fits_written sound = record {
     stamped = λ h stamp has. ⊎_elim (λ same. let new = stamp_is d f c h stamp same has in omega arith) (λ differ. let came = fits.stamped h stamp (stamp_there d f c h stamp differ has) in omega arith) (cases_name f h);
     began = λ t. let came = fits.began t in omega arith;
@@ -133,7 +133,8 @@ module _ (g : Graph) (s : Setting) (p : Runs) (running : List ℕ) (d : Disk) (f
     end_step = fits.end_step;
     whole = λ t recipe stopped. ⊎_elim (λ bound. inl (stays_bound sound t recipe stopped bound)) (λ ran. inr (ran.0, ran_written t ran.0 stopped ran.1)) (fits.whole t recipe stopped);
     saw = saw_written;
-    apart = λ o t before. ⊎_elim (λ one. inl (through_written o (p.began t) (p.begin_step t) one)) (λ other. inr (through_written t (p.began o) (p.begin_step o) other)) (fits.apart o t before);
+    epoch_came = let came = fits.epoch_came in omega arith;
+    apart = λ o t before. ⊎_elim (λ one. inl (through_written o (p.began t) (p.begin_step t) one)) (λ rest. inr (⊎_elim (λ other. inl (through_written t (p.began o) (p.begin_step o) other)) (λ old. inr old) rest)) (fits.apart o t before);
   }
 
   -- a recipe that must run after the writing had to run before it, if the file is neither its target nor one of its

@@ -48,14 +48,14 @@ IsAsLeft g s run d t =
 
 -- The disk is coherent while these recipes run: no stamp is later than the clock; each other recipe
 -- is bound to run, or is as its last whole run left it; and of two recipes of which one runs before
--- the other, the last runs didn't overlap.
+-- the other, the first one's last run ended no later than the second one's, or began after it.
 pub record IsCoherentWhile (g : Graph) (s : Setting) (running : List ℕ) (d : Disk) : Type 0 where
   pub last : ℕ → LastRun
   pub stamped : (f : FileName) (stamp : ℕ) → HasStamp d f stamp → stamp ≤ d.clock
   pub came : (t : ℕ) → ((last t).began ≤ (last t).ended) × ((last t).ended ≤ d.clock)
   pub left : (t : ℕ) → (node g t).recipe ≡ true → ¬ (Has running t) → IsBoundToRun g s d t ⊎
       IsAsLeft g s (last t) d t
-  pub apart : (o t : ℕ) → Before g o t → ((last o).ended ≤ (last t).began) ⊎ ((last t).ended ≤
+  pub apart : (o t : ℕ) → Before g o t → ((last o).ended ≤ (last t).ended) ⊎ ((last t).ended ≤
       (last o).began)
 
 -- The disk is coherent, with no recipe running.

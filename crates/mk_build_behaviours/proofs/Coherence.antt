@@ -1,10 +1,11 @@
 -- A coherent disk is as some runs left it, and a disk that some runs left is coherent.
 use Rattle.std.proofs.Common.{◌≡◌, ℕ, ◌+◌, ◌*◌, ◌<◌, ◌≤◌, List, [], true, Option, Some, None, map, length, ◌⊎◌, inl, inr, ⊎_elim, refl, sym, ◌∙◌, ap, subst, arith}
 use Rattle.std.proofs.lemmas.Bool.{cases_Bool, true≢false}
+use Rattle.mk_lemmas.proofs.Members.{cases_Has}
+use Rattle.mk_graph.proofs.Nodes.{recipe_is_node}
 use Rattle.mk_graph.specs.Membership.{Has}
 use Rattle.mk_graph.specs.Graph.{Graph, node, IsGraph}
 use Rattle.mk_graph.specs.Schedules.{Before}
-use Rattle.mk_graph.proofs.Members.{cases_Has}
 use Rattle.mk_build.specs.Setting.{FileName, Setting, reads}
 use Rattle.mk_build.specs.World.{Outcome, Disk, World, Idle, Busy, IsStartDisk, outcome}
 use Rattle.mk_build.specs.Steps.{Step}
@@ -12,8 +13,7 @@ use Rattle.mk_build.specs.Runs.{WholeRun, Runs}
 use Rattle.mk_build.specs.Right.{AreSound}
 use Rattle.mk_build.specs.Coherent.{LastRun, IsBoundToRun, ContainsOrChanged}
 use Rattle.mk_build.proofs.Writing.{map_same}
-use Rattle.mk_build.proofs.StaleHistory.{recipe_is_node}
-use Rattle.mk_build.proofs.Invariant.{RanWhole, WasThrough, Fits}
+use Rattle.mk_build.proofs.Invariant.{RanWhole, WasThrough, AreOld, Fits}
 use Rattle.mk_build.proofs.CoherentHistories.{start_is_coherent}
 use Rattle.mk_build_behaviours.specs.Behaviours.{Behaviours, behaviour, path, result}
 use Rattle.mk_build_behaviours.specs.StepsBy.{IsLegalBy, after_all_by, AreUndisturbed}
@@ -120,14 +120,18 @@ module _ (g : Graph) (s : Setting) (b : Behaviours) (d : Disk) (is : IsCoherentB
   }
 
   -- of two of which one is before the other, one was through when the other last began
-  apart_in : (o t : ℕ) (a : In o) (c : In t) → Before g o t → WasThrough g (without_reads s) (last_in o a) [] now o (began_in t c) (step_in t c) ⊎ WasThrough g (without_reads s) (last_in t c) [] now t (began_in o a) (step_in o a)
-  apart_in o t (inl first) (inl second) before =
-      ⊎_elim (λ early. inl (through_then o (is.last t).began first.1 early)) (λ early. inr (through_then t (is.last o).began second.1 early)) (is.apart o t before)
-  apart_in o t (inl first) (inr bound) before = inl (through_now o (inl first))
-  apart_in o t (inr bound) c before = inr (through_now t c)
+  apart_in : (o t : ℕ) (a : In o) (c : In t) (q : Runs) → q.last o ≡ last_in o a → q.last t ≡ last_in t c → Before g o t → WasThrough g (without_reads s) (last_in o a) [] now o (began_in t c) (step_in t c) ⊎ WasThrough g (without_reads s) (last_in t c) [] now t (began_in o a) (step_in o a) ⊎ AreOld d.clock q [] o t
+  apart_in o t (inl first) (inl second) q last_o last_t before =
+      ⊎_elim (λ early. inr (inr (record {
+        first_stopped = λ h. h;
+        second_stopped = λ h. h;
+        in_order = λ a c is_a is_c. let one : Some (run_at o) ≡ Some a = sym last_o ∙ is_a in let two : Some (run_at t) ≡ Some c = sym last_t ∙ is_c in let same_a : run_at o ≡ a = cc in let same_c : run_at t ≡ c = cc in let a_ended : (is.last o).ended ≡ a.ended = ap (λ (r : WholeRun). r.ended) same_a in let c_ended : (is.last t).ended ≡ c.ended = ap (λ (r : WholeRun). r.ended) same_c in let came = (is.came t).1 in (omega arith, omega arith);
+      }))) (λ early. inr (inl (through_then t (is.last o).began second.1 early))) (is.apart o t before)
+  apart_in o t (inl first) (inr bound) q last_o last_t before = inl (through_now o (inl first))
+  apart_in o t (inr bound) c q last_o last_t before = inr (inl (through_now t c))
 
   -- the disk fits these runs
-  fits_before : Fits g (without_reads s) runs_before [] now
+  fits_before : Fits g (without_reads s) d.clock runs_before [] now
   fits_before = record {
     stamped = is.stamped;
     began = λ t. began_came t (place t);
@@ -135,7 +139,8 @@ module _ (g : Graph) (s : Setting) (b : Behaviours) (d : Disk) (is : IsCoherentB
     end_step = λ t run e. (ended_came t (place t) run e).1;
     whole = λ t recipe stopped. whole_in t (place t) runs_before refl refl refl refl recipe;
     saw = λ t run e f read. absurd (reads_none g s t f read);
-    apart = λ o t before. apart_in o t (place o) (place t) before;
+    epoch_came = omega arith;
+    apart = λ o t before. apart_in o t (place o) (place t) runs_before refl refl before;
   }
 
   -- what last runs saw and wrote
@@ -150,6 +155,7 @@ module _ (g : Graph) (s : Setting) (b : Behaviours) (d : Disk) (is : IsCoherentB
   -- so it is as these runs left it
   pub coherent_is_kept : IsKept g s b (Idle d)
   coherent_is_kept = record {
+    epoch = d.clock;
     runs = runs_before;
     start = 0;
     known = known g (without_reads s) b d is;
@@ -157,7 +163,7 @@ module _ (g : Graph) (s : Setting) (b : Behaviours) (d : Disk) (is : IsCoherentB
     are = record { saw = λ t run e f. saw_in t (place t) run e f; wrote = λ t run e. wrote_in t (place t) run refl e };
   }
 
-module _ (g : Graph) (s : Setting) (b : Behaviours) (p : Runs) (running : List ℕ) (d : Disk) (known : List Outcome) (fits : Fits g (without_reads s) p running (record d { known = known })) (are : AreKnown g s b p known d) where
+module _ (g : Graph) (s : Setting) (b : Behaviours) (epoch : ℕ) (p : Runs) (running : List ℕ) (d : Disk) (known : List Outcome) (fits : Fits g (without_reads s) epoch p running (record d { known = known })) (are : AreKnown g s b p known d) where
   -- a node ran whole, or is bound to run if it has a recipe that doesn't run
   abbrev Status : ℕ → Type 0
   Status t = ((run : WholeRun) × RanWhole g (without_reads s) p run (record d { known = known }) t) ⊎ ((node g t).recipe ≡ true → ¬ (Has running t) → IsBoundToRun g s d t)
@@ -192,10 +198,10 @@ module _ (g : Graph) (s : Setting) (b : Behaviours) (p : Runs) (running : List �
       })
   left_of t (inr bound) recipe stopped = inl (bound recipe stopped)
 
-  -- the last runs of two of which one is before the other didn't overlap
-  apart_of : (o t : ℕ) (a : Status o) (c : Status t) → Before g o t → ((last_of o a).ended ≤ (last_of t c).began) ⊎ ((last_of t c).ended ≤ (last_of o a).began)
+  -- of two of which one is before the other, the last run of the first ended no later, or began after the second
+  apart_of : (o t : ℕ) (a : Status o) (c : Status t) → Before g o t → ((last_of o a).ended ≤ (last_of t c).ended) ⊎ ((last_of t c).ended ≤ (last_of o a).began)
   apart_of o t (inl first) (inl second) before =
-      ⊎_elim (λ early. inl (early.ended first.0 first.1.is_last)) (λ early. inr (early.ended second.0 second.1.is_last)) (fits.apart o t before)
+      ⊎_elim (λ early. inl (let first_ended = early.ended first.0 first.1.is_last in let order = second.1.in_order in omega arith)) (λ rest. ⊎_elim (λ early. inr (early.ended second.0 second.1.is_last)) (λ old. inl (old.in_order first.0 second.0 first.1.is_last second.1.is_last).0) rest) (fits.apart o t before)
   apart_of o t (inl first) (inr bound) before = inr (omega arith)
   apart_of o t (inr bound) c before = inl (omega arith)
 
@@ -211,8 +217,8 @@ module _ (g : Graph) (s : Setting) (b : Behaviours) (p : Runs) (running : List �
 
 -- the disk of a world is coherent
 pub coherent_in : (g : Graph) (s : Setting) (b : Behaviours) (w : World) → IsKept g s b w → HasCoherentDiskBy g s b w
-coherent_in g s b (Idle d) kept = kept_is_coherent g s b kept.runs [] d kept.known kept.is kept.are
-coherent_in g s b (Busy m d) kept = kept_is_coherent g s b kept.runs m.running d kept.known kept.is.fits kept.are
+coherent_in g s b (Idle d) kept = kept_is_coherent g s b kept.epoch kept.runs [] d kept.known kept.is kept.are
+coherent_in g s b (Busy m d) kept = kept_is_coherent g s b kept.epoch kept.runs m.running d kept.known kept.is.fits kept.are
 
 -- undisturbed traces keep a coherent disk coherent
 pub coherence_is_kept : (g : Graph) (s : Setting) (b : Behaviours) → IsGraph g → AreSound g (without_reads s) → (d : Disk) (steps : List Step) → IsCoherentBy g s b d → IsLegalBy g s b (Idle d) steps → AreUndisturbed g s b (Idle d) steps → HasCoherentDiskBy g s b (after_all_by g s (Idle d) steps)

@@ -3,6 +3,7 @@ use Rattle.std.proofs.Common.{◌≡◌, ℕ, List, [], ◌∷◌, Bool, true, f
 use Rattle.std.specs.Prelude.{if◌then◌else◌}
 use Rattle.std.specs.Option.{option_flatten, option_map}
 use Rattle.std.proofs.lemmas.Bool.{cases_eq, true≢false}
+use Rattle.mk_lemmas.proofs.Results.{IfSome-from}
 use Rattle.mk_graph.specs.Membership.{Has}
 use Rattle.mk_graph.specs.Graph.{Graph, node, IsGraph}
 use Rattle.mk_graph.specs.Schedules.{CanStart, IsSchedule}
@@ -40,11 +41,12 @@ module _ (g : Graph) (s : Setting) (b : Behaviours) (graph : IsGraph g) (sound :
   -- A make in progress follows one of today's world in which recipes have seen this and these outcomes are known; given files are clean, and
   -- what running recipes saw in their footprints is there.
   pub record Follows (m : Making) (d : Disk) : Type 0 where
+    pub epoch : ℕ
     pub runs : Runs
     pub start : ℕ
     pub seen : ℕ → FileName → Option (Option ℕ)
     pub known : List Outcome
-    pub whole : IsWhole g s graph sound no_race runs start (Busy (record m { seen = seen }) (record d { known = known }))
+    pub whole : IsWhole g s graph sound epoch no_race runs start (Busy (record m { seen = seen }) (record d { known = known }))
     pub true_of : AreTrue known
     pub given_clean : (f : FileName) → is_given s f ≡ true → content d f ≡ clean f
     pub saw : Sees g s b (λ t f. Has (reads g s t) f) m d
@@ -135,7 +137,7 @@ module _ (g : Graph) (s : Setting) (b : Behaviours) (graph : IsGraph g) (sound :
           (λ differ. follows.whole.0.make.seen u f v runs read (sym (ap (λ (at : FileName → Option (Option ℕ)). at f) (changed_at_there follows.seen t u (λ h. Some (content d h)) differ)) ∙ e))
           (cases_eq t u)
 
-      whole_seen : IsWhole g s graph sound no_race follows.runs follows.start (Busy making disk)
+      whole_seen : IsWhole g s graph sound follows.epoch no_race follows.runs follows.start (Busy making disk)
       whole_seen =
           let holds = follows.whole.0 in (
             record {
@@ -147,6 +149,7 @@ module _ (g : Graph) (s : Setting) (b : Behaviours) (graph : IsGraph g) (sound :
                 put = holds.make.put;
                 put_late = holds.make.put_late;
                 waits = holds.make.waits;
+                epoch_before = holds.make.epoch_before;
                 runs = holds.make.runs;
               };
             },
@@ -163,7 +166,7 @@ module _ (g : Graph) (s : Setting) (b : Behaviours) (graph : IsGraph g) (sound :
         runs = may.runs;
         seen = λ f read none. let some : None ≡ Some (content d f) = sym none ∙ all_seen_here f in cc;
         put = may.put;
-        agrees = if_some_from (outcome follows.known t (seen_by g s making t)) (λ w. w ≡ put_by g s making t) (λ w e. follows.true_of t w recipe_of (subst (λ (l : List (Option ℕ)). outcome follows.known t l ≡ Some w) seen_is_clean e) ∙ sym put_clean);
+        agrees = IfSome-from (outcome follows.known t (seen_by g s making t)) (λ w. w ≡ put_by g s making t) (λ w e. follows.true_of t w recipe_of (subst (λ (l : List (Option ℕ)). outcome follows.known t l ≡ Some w) seen_is_clean e) ∙ sym put_clean);
       }
 
       -- its outcome
@@ -200,8 +203,8 @@ module _ (g : Graph) (s : Setting) (b : Behaviours) (graph : IsGraph g) (sound :
     removed_or_same t false f must differ = refl
 
     -- today's invariant after a step of today's world
-    whole_after : (w : World) (p : Runs) (start : ℕ) (step : Step) → IsWhole g s graph sound no_race p start w → Allowed g s w step → IsWhole g s graph sound no_race (runs_after w step p) (start_after w step start) (after g s w step)
-    whole_after w p start step whole may = (step_keeps g s graph sound no_race p start w step whole.0 may, step_settles g s graph sound no_race (λ q began n e at are k ready recipe need_not. passed_is_up_to_date g s graph sound q began n e at.fits at.make are k ready recipe need_not no_race ways) p start w step whole may)
+    whole_after : (epoch : ℕ) (w : World) (p : Runs) (start : ℕ) (step : Step) → IsWhole g s graph sound epoch no_race p start w → Allowed g s w step → IsWhole g s graph sound epoch no_race (runs_after w step p) (start_after w step start) (after g s w step)
+    whole_after epoch w p start step whole may = (step_keeps g s graph sound epoch no_race p start w step whole.0 may, step_settles g s graph sound epoch no_race (λ q began n e at are k ready recipe need_not. passed_is_up_to_date g s graph sound epoch q began n e at.fits at.make are k ready recipe need_not no_race ways) p start w step whole may)
 
     abbrev today : World
     today = Busy (record m { seen = follows.seen }) (record d { known = follows.known })
@@ -211,16 +214,18 @@ module _ (g : Graph) (s : Setting) (b : Behaviours) (graph : IsGraph g) (sound :
     follow (Edit f c) inside may = absurd inside
     follow (Make jobs goals) inside may = absurd inside
     follow (Begin t) inside may = record {
+      epoch = follows.epoch;
       runs = runs_after today (Begin t) follows.runs;
       start = follows.start;
       seen = changed_at follows.seen t (λ f. None);
       known = follows.known;
-      whole = whole_after today follows.runs follows.start (Begin t) follows.whole may;
+      whole = whole_after follows.epoch today follows.runs follows.start (Begin t) follows.whole may;
       true_of = follows.true_of;
       given_clean = follows.given_clean;
       saw = saw_after (Begin t) may;
     }
     follow (Look t f) inside may = record {
+      epoch = follows.epoch;
       runs = follows.runs;
       start = follows.start;
       seen = follows.seen;
@@ -231,26 +236,29 @@ module _ (g : Graph) (s : Setting) (b : Behaviours) (graph : IsGraph g) (sound :
       saw = saw_after (Look t f) may;
     }
     follow (Put t f c) inside may = record {
+      epoch = follows.epoch;
       runs = runs_after today (Put t f c) follows.runs;
       start = follows.start;
       seen = follows.seen;
       known = follows.known;
-      whole = whole_after today follows.runs follows.start (Put t f c) follows.whole may;
+      whole = whole_after follows.epoch today follows.runs follows.start (Put t f c) follows.whole may;
       true_of = follows.true_of;
       given_clean = λ h given. content_there d f c h (not_given t f h may.1 given) ∙ follows.given_clean h given;
       saw = saw_after (Put t f c) may;
     }
     follow (End t) inside may = record {
+      epoch = follows.epoch;
       runs = runs_after (Busy (making t may) (disk t may)) (End t) follows.runs;
       start = follows.start;
       seen = changed_at (all_seen t may) t (λ f. None);
       known = (noted (disk t may) (result_of t may)).known;
-      whole = whole_after (Busy (making t may) (disk t may)) follows.runs follows.start (End t) (whole_seen t may) (may_end t may);
+      whole = whole_after follows.epoch (Busy (making t may) (disk t may)) follows.runs follows.start (End t) (whole_seen t may) (may_end t may);
       true_of = true_after t may;
       given_clean = follows.given_clean;
       saw = saw_after (End t) may;
     }
     follow (Break t removed) inside may = record {
+      epoch = follows.epoch;
       runs = runs_after today (Break t removed) follows.runs;
       start = follows.start;
       seen = changed_at follows.seen t (λ f. None);
@@ -260,15 +268,16 @@ module _ (g : Graph) (s : Setting) (b : Behaviours) (graph : IsGraph g) (sound :
       given_clean = λ h given. removed_or_same t removed h may.1 (λ wrote. not_given t (name g t) h wrote given) ∙ follows.given_clean h given;
       saw = saw_after (Break t removed) may;
     } where
-      whole_broken : (t : ℕ) (removed : Bool) → Has m.running t × IsLeftToRun g s d t removed → IsWhole g s graph sound no_race (runs_after today (Break t removed) follows.runs) follows.start (Busy (record (broken_off m t) { seen = changed_at follows.seen t (λ f. None) }) (record (if removed then without d (name g t) else d) { known = follows.known }))
-      whole_broken t true may = whole_after today follows.runs follows.start (Break t true) follows.whole may
-      whole_broken t false may = whole_after today follows.runs follows.start (Break t false) follows.whole may
+      whole_broken : (t : ℕ) (removed : Bool) → Has m.running t × IsLeftToRun g s d t removed → IsWhole g s graph sound follows.epoch no_race (runs_after today (Break t removed) follows.runs) follows.start (Busy (record (broken_off m t) { seen = changed_at follows.seen t (λ f. None) }) (record (if removed then without d (name g t) else d) { known = follows.known }))
+      whole_broken t true may = whole_after follows.epoch today follows.runs follows.start (Break t true) follows.whole may
+      whole_broken t false may = whole_after follows.epoch today follows.runs follows.start (Break t false) follows.whole may
     follow (Pass n) inside may = record {
+      epoch = follows.epoch;
       runs = runs_after today (Pass n) follows.runs;
       start = follows.start;
       seen = changed_at follows.seen n (λ f. None);
       known = follows.known;
-      whole = whole_after today follows.runs follows.start (Pass n) follows.whole may;
+      whole = whole_after follows.epoch today follows.runs follows.start (Pass n) follows.whole may;
       true_of = follows.true_of;
       given_clean = follows.given_clean;
       saw = saw_after (Pass n) may;

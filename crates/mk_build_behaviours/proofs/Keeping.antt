@@ -16,7 +16,7 @@ use Rattle.mk_build.specs.Coherent.{ContainsOrChanged}
 use Rattle.mk_build.proofs.Changes.{cases_name, changed_there, changed_at_here, changed_at_there}
 use Rattle.mk_build.proofs.Writing.{content_there, stamp_here, stamp_kept}
 use Rattle.mk_build.proofs.Putting.{look_holds}
-use Rattle.mk_build.proofs.Outcomes.{noted_new, noted_old}
+use Rattle.mk_build.proofs.Outcomes.{noted_new, noted_old, outcome_here}
 use Rattle.mk_build.proofs.Removing.{gone_here, stays_there, none_still}
 use Rattle.mk_build.proofs.Invariant.{RanWhole, Holds, IsInvariant, start_after}
 use Rattle.mk_build.proofs.Histories.{step_keeps}
@@ -24,7 +24,7 @@ use Rattle.mk_build_behaviours.specs.Behaviours.{Behaviours, behaviour, path, re
 use Rattle.mk_build_behaviours.specs.StepsBy.{saw_in, MayEndBy, AllowedBy, after_by, IsLegalBy, after_all_by, IsUndisturbed, AreUndisturbed}
 use Rattle.mk_build_behaviours.specs.CoherentBy.{without_reads}
 use Rattle.mk_build_behaviours.specs.Straight.{with_outcomes}
-use Rattle.mk_build_behaviours.proofs.Known.{outcome_here, outcome_other}
+use Rattle.mk_build_behaviours.proofs.Known.{outcome_other}
 
 -- a footprint without reads has none
 pub reads_none : (g : Graph) (s : Setting) (t : ℕ) (f : FileName) → ¬ (Has (reads g (without_reads s) t) f)
@@ -63,10 +63,11 @@ pub record AreKnown (g : Graph) (s : Setting) (b : Behaviours) (p : Runs) (known
 
 -- a world is as some runs left it
 pub record IsKept (g : Graph) (s : Setting) (b : Behaviours) (w : World) : Type 0 where
+  pub epoch : ℕ
   pub runs : Runs
   pub start : ℕ
   pub known : List Outcome
-  pub is : IsInvariant g (without_reads s) runs start (with_outcomes w known)
+  pub is : IsInvariant g (without_reads s) epoch runs start (with_outcomes w known)
   pub are : AreKnown g s b runs known (disk_of w)
 
 module _ (g : Graph) (s : Setting) (b : Behaviours) (graph : IsGraph g) (sound : AreSound g (without_reads s)) where
@@ -85,8 +86,8 @@ module _ (g : Graph) (s : Setting) (b : Behaviours) (graph : IsGraph g) (sound :
     after_begin = ran.after_begin;
   }
 
-  holds_with : (p : Runs) (start : ℕ) (m : Making) (d : Disk) (known more : List Outcome) → ((t : ℕ) → ¬ (Has m.running t) → (seen : List (Option ℕ)) → outcome more t seen ≡ outcome known t seen) → Holds g (without_reads s) p start m (record d { known = known }) → Holds g (without_reads s) p start m (record d { known = more })
-  holds_with p start m d known more same is = record {
+  holds_with : (epoch : ℕ) (p : Runs) (start : ℕ) (m : Making) (d : Disk) (known more : List Outcome) → ((t : ℕ) → ¬ (Has m.running t) → (seen : List (Option ℕ)) → outcome more t seen ≡ outcome known t seen) → Holds g (without_reads s) epoch p start m (record d { known = known }) → Holds g (without_reads s) epoch p start m (record d { known = more })
+  holds_with epoch p start m d known more same is = record {
     fits = record {
       stamped = is.fits.stamped;
       began = is.fits.began;
@@ -94,11 +95,13 @@ module _ (g : Graph) (s : Setting) (b : Behaviours) (graph : IsGraph g) (sound :
       end_step = is.fits.end_step;
       whole = λ t recipe stopped. ⊎_elim (λ bound. inl bound) (λ ran. inr (ran.0, ran_with p d known more t ran.0 (same t stopped) ran.1)) (is.fits.whole t recipe stopped);
       saw = is.fits.saw;
-      apart = λ o t before. ⊎_elim (λ one. inl (record { stopped = one.stopped; early = one.early; ended = one.ended; end_step = one.end_step })) (λ two. inr (record { stopped = two.stopped; early = two.early; ended = two.ended; end_step = two.end_step })) (is.fits.apart o t before);
+      epoch_came = is.fits.epoch_came;
+      apart = λ o t before. ⊎_elim (λ one. inl (record { stopped = one.stopped; early = one.early; ended = one.ended; end_step = one.end_step })) (λ rest. inr (⊎_elim (λ two. inl (record { stopped = two.stopped; early = two.early; ended = two.ended; end_step = two.end_step })) (λ old. inr old) rest)) (is.fits.apart o t before);
     };
     make = record {
       order = is.make.order;
       start_came = is.make.start_came;
+      epoch_before = is.make.epoch_before;
       seen = is.make.seen;
       put = is.make.put;
       put_late = is.make.put_late;
@@ -116,8 +119,8 @@ module _ (g : Graph) (s : Setting) (b : Behaviours) (graph : IsGraph g) (sound :
     abbrev before_end : Disk
     before_end = record d { known = own ∷ kept.known }
 
-    holds_before : Holds g (without_reads s) kept.runs kept.start m before_end
-    holds_before = holds_with kept.runs kept.start m d kept.known (own ∷ kept.known) (λ t stopped seen. outcome_other own kept.known t seen (λ same. stopped (subst (λ (k : ℕ). Has m.running k) same may.runs))) kept.is
+    holds_before : Holds g (without_reads s) kept.epoch kept.runs kept.start m before_end
+    holds_before = holds_with kept.epoch kept.runs kept.start m d kept.known (own ∷ kept.known) (λ t stopped seen. outcome_other own kept.known t seen (λ same. stopped (subst (λ (k : ℕ). Has m.running k) same may.runs))) kept.is
 
     -- it agrees with what is known
     agrees : HasPutWhatIsKnown g (without_reads s) m before_end x
@@ -164,23 +167,25 @@ module _ (g : Graph) (s : Setting) (b : Behaviours) (graph : IsGraph g) (sound :
   are_later p q known d same are = record { saw = λ t run e. are.saw t run (sym (same t) ∙ e); wrote = λ t run e. are.wrote t run (sym (same t) ∙ e) }
 
   -- today's invariant after a step of today's world
-  next : (w : World) (p : Runs) (start : ℕ) (step : Step) → IsInvariant g (without_reads s) p start w → Allowed g (without_reads s) w step → IsInvariant g (without_reads s) (runs_after w step p) (start_after w step start) (after g (without_reads s) w step)
-  next w p start step is may = step_keeps g (without_reads s) graph sound (none_races g s) p start w step is may
+  next : (epoch : ℕ) (w : World) (p : Runs) (start : ℕ) (step : Step) → IsInvariant g (without_reads s) epoch p start w → Allowed g (without_reads s) w step → IsInvariant g (without_reads s) epoch (runs_after w step p) (start_after w step start) (after g (without_reads s) w step)
+  next epoch w p start step is may = step_keeps g (without_reads s) graph sound epoch (none_races g s) p start w step is may
 
   -- each undisturbed step keeps a world
   pub keep : (w : World) (step : Step) → IsKept g s b w → AllowedBy g s b w step → IsUndisturbed g s b w step → IsKept g s b (after_by g s w step)
   keep (Idle d) (Edit f c) kept may still = record {
+    epoch = kept.epoch;
     runs = runs_after (Idle d) (Edit f c) kept.runs;
     start = kept.start;
     known = kept.known;
-    is = next (Idle (record d { known = kept.known })) kept.runs kept.start (Edit f c) kept.is may;
+    is = next kept.epoch (Idle (record d { known = kept.known })) kept.runs kept.start (Edit f c) kept.is may;
     are = are_later kept.runs (runs_after (Idle d) (Edit f c) kept.runs) kept.known (written d f c) (λ t. refl) (are_written kept.runs kept.known d f c kept.is.ended (inl may.0) kept.are);
   }
   keep (Idle d) (Make jobs goals) kept may still = record {
+    epoch = kept.epoch;
     runs = runs_after (Idle d) (Make jobs goals) kept.runs;
     start = d.clock;
     known = kept.known;
-    is = next (Idle (record d { known = kept.known })) kept.runs kept.start (Make jobs goals) kept.is may;
+    is = next kept.epoch (Idle (record d { known = kept.known })) kept.runs kept.start (Make jobs goals) kept.is may;
     are = are_later kept.runs (runs_after (Idle d) (Make jobs goals) kept.runs) kept.known d (λ t. refl) kept.are;
   }
   keep (Idle d) (Begin t) kept may still = absurd may
@@ -194,62 +199,70 @@ module _ (g : Graph) (s : Setting) (b : Behaviours) (graph : IsGraph g) (sound :
   keep (Busy m d) (Edit f c) kept may still = absurd may
   keep (Busy m d) (Make jobs goals) kept may still = absurd may
   keep (Busy m d) (Begin t) kept may still = record {
+    epoch = kept.epoch;
     runs = runs_after (Busy m (record d { known = kept.known })) (Begin t) kept.runs;
     start = kept.start;
     known = kept.known;
-    is = next (Busy m (record d { known = kept.known })) kept.runs kept.start (Begin t) kept.is may;
+    is = next kept.epoch (Busy m (record d { known = kept.known })) kept.runs kept.start (Begin t) kept.is may;
     are = are_later kept.runs (runs_after (Busy m (record d { known = kept.known })) (Begin t) kept.runs) kept.known d (λ t. refl) kept.are;
   }
   keep (Busy m d) (Look t f) kept may still = record {
+    epoch = kept.epoch;
     runs = kept.runs;
     start = kept.start;
     known = kept.known;
-    is = look_holds g (without_reads s) kept.runs kept.start m (record d { known = kept.known }) kept.is.fits kept.is.make t f;
+    is = look_holds g (without_reads s) kept.epoch kept.runs kept.start m (record d { known = kept.known }) kept.is.fits kept.is.make t f;
     are = kept.are;
   }
   keep (Busy m d) (Put t f c) kept may still = record {
+    epoch = kept.epoch;
     runs = runs_after (Busy m (record d { known = kept.known })) (Put t f c) kept.runs;
     start = kept.start;
     known = kept.known;
-    is = next (Busy m (record d { known = kept.known })) kept.runs kept.start (Put t f c) kept.is may;
+    is = next kept.epoch (Busy m (record d { known = kept.known })) kept.runs kept.start (Put t f c) kept.is may;
     are = are_later kept.runs (runs_after (Busy m (record d { known = kept.known })) (Put t f c) kept.runs) kept.known (written d f c) (λ t. refl) (are_written kept.runs kept.known d f c kept.is.fits.ended (inr (sound.not_given t f may.1)) kept.are);
   }
   keep (Busy m d) (End t) kept may still = record {
+    epoch = kept.epoch;
     runs = runs_then m d kept t may;
     start = kept.start;
     known = (noted (before_end m d kept t may) (own m d kept t may)).known;
-    is = next (Busy m (before_end m d kept t may)) kept.runs kept.start (End t) (holds_before m d kept t may) (may_end m d kept t may);
+    is = next kept.epoch (Busy m (before_end m d kept t may)) kept.runs kept.start (End t) (holds_before m d kept t may) (may_end m d kept t may);
     are = known_then m d kept t may still;
   }
   keep (Busy m d) (Break t removed) kept may still = record {
+    epoch = kept.epoch;
     runs = runs_after (Busy m (record d { known = kept.known })) (Break t removed) kept.runs;
     start = kept.start;
     known = kept.known;
     is = broken removed may;
     are = are_later kept.runs (runs_after (Busy m (record d { known = kept.known })) (Break t removed) kept.runs) kept.known (if removed then without d (name g t) else d) (λ t. refl) (are_removed kept.runs kept.known d t removed may.1 kept.are);
   } where
-    broken : (removed : Bool) → Has m.running t × IsLeftToRun g s d t removed → IsInvariant g (without_reads s) (runs_after (Busy m (record d { known = kept.known })) (Break t removed) kept.runs) kept.start (with_outcomes (after_by g s (Busy m d) (Break t removed)) kept.known)
-    broken true may = next (Busy m (record d { known = kept.known })) kept.runs kept.start (Break t true) kept.is may
-    broken false may = next (Busy m (record d { known = kept.known })) kept.runs kept.start (Break t false) kept.is may
+    broken : (removed : Bool) → Has m.running t × IsLeftToRun g s d t removed → IsInvariant g (without_reads s) kept.epoch (runs_after (Busy m (record d { known = kept.known })) (Break t removed) kept.runs) kept.start (with_outcomes (after_by g s (Busy m d) (Break t removed)) kept.known)
+    broken true may = next kept.epoch (Busy m (record d { known = kept.known })) kept.runs kept.start (Break t true) kept.is may
+    broken false may = next kept.epoch (Busy m (record d { known = kept.known })) kept.runs kept.start (Break t false) kept.is may
   keep (Busy m d) (Pass n) kept may still = record {
+    epoch = kept.epoch;
     runs = runs_after (Busy m (record d { known = kept.known })) (Pass n) kept.runs;
     start = kept.start;
     known = kept.known;
-    is = next (Busy m (record d { known = kept.known })) kept.runs kept.start (Pass n) kept.is may;
+    is = next kept.epoch (Busy m (record d { known = kept.known })) kept.runs kept.start (Pass n) kept.is may;
     are = are_later kept.runs (runs_after (Busy m (record d { known = kept.known })) (Pass n) kept.runs) kept.known d (λ t. refl) kept.are;
   }
   keep (Busy m d) Stop kept may still = record {
+    epoch = kept.epoch;
     runs = runs_after (Busy m (record d { known = kept.known })) Stop kept.runs;
     start = kept.start;
     known = kept.known;
-    is = next (Busy m (record d { known = kept.known })) kept.runs kept.start Stop kept.is may;
+    is = next kept.epoch (Busy m (record d { known = kept.known })) kept.runs kept.start Stop kept.is may;
     are = are_later kept.runs (runs_after (Busy m (record d { known = kept.known })) Stop kept.runs) kept.known d (λ t. refl) kept.are;
   }
   keep (Busy m d) EndMake kept may still = record {
+    epoch = kept.epoch;
     runs = runs_after (Busy m (record d { known = kept.known })) EndMake kept.runs;
     start = kept.start;
     known = kept.known;
-    is = next (Busy m (record d { known = kept.known })) kept.runs kept.start EndMake kept.is may;
+    is = next kept.epoch (Busy m (record d { known = kept.known })) kept.runs kept.start EndMake kept.is may;
     are = are_later kept.runs (runs_after (Busy m (record d { known = kept.known })) EndMake kept.runs) kept.known d (λ t. refl) kept.are;
   }
 

@@ -1,8 +1,10 @@
 -- Today's coherence of a disk that is coherent by behaviours: with an outcome for each recipe that is as its last run left it.
 use Rattle.std.proofs.Common.{◌≡◌, ℕ, zero, suc, ◌<◌, List, [], ◌∷◌, true, Option, Some, map, length, ◌⊎◌, inl, inr, ⊎_elim, refl, sym, ◌∙◌, subst, arith}
 use Rattle.std.specs.Prelude.{nat_eq, ◌&&◌}
-use Rattle.std.proofs.lemmas.Bool.{cases_Bool, cases_eq, cond-true, cond-false, and_parts, and_from, true≢false}
+use Rattle.std.proofs.lemmas.Bool.{cases_Bool, cases_eq, cond-true, cond-false, and_parts, true≢false}
 use Rattle.std.proofs.lemmas.Bool.Decides.{Decides-eqb}
+use Rattle.mk_build.proofs.CoherentHistories.{same_at}
+use Rattle.mk_graph.proofs.Nodes.{recipe_is_node}
 use Rattle.mk_graph.specs.Membership.{Has, IsWithin}
 use Rattle.mk_graph.specs.Graph.{Graph, node}
 use Rattle.mk_build.specs.Setting.{FileName, Setting, reads}
@@ -10,15 +12,10 @@ use Rattle.mk_build.specs.World.{Outcome, Disk, content, outcome, same_seen}
 use Rattle.mk_build.specs.Clean.{Contents}
 use Rattle.mk_build.specs.Coherent.{IsBoundToRun, ContainsOrChanged, IsAsLeft, IsCoherent}
 use Rattle.mk_build.proofs.CleanEnd.{cases_among}
-use Rattle.mk_build.proofs.Outcomes.{same_seen-Decides}
-use Rattle.mk_build.proofs.StaleHistory.{recipe_is_node}
+use Rattle.mk_build.proofs.Outcomes.{same_seen-Decides, outcome_here}
 use Rattle.mk_build_behaviours.specs.Behaviours.{Behaviours, behaviour, path, result}
 use Rattle.mk_build_behaviours.specs.CoherentBy.{IsAsLeftBy, IsCoherentBy}
 use Rattle.mk_build_behaviours.proofs.Paths.{same_walk}
-
--- the first outcome is found where its recipe saw this
-pub outcome_here : (o : Outcome) (known : List Outcome) → outcome (o ∷ known) o.recipe o.seen ≡ Some o.written
-outcome_here o known = cond-true (nat_eq o.recipe o.recipe && same_seen o.seen o.seen) (Some o.written) (outcome known o.recipe o.seen) (and_from (nat_eq o.recipe o.recipe) (same_seen o.seen o.seen) ((Decides-eqb o.recipe o.recipe).1 refl) ((same_seen-Decides o.seen o.seen).1 refl))
 
 -- what is found is it, or was found behind it
 pub outcome_cases : (o : Outcome) (known : List Outcome) (t : ℕ) (seen : List (Option ℕ)) (w : List ℕ) → outcome (o ∷ known) t seen ≡ Some w → ((o.recipe ≡ t) × (o.seen ≡ seen) × (o.written ≡ w)) ⊎ (outcome known t seen ≡ Some w)
@@ -35,12 +32,6 @@ outcome_other o known t seen differ =
     ⊎_elim (λ yes. absurd (differ ((Decides-eqb o.recipe t).0 (and_parts (nat_eq o.recipe t) (same_seen o.seen seen) yes).0)))
     (λ no. cond-false (nat_eq o.recipe t && same_seen o.seen seen) (Some o.written) (outcome known t seen) no)
     (cases_Bool (nat_eq o.recipe t && same_seen o.seen seen))
-
--- what lists of files have in common, each of the files has
-pub same_at : {A : Type 0} (one other : FileName → A) (files : List FileName) → map one files ≡ map other files → (f : FileName) → Has files f → one f ≡ other f
-same_at one other [] e f h = absurd h
-same_at one other (k ∷ files) e f (inl here) = let at_k : one k ≡ other k = cc in subst (λ (x : FileName). one x ≡ other x) here at_k
-same_at one other (k ∷ files) e f (inr there) = let rest : map one files ≡ map other files = cc in same_at one other files rest f there
 
 -- what is taken in either case
 abbrev pub either : {A : Type 0} → A ⊎ (¬ A) → (Option ℕ) → (Option ℕ) → Option ℕ

@@ -116,11 +116,12 @@ module _ (g : Graph) (s : Setting) (b : Behaviours) (graph : IsGraph g) (sound :
     begins =
         let today = coherent_with_known g s b d coherent in
         record {
+          epoch = (with_known g s b d coherent).clock;
           runs = runs_before g s (with_known g s b d coherent) today;
           start = d.clock;
           seen = (make_of jobs goals).seen;
           known = known g s b d coherent;
-          whole = (make_holds g s graph sound (runs_before g s (with_known g s b d coherent) today) (with_known g s b d coherent) jobs goals (coherent_fits g s (with_known g s b d coherent) today) part, λ t done. absurd done);
+          whole = (make_holds g s graph sound (with_known g s b d coherent).clock (runs_before g s (with_known g s b d coherent) today) (with_known g s b d coherent) jobs goals (coherent_fits g s (with_known g s b d coherent) today) part, λ t done. absurd done);
           true_of = known_is_true g s b d coherent build.0 (λ t recipe. is_clean.within t (all_recipes g graph s sound t recipe) recipe);
           given_clean = λ f e. sym (is_clean.as_given f e ∙ cond-true (is_given s f) (content d f) None e);
           saw = λ t f c runs. absurd runs;

@@ -2,6 +2,7 @@
 use Rattle.std.proofs.Common.{◌≡◌, ℕ, List, [], ◌∷◌, Bool, true, false, Option, Some, map, length, ⊎_elim, refl, sym, ◌∙◌, ap, subst}
 use Rattle.std.specs.Prelude.{is_some}
 use Rattle.std.proofs.lemmas.Bool.{cases_Bool, cond-true, cond-false}
+use Rattle.mk_lemmas.proofs.Results.{IfSome-from}
 use Rattle.mk_graph.specs.Membership.{Has}
 use Rattle.mk_graph.specs.Graph.{Graph, node}
 use Rattle.mk_graph.specs.Serial.{order_from}
@@ -163,7 +164,7 @@ module _ (g : Graph) (s : Setting) (b : Behaviours) (write : ℕ → List (Optio
           runs = may.runs;
           seen = λ f read. may.seen f (subst (λ (l : List FileName). Has l f) (sym (path_is t recipe (saw_in m t))) read);
           put = may.put;
-          agrees = if_some_from (outcome known t (seen_by g s m t)) (λ w. w ≡ put_by g s m t) (λ w e. agree t (seen_by g s m t) w e ∙ sym wrote);
+          agrees = IfSome-from (outcome known t (seen_by g s m t)) (λ w. w ≡ put_by g s m t) (λ w e. agree t (seen_by g s m t) w e ∙ sym wrote);
         },
         (
           (noted (record d { known = known }) (record { recipe = t; seen = seen_by g s m t; written = put_by g s m t })).known,

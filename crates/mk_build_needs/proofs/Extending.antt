@@ -4,25 +4,25 @@ use Rattle.std.specs.List.{flat_map, range_with_len}
 use Rattle.std.proofs.Math.ListN.{get_or-append}
 use Rattle.std.proofs.lemmas.Grind.{flat_map-append}
 use Rattle.std.proofs.lemmas.List.FromFn.{length-map-range_with_len, get_or-map-range_with_len}
+use Rattle.mk_lemmas.proofs.Members.{Has-from_then, Has-left, Has-reverse, Has-then}
+use Rattle.mk_graph.proofs.Parts.{HasAll-from_Has}
+use Rattle.mk_graph.proofs.Nodes.{recipe_is_node}
 use Rattle.mk_graph.specs.declared.node.Node.{Node}
 use Rattle.mk_graph.specs.ScheduleLaws.{SerialOrderIsASchedule}
 use Rattle.mk_graph.specs.Serial.{order_from}
 use Rattle.mk_graph.specs.Graph.{Graph, node, no_node, prerequisites, Reached, goal, onward, HasPath, one, then, IsGraph}
 use Rattle.mk_graph.specs.Laws.{SerialReachesEachOnce, OrderOfAllGoals, ClosesOnlyCycles}
-use Rattle.mk_graph.specs.Lists.{has_left}
 use Rattle.mk_graph.specs.Membership.{Has}
 use Rattle.mk_build.specs.Right.{AreSound, HaveNoRace}
 use Rattle.mk_graph.specs.Schedules.{CanStart, IsSchedule, IsPart}
 use Rattle.mk_build.specs.Setting.{FileName, Setting, name, reads, writes}
 use Rattle.mk_graph.proofs.Acyclic.{is_node}
-use Rattle.mk_graph.proofs.Members.{Has-reverse}
-use Rattle.mk_graph.proofs.Turning.{HasAll-has, HasAll-from}
+use Rattle.mk_graph.proofs.Turning.{HasAll-has}
 use Rattle.mk_build_needs.specs.Extending.{Extends, amended}
 use Rattle.mk_build_needs.specs.Laws.{NeedsAreThese, AmendedExtends, CycleCannotBeMended, FirstCycleCannotBeMended}
 use Rattle.mk_build_needs.specs.Needs.{needs, IsNeeded}
 use Rattle.mk_build_needs.specs.NeedsGraph.{needs_graph}
-use Rattle.mk_build_needs.proofs.Graphs.{recipe_is_node, prerequisites_within, path_begins}
-use Rattle.mk_build_needs.proofs.Members.{with_recipe, for_recipe}
+use Rattle.mk_build_needs.proofs.Graphs.{prerequisites_within, path_begins}
 
 -- what is reached is reached from a goal
 some_goal : (g : Graph) (n : ℕ) → Reached g n → ¬ (g.goals ≡ [])
@@ -33,16 +33,16 @@ module _ (g h : Graph) (s : Setting) (ext : Extends g h) where
   -- what a recipe reads, it reads in the other graph too
   reads_there : (n : ℕ) (f : FileName) → Has (reads g s n) f → ((node g n).recipe ≡ true) × Has (reads h s (ext.place n)) f
   reads_there n f read =
-      let own = with_recipe (node g n).recipe (s.reads (name g n)) f read in
+      let own = Has-from_then (node g n).recipe (s.reads (name g n)) f read in
       let low = recipe_is_node g n own.0 in
-      (own.0, for_recipe (node h (ext.place n)).recipe (s.reads (name h (ext.place n))) f (ext.recipe n low ∙ own.0) (subst (λ (file : FileName). Has (s.reads file) f) (sym (ext.named n low).1) own.1))
+      (own.0, Has-then (node h (ext.place n)).recipe (s.reads (name h (ext.place n))) f (ext.recipe n low ∙ own.0) (subst (λ (file : FileName). Has (s.reads file) f) (sym (ext.named n low).1) own.1))
 
   -- and so for what it writes
   writes_there : (n : ℕ) (f : FileName) → Has (writes g s n) f → Has (writes h s (ext.place n)) f
   writes_there n f write =
-      let own = with_recipe (node g n).recipe (s.writes (name g n)) f write in
+      let own = Has-from_then (node g n).recipe (s.writes (name g n)) f write in
       let low = recipe_is_node g n own.0 in
-      for_recipe (node h (ext.place n)).recipe (s.writes (name h (ext.place n))) f (ext.recipe n low ∙ own.0) (subst (λ (file : FileName). Has (s.writes file) f) (sym (ext.named n low).1) own.1)
+      Has-then (node h (ext.place n)).recipe (s.writes (name h (ext.place n))) f (ext.recipe n low ∙ own.0) (subst (λ (file : FileName). Has (s.writes file) f) (sym (ext.named n low).1) own.1)
 
   module _ (graph : IsGraph g) (these : NeedsAreThese) (sound : AreSound h s) (no_race : HaveNoRace h s) (part : IsPart h.goals h.goals) where
     -- once a node can start, what it needs is done
@@ -86,7 +86,7 @@ pub cycle_cannot_be_mended : NeedsAreThese → SerialReachesEachOnce → OrderOf
 cycle_cannot_be_mended these once all schedule g h s graph after ext sound no_race n path =
     let low = path_begins g (needs g s) n n path in
     let reached : Reached h (ext.place n) = after.sound.reached (ext.place n) (ext.named n low).0 in
-    let part : IsPart h.goals h.goals = record { not_empty = some_goal h (ext.place n) reached; within = HasAll-from h.goals h.goals (λ k there. there) } in
+    let part : IsPart h.goals h.goals = record { not_empty = some_goal h (ext.place n) reached; within = HasAll-from_Has h.goals h.goals (λ k there. there) } in
     let there : Has (reverse (order_from h h.goals)) (ext.place n) =
     Has-reverse (order_from h h.goals) (ext.place n) (subst (λ (l : List ℕ). Has l (ext.place n)) (sym (all h)) (((once h after.no_cycle).1 (ext.place n)).1 reached)) in
     no_cycle g h s ext graph these sound no_race part (reverse (order_from h h.goals)) (schedule h after.no_cycle h.goals part) n there path
@@ -115,7 +115,7 @@ module _ (g : Graph) (more : ℕ → List ℕ) (phony : ℕ → Bool) (others : 
   keeps_edges n p h =
       let is : prerequisites (amended g more phony others goals) n ≡ prerequisites g n ++ flat_map (λ (l : List ℕ). l) (more n ∷ []) =
       ap (λ (v : Node). flat_map (λ (l : List ℕ). l) v.groups) (stays_at n (is_node g n p h)) ∙ flat_map-append (λ (l : List ℕ). l) (node g n).groups (more n ∷ []) in
-      subst (λ (l : List ℕ). Has l p) (sym is) (has_left (prerequisites g n) (flat_map (λ (l : List ℕ). l) (more n ∷ [])) p h)
+      subst (λ (l : List ℕ). Has l p) (sym is) (Has-left (prerequisites g n) (flat_map (λ (l : List ℕ). l) (more n ∷ [])) p h)
 
 pub amended_extends : AmendedExtends
 amended_extends g more phony others goals =

@@ -1,7 +1,7 @@
 -- Graphs with other prerequisites, and which numbers are those of nodes.
-use Rattle.std.proofs.Common.{◌≡◌, ℕ, zero, suc, ◌+◌, ◌<◌, ◌≤◌, true, List, [], ◌∷◌, ◌++◌, length, map, ⊎_elim, refl, sym, ap, subst, ◌∙◌, append-nil, arith}
+use Rattle.std.proofs.Common.{◌≡◌, ℕ, zero, suc, ◌+◌, ◌<◌, ◌≤◌, List, [], ◌∷◌, ◌++◌, length, map, ⊎_elim, refl, sym, ap, subst, ◌∙◌, append-nil, arith}
 use Rattle.std.specs.List.{flat_map, range_with_len}
-use Rattle.std.proofs.lemmas.Bool.{false≢true, cases_lt}
+use Rattle.std.proofs.lemmas.Bool.{cases_lt}
 use Rattle.std.proofs.lemmas.List.{get_or_past}
 use Rattle.std.proofs.lemmas.List.FromFn.{length-map-range_with_len, get_or-map-range_with_len, map-range_with_len_more}
 use Rattle.mk_graph.specs.declared.node.Node.{Node}
@@ -10,11 +10,6 @@ use Rattle.mk_graph.specs.Graph.{Graph, node, no_node, prerequisites, HasPath, o
 use Rattle.mk_graph.specs.Progress.{row}
 use Rattle.mk_build_needs.specs.NeedsGraph.{with_prerequisites}
 use Rattle.mk_build_needs.specs.Laws.{RowsGiveNeeds}
-
--- what has a recipe is a node
-pub recipe_is_node : (g : Graph) (n : ℕ) → (node g n).recipe ≡ true → n < length g.nodes
-recipe_is_node g n recipe =
-    ⊎_elim (λ low. low) (λ past. let none : node g n ≡ no_node = get_or_past g.nodes n no_node past in absurd (false≢true (ap (λ (v : Node). v.recipe) (sym none) ∙ recipe))) (cases_lt n (length g.nodes))
 
 module _ (g : Graph) (given : ℕ → List ℕ) where
   -- the node with these prerequisites

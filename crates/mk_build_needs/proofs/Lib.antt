@@ -1,5 +1,4 @@
-mod Members
 mod Graphs
-mod Sound
+pub mod Sound
 mod Needs
 mod Extending

@@ -2,17 +2,17 @@
 use Rattle.std.proofs.Common.{ℕ, not, eqb, inl, inr}
 use Rattle.std.specs.Prelude.{◌==◌}
 use Rattle.std.proofs.lemmas.Bool.{not-true, not_from_false, eqb-false, ne_eqb}
+use Rattle.mk_lemmas.proofs.Members.{Has-cases, Has-else, Has-filter, Has-flat_map, Has-from_else, Has-from_filter, Has-from_flat_map, Has-from_then, Has-left, Has-right}
+use Rattle.mk_graph.proofs.Nodes.{recipe_is_node}
+use Rattle.mk_lines.proofs.NameTests.{Has-from_has_name, has_name-from_Has}
 use Rattle.mk_lines.specs.Names.{has_name}
 use Rattle.mk_graph.specs.Membership.{Has}
 use Rattle.mk_graph.specs.Graph.{Graph, node, prerequisites, IsGraph}
 use Rattle.mk_graph.specs.Laws.{SerialReachesEachOnce}
-use Rattle.mk_graph.specs.Lists.{has_left, has_right, has_cases, joined_to, joined_from}
 use Rattle.mk_graph.specs.Serial.{serial_order}
 use Rattle.mk_build.specs.Setting.{FileName, Setting, name, reads, writes}
 use Rattle.mk_build_needs.specs.Laws.{NeedsAreThese}
 use Rattle.mk_build_needs.specs.Needs.{writers, writers_of_reads, writers_of_file, more_needs, needs, IsNeeded}
-use Rattle.mk_build_needs.proofs.Graphs.{recipe_is_node}
-use Rattle.mk_build_needs.proofs.Members.{Has-from_filter, Has-filter, Has-from_has_name, has_name-from_Has, with_recipe, without_recipe, for_none}
 
 module _ (g : Graph) (s : Setting) where
   -- a writer of a file writes it
@@ -22,16 +22,16 @@ module _ (g : Graph) (s : Setting) where
   -- each needed node is one of the three kinds
   is_needed : (n o : ℕ) → Has (needs g s n) o → IsNeeded g s n o
   is_needed n o h =
-      elim (has_cases (prerequisites g n) (more_needs g s n) o h) [
+      elim (Has-cases (prerequisites g n) (more_needs g s n) o h) [
         | inl given ↦ inl given
-        | inr more ↦ elim (has_cases (writers_of_reads g s n) (writers_of_file g s n) o more) [
+        | inr more ↦ elim (Has-cases (writers_of_reads g s n) (writers_of_file g s n) o more) [
           | inl read ↦ (
               let other = Has-from_filter (λ o. not (o == n)) _ o read in
-              let found = joined_from (writers g s) (reads g s n) o other.0 in
+              let found = Has-from_flat_map (writers g s) (reads g s n) o other.0 in
               inr (inl (found.0, found.1, writes_it found.0 o found.2, eqb-false o n (not-true (eqb o n) other.1)))
               )
           | inr own ↦ (
-              let found = without_recipe (node g n).recipe (writers g s (name g n)) o own in
+              let found = Has-from_else (node g n).recipe (writers g s (name g n)) o own in
               inr (inr (found.0, writes_it (name g n) o found.1))
               )
         ]
@@ -41,21 +41,21 @@ module _ (g : Graph) (s : Setting) where
     -- what writes a file is a writer of it
     is_writer : (f : FileName) (o : ℕ) → Has (writes g s o) f → Has (writers g s f) o
     is_writer f o h =
-        let recipe = (with_recipe (node g o).recipe (s.writes (name g o)) f h).0 in
+        let recipe = (Has-from_then (node g o).recipe (s.writes (name g o)) f h).0 in
         let there : Has (serial_order g) o = ((once g graph.no_cycle).1 o).1 (graph.sound.reached o (recipe_is_node g o recipe)) in
         Has-filter (λ o. has_name (writes g s o) f) (serial_order g) o there (has_name-from_Has (writes g s o) f h)
 
     -- and each such node is in the list
     has_needed : (n o : ℕ) → IsNeeded g s n o → Has (needs g s n) o
-    has_needed n o (inl given) = has_left (prerequisites g n) (more_needs g s n) o given
+    has_needed n o (inl given) = Has-left (prerequisites g n) (more_needs g s n) o given
     has_needed n o (inr (inl (f, read, write, differ))) =
-        has_right (prerequisites g n) (more_needs g s n) o
-        (has_left (writers_of_reads g s n) (writers_of_file g s n) o
-        (Has-filter (λ o. not (o == n)) _ o (joined_to (writers g s) (reads g s n) f o read (is_writer f o write)) (not_from_false (eqb o n) (ne_eqb o n differ))))
+        Has-right (prerequisites g n) (more_needs g s n) o
+        (Has-left (writers_of_reads g s n) (writers_of_file g s n) o
+        (Has-filter (λ o. not (o == n)) _ o (Has-flat_map (writers g s) (reads g s n) f o read (is_writer f o write)) (not_from_false (eqb o n) (ne_eqb o n differ))))
     has_needed n o (inr (inr (none, write))) =
-        has_right (prerequisites g n) (more_needs g s n) o
-        (has_right (writers_of_reads g s n) (writers_of_file g s n) o
-        (for_none (node g n).recipe (writers g s (name g n)) o none (is_writer (name g n) o write)))
+        Has-right (prerequisites g n) (more_needs g s n) o
+        (Has-right (writers_of_reads g s n) (writers_of_file g s n) o
+        (Has-else (node g n).recipe (writers g s (name g n)) o none (is_writer (name g n) o write)))
 
 pub needs_are_these : SerialReachesEachOnce → NeedsAreThese
 needs_are_these once g s graph n o = (is_needed g s n o, has_needed g s once graph n o)

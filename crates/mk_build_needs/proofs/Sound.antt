@@ -1,19 +1,19 @@
 -- A graph with further prerequisites is sound.
 use Rattle.std.proofs.Common.{◌≡◌, ℕ, ◌<◌, List, ◌++◌, length, map, inl, inr, ⊎_elim, sym, ap, subst, ◌∙◌, arith}
 use Rattle.std.proofs.lemmas.List.{ext_get_or, length-map}
+use Rattle.mk_lemmas.proofs.Members.{Has-cases, Has-from_then, Has-left, Has-right}
+use Rattle.mk_lemmas.proofs.Lists.{get_or-map_default}
+use Rattle.mk_graph.proofs.Nodes.{recipe_is_node}
 use Rattle.mk_graph.specs.declared.node.Node.{Node}
 use Rattle.mk_graph.specs.Membership.{Has, IsDistinct}
 use Rattle.mk_graph.specs.Graph.{Graph, node, no_node, prerequisites, Reached, goal, onward, IsSound, IsGraph}
-use Rattle.mk_graph.specs.Lists.{has_left, has_right, has_cases}
 use Rattle.mk_graph.proofs.Acyclic.{is_node}
-use Rattle.mk_graph.proofs.Building.{get_or-map_default}
 use Rattle.mk_graph.specs.Laws.{ComesThroughWithoutCycles}
 use Rattle.mk_build.specs.Setting.{FileName, Setting, name, writes}
 use Rattle.mk_build_needs.specs.Laws.{NeedsAreThese, NoCycleIsMissed}
 use Rattle.mk_build_needs.specs.Needs.{more_needs}
 use Rattle.mk_build_needs.specs.NeedsGraph.{with_prerequisites, needs_graph}
-use Rattle.mk_build_needs.proofs.Graphs.{node_is, prerequisites_are, count_is, prerequisites_within, recipe_is_node}
-use Rattle.mk_build_needs.proofs.Members.{with_recipe}
+use Rattle.mk_build_needs.proofs.Graphs.{node_is, prerequisites_are, count_is, prerequisites_within}
 
 abbrev name_of : Node → List ℕ
 name_of one = one.name
@@ -45,12 +45,12 @@ module _ (g : Graph) (graph : IsGraph g) (more : ℕ → List ℕ) (within : (n 
   still_reached : (n : ℕ) → Reached g n → Reached other n
   still_reached n (goal h) = goal h
   still_reached n (onward {n = m} reached h) =
-      onward (still_reached m reached) (subst (λ (l : List ℕ). Has l n) (sym (prerequisites_are g given m (is_node g m n h))) (has_left (prerequisites g m) (more m) n h))
+      onward (still_reached m reached) (subst (λ (l : List ℕ). Has l n) (sym (prerequisites_are g given m (is_node g m n h))) (Has-left (prerequisites g m) (more m) n h))
 
   -- a prerequisite is a node
   edges_within : (n p : ℕ) → Has (prerequisites other n) p → p < length other.nodes
   edges_within n p h =
-      let low : p < length g.nodes = ⊎_elim (graph.sound.edges n p) (within n p) (has_cases (prerequisites g n) (more n) p (prerequisites_within g given n p h).1) in
+      let low : p < length g.nodes = ⊎_elim (graph.sound.edges n p) (within n p) (Has-cases (prerequisites g n) (more n) p (prerequisites_within g given n p h).1) in
       subst (λ k. p < k) (sym (count_is g given)) low
 
   pub sound_with : IsSound other
@@ -63,12 +63,12 @@ module _ (g : Graph) (graph : IsGraph g) (more : ℕ → List ℕ) (within : (n 
 
 -- what writes a file is a node
 writer_is_node : (g : Graph) (s : Setting) (o : ℕ) (f : FileName) → Has (writes g s o) f → o < length g.nodes
-writer_is_node g s o f write = recipe_is_node g o (with_recipe (node g o).recipe (s.writes (name g o)) f write).0
+writer_is_node g s o f write = recipe_is_node g o (Has-from_then (node g o).recipe (s.writes (name g o)) f write).0
 
 -- what a node needs is a node
-needed_is_node : NeedsAreThese → (g : Graph) (s : Setting) → IsGraph g → (n o : ℕ) → Has (more_needs g s n) o → o < length g.nodes
+pub needed_is_node : NeedsAreThese → (g : Graph) (s : Setting) → IsGraph g → (n o : ℕ) → Has (more_needs g s n) o → o < length g.nodes
 needed_is_node these g s graph n o h =
-    elim ((these g s graph n o).0 (has_right (prerequisites g n) (more_needs g s n) o h)) [
+    elim ((these g s graph n o).0 (Has-right (prerequisites g n) (more_needs g s n) o h)) [
       | inl given ↦ graph.sound.edges n o given
       | inr (inl (f, read, write, differ)) ↦ writer_is_node g s o f write
       | inr (inr (none, write)) ↦ writer_is_node g s o (name g n) write

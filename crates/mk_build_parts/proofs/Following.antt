@@ -4,11 +4,12 @@ use Rattle.std.specs.Prelude.{if◌then◌else◌, nat_eq, not, is_some, unwrap_
 use Rattle.std.specs.Option.{option_flatten}
 use Rattle.std.proofs.lemmas.Bool.{cases_Bool, cond-true, cond-false}
 use Rattle.std.proofs.lemmas.List.{length-map}
+use Rattle.mk_lemmas.proofs.Members.{Has-from_map, Has-map}
+use Rattle.mk_graph.proofs.Parts.{HasAll-from_Has}
 use Rattle.mk_graph.specs.Membership.{Has}
-use Rattle.mk_graph.specs.Lists.{has_mapped, mapped_from}
 use Rattle.mk_graph.specs.Graph.{Graph, IsGraph}
 use Rattle.mk_graph.specs.Schedules.{IsPart}
-use Rattle.mk_graph.proofs.Turning.{HasAll-has, HasAll-from}
+use Rattle.mk_graph.proofs.Turning.{HasAll-has}
 use Rattle.mk_build.specs.Setting.{FileName, Setting, name, reads, writes}
 use Rattle.mk_build.specs.World.{Outcome, Disk, Making, World, Idle, Busy, IsStartDisk, content, changed, without, outcome, same_seen, disk_of}
 use Rattle.mk_build.specs.Steps.{Step, Edit, Make, Begin, Look, Put, End, Break, Pass, Stop, EndMake, Ready, MayEnd, Allowed, changed_at, seen_by, put_by, noted, after, after_all, IsLegal, disk_after}
@@ -87,7 +88,7 @@ module _ (h g : Graph) (s : Setting) (is_h : IsGraph h) (is_g : IsGraph g) (part
   goals_there : (goals : List ℕ) → IsPart goals h.goals → IsPart (map there goals) g.goals
   goals_there goals is = record {
     not_empty = λ e. is.not_empty (map_empty there goals e);
-    within = HasAll-from g.goals (map there goals) (λ k has. let one = mapped_from there goals k has in let found = goals_in one.0 (HasAll-has h.goals goals one.0 is.within one.1) in subst (λ (x : ℕ). Has g.goals x) (sym (to_named h g is_h is_g part one.0 found.0 (goals_low goals is one.0 one.1) (is_g.sound.goals found.0 found.1) found.2) ∙ one.2) found.1);
+    within = HasAll-from_Has g.goals (map there goals) (λ k has. let one = Has-from_map there goals k has in let found = goals_in one.0 (HasAll-has h.goals goals one.0 is.within one.1) in subst (λ (x : ℕ). Has g.goals x) (sym (to_named h g is_h is_g part one.0 found.0 (goals_low goals is one.0 one.1) (is_g.sound.goals found.0 found.1) found.2) ∙ one.2) found.1);
   }
 
   -- a make
@@ -205,7 +206,7 @@ module _ (h g : Graph) (s : Setting) (is_h : IsGraph h) (is_g : IsGraph g) (part
         let low = tw.running t may.0 in (
           Look (there t) f,
           looks (same h g is_h is_g part t low).name,
-          (has_mapped there m.running t may.0, subst (λ (l : List FileName). Has l f) (sym (reads_are h g is_h is_g part s t low)) may.1),
+          (Has-map there m.running t may.0, subst (λ (l : List FileName). Has l f) (sym (reads_are h g is_h is_g part s t low)) may.1),
           record {
             seen = changed_at tw.seen (there t) (changed (tw.seen (there t)) f (Some (content d f)));
             put = tw.put;
@@ -228,7 +229,7 @@ module _ (h g : Graph) (s : Setting) (is_h : IsGraph h) (is_g : IsGraph g) (part
         let low = tw.running t may.0 in (
           Put (there t) f c,
           puts (same h g is_h is_g part t low).name,
-          (has_mapped there m.running t may.0, subst (λ (l : List FileName). Has l f) (sym (writes_are h g is_h is_g part s t low)) may.1, may.2),
+          (Has-map there m.running t may.0, subst (λ (l : List FileName). Has l f) (sym (writes_are h g is_h is_g part s t low)) may.1, may.2),
           record {
             seen = tw.seen;
             put = changed_at tw.put (there t) (changed (tw.put (there t)) f (Some c));
@@ -248,7 +249,7 @@ module _ (h g : Graph) (s : Setting) (is_h : IsGraph h) (is_g : IsGraph g) (part
     may_end : (t : ℕ) → t < length h.nodes → MayEnd h s m d t → MayEnd g s other_make other_disk (there t)
     unfolding other_make other_disk
     may_end t low may = record {
-      runs = has_mapped there m.running t may.runs;
+      runs = Has-map there m.running t may.runs;
       seen = λ f read e. may.seen f (subst (λ (l : List FileName). Has l f) (reads_are h g is_h is_g part s t low) read) (sym (ap (λ (k : FileName → Option (Option ℕ)). k f) (tw.saw t low)) ∙ e);
       put = λ f wrote e. may.put f (subst (λ (l : List FileName). Has l f) (writes_are h g is_h is_g part s t low) wrote) (sym (ap (λ (k : FileName → Option ℕ). k f) (tw.has_put t low)) ∙ e);
       agrees =
@@ -317,7 +318,7 @@ module _ (h g : Graph) (s : Setting) (is_h : IsGraph h) (is_g : IsGraph g) (part
           Break (there t) true,
           breaks is.name,
           (
-            has_mapped there m.running t may.0,
+            Has-map there m.running t may.0,
             subst (λ (f : FileName). Has (writes g s (there t)) f) is.name (subst (λ (l : List FileName). Has l (name h t)) (sym (writes_are h g is_h is_g part s t low)) may.1),
           ),
           subst (λ (f : FileName). Twin (record m { running = filter (λ n. not (nat_eq t n)) m.running; broken = t ∷ m.broken; seen = changed_at m.seen t (λ f. None); put = changed_at m.put t (λ f. None) }) (without d (name h t)) (Busy (record { jobs = m.jobs; goals = map there m.goals; done = map there m.done; running = filter (λ n. not (nat_eq (there t) n)) (map there m.running); broken = there t ∷ map there m.broken; seen = changed_at tw.seen (there t) (λ f. None); put = changed_at tw.put (there t) (λ f. None) }) (without (with_known d tw.known) f))) is.name (break_twin t low (without d (name h t)) tw.known tw.knows),
@@ -330,7 +331,7 @@ module _ (h g : Graph) (s : Setting) (is_h : IsGraph h) (is_g : IsGraph g) (part
         let low = tw.running t may.0 in (
           Break (there t) false,
           breaks (same h g is_h is_g part t low).name,
-          (has_mapped there m.running t may.0, must_to h g is_h is_g part d t low may.1),
+          (Has-map there m.running t may.0, must_to h g is_h is_g part d t low may.1),
           break_twin t low d tw.known tw.knows,
         )
 

@@ -4,22 +4,18 @@ use Rattle.std.specs.Prelude.{if◌then◌else◌, nat_eq, not}
 use Rattle.std.specs.List.{flat_map}
 use Rattle.std.proofs.lemmas.Bool.{cases_Bool, cases_lt, cond-true, cond-false, eqb-true, ne_eqb}
 use Rattle.std.proofs.lemmas.Bool.Decides.{Decides-eqb}
+use Rattle.mk_lemmas.proofs.Members.{Has-flat_map, Has-from_flat_map, Has-from_map, Has-map}
+use Rattle.mk_graph.proofs.OpenGroups.{InOpenGroup-Has}
+use Rattle.mk_graph.proofs.Parts.{HasAll-from_Has}
 use Rattle.mk_graph.specs.Membership.{Has}
-use Rattle.mk_graph.specs.Lists.{has_left, has_right, has_mapped, mapped_from, joined_to, joined_from}
 use Rattle.mk_graph.specs.Graph.{Graph, node, prerequisites, IsGraph}
 use Rattle.mk_graph.specs.Schedules.{HasAll, InOpenGroup, Wanted, goal, onward, CanStart}
-use Rattle.mk_graph.proofs.Turning.{HasAll-has, HasAll-from}
+use Rattle.mk_graph.proofs.Turning.{HasAll-has}
 use Rattle.mk_build.specs.Setting.{FileName, Setting, name, reads, writes, IsAlwaysMade}
 use Rattle.mk_build.specs.World.{Disk, HasStamp}
 use Rattle.mk_build.specs.Steps.{MustRun, changed_at}
 use Rattle.mk_build.proofs.ChainWays.{one_number}
 use Rattle.mk_infer.specs.Laws.{IsPartOf, IsSameNode}
-
--- a node that a make wants and that isn't a goal is a prerequisite
-open_has : (done : List ℕ) (groups : List (List ℕ)) (n : ℕ) → InOpenGroup done groups n → Has (flat_map (λ group. group) groups) n
-open_has done [] n h = absurd h
-open_has done (group ∷ groups) n (inl here) = has_left group (flat_map (λ group. group) groups) n here
-open_has done (group ∷ groups) n (inr there) = has_right group (flat_map (λ group. group) groups) n (open_has done groups n there.1)
 
 module _ (h g : Graph) (is_h : IsGraph h) (is_g : IsGraph g) (part : IsPartOf h g) where
   -- each of these is a node of the part
@@ -103,45 +99,45 @@ module _ (h g : Graph) (is_h : IsGraph h) (is_g : IsGraph g) (part : IsPartOf h 
 
   -- the groups of a node
   groups_are : (n : ℕ) → n < length h.nodes → map (map to) (node h n).groups ≡ (node g (to n)).groups
-  groups_are n low = groups_is (node h n).groups (node g (to n)).groups (λ l x has_l has_x. is_h.sound.edges n x (joined_to (λ group. group) (node h n).groups l x has_l has_x)) (λ l k has_l has_k. is_g.sound.edges (to n) k (joined_to (λ group. group) (node g (to n)).groups l k has_l has_k)) (same n low).groups
+  groups_are n low = groups_is (node h n).groups (node g (to n)).groups (λ l x has_l has_x. is_h.sound.edges n x (Has-flat_map (λ group. group) (node h n).groups l x has_l has_x)) (λ l k has_l has_k. is_g.sound.edges (to n) k (Has-flat_map (λ group. group) (node g (to n)).groups l k has_l has_k)) (same n low).groups
 
   -- a prerequisite is one there
   pub pre_to : (n p : ℕ) → n < length h.nodes → Has (prerequisites h n) p → Has (prerequisites g (to n)) (to p)
   pre_to n p low has =
-      let found = joined_from (λ group. group) (node h n).groups p has in
-      subst (λ (gs : List (List ℕ)). Has (flat_map (λ group. group) gs) (to p)) (groups_are n low) (joined_to (λ group. group) (map (map to) (node h n).groups) (map to found.0) (to p) (has_mapped (map to) (node h n).groups found.0 found.1) (has_mapped to found.0 p found.2))
+      let found = Has-from_flat_map (λ group. group) (node h n).groups p has in
+      subst (λ (gs : List (List ℕ)). Has (flat_map (λ group. group) gs) (to p)) (groups_are n low) (Has-flat_map (λ group. group) (map (map to) (node h n).groups) (map to found.0) (to p) (Has-map (map to) (node h n).groups found.0 found.1) (Has-map to found.0 p found.2))
 
   -- and each one there is one here
   pub pre_from : (n k : ℕ) → n < length h.nodes → Has (prerequisites g (to n)) k → (p : ℕ) × Has (prerequisites h n) p × (to p ≡ k)
   pre_from n k low has =
       let groups = (node h n).groups in
-      let found = joined_from (λ group. group) (map (map to) groups) k (subst (λ (gs : List (List ℕ)). Has (flat_map (λ group. group) gs) k) (sym (groups_are n low)) has) in
-      let group = mapped_from (map to) groups found.0 found.1 in
-      let one = mapped_from to group.0 k (subst (λ (l : List ℕ). Has l k) (sym group.2) found.2) in
-      (one.0, joined_to (λ group. group) groups group.0 one.0 group.1 one.1, one.2)
+      let found = Has-from_flat_map (λ group. group) (map (map to) groups) k (subst (λ (gs : List (List ℕ)). Has (flat_map (λ group. group) gs) k) (sym (groups_are n low)) has) in
+      let group = Has-from_map (map to) groups found.0 found.1 in
+      let one = Has-from_map to group.0 k (subst (λ (l : List ℕ). Has l k) (sym group.2) found.2) in
+      (one.0, Has-flat_map (λ group. group) groups group.0 one.0 group.1 one.1, one.2)
 
   -- one of a list there is one of the list here
   pub unmapped : (ns : List ℕ) (n : ℕ) → AreLow ns → n < length h.nodes → Has (map to ns) (to n) → Has ns n
-  unmapped ns n all low has = let one = mapped_from to ns (to n) has in subst (λ (k : ℕ). Has ns k) (to_one one.0 n (all one.0 one.1) low one.2) one.1
+  unmapped ns n all low has = let one = Has-from_map to ns (to n) has in subst (λ (k : ℕ). Has ns k) (to_one one.0 n (all one.0 one.1) low one.2) one.1
 
   -- what stands wholly in a list does so there
   pub all_to : (ns ms : List ℕ) → HasAll ns ms → HasAll (map to ns) (map to ms)
   all_to ns [] all = tt
-  all_to ns (m ∷ ms) all = (has_mapped to ns m all.0, all_to ns ms all.1)
+  all_to ns (m ∷ ms) all = (Has-map to ns m all.0, all_to ns ms all.1)
 
   -- open groups
   open_to : (done : List ℕ) (groups : List (List ℕ)) (n : ℕ) → InOpenGroup done groups n → InOpenGroup (map to done) (map (map to) groups) (to n)
   open_to done [] n h = absurd h
-  open_to done (group ∷ groups) n (inl here) = inl (has_mapped to group n here)
+  open_to done (group ∷ groups) n (inl here) = inl (Has-map to group n here)
   open_to done (group ∷ groups) n (inr there) = inr (all_to done group there.0, open_to done groups n there.1)
 
   module _ (goals done : List ℕ) (goals_low : AreLow goals) where
     -- what is wanted
     wanted_to : {n : ℕ} → Wanted h goals done n → (n < length h.nodes) × Wanted g (map to goals) (map to done) (to n)
-    wanted_to (goal {n = n} is) = (goals_low n is, goal (has_mapped to goals n is))
+    wanted_to (goal {n = n} is) = (goals_low n is, goal (Has-map to goals n is))
     wanted_to (onward {p = p} {n = n} wanted in_open) =
         let before = wanted_to wanted in (
-          is_h.sound.edges p n (open_has done (node h p).groups n in_open),
+          is_h.sound.edges p n (InOpenGroup-Has done (node h p).groups n in_open),
           onward before.1
               (subst (λ (gs : List (List ℕ)). InOpenGroup (map to done) gs (to n)) (groups_are p before.0) (open_to done (node h p).groups n in_open)),
         )
@@ -154,7 +150,7 @@ module _ (h g : Graph) (is_h : IsGraph h) (is_g : IsGraph g) (part : IsPartOf h 
           record {
             wanted = wanted.1;
             not_done = λ is_done. can.not_done (unmapped done n done_low wanted.0 is_done);
-            prerequisites = HasAll-from (map to done) (prerequisites g (to n)) (λ k has. let one = pre_from n k wanted.0 has in subst (λ (x : ℕ). Has (map to done) x) one.2 (has_mapped to done one.0 (HasAll-has done (prerequisites h n) one.0 can.prerequisites one.1)));
+            prerequisites = HasAll-from_Has (map to done) (prerequisites g (to n)) (λ k has. let one = pre_from n k wanted.0 has in subst (λ (x : ℕ). Has (map to done) x) one.2 (Has-map to done one.0 (HasAll-has done (prerequisites h n) one.0 can.prerequisites one.1)));
           },
         )
 

@@ -3,11 +3,12 @@ use Rattle.std.proofs.Common.{append-nil, ◌≡◌, ℕ, ◌+◌, ◌≤◌, Li
 use Rattle.std.specs.Prelude.{unwrap_or}
 use Rattle.std.proofs.lemmas.Bool.{cases_Bool}
 use Rattle.std.proofs.lemmas.List.{length-map}
+use Rattle.mk_graph.proofs.Parts.{HasAll-from_Has}
 use Rattle.mk_graph.specs.Membership.{has}
 use Rattle.mk_graph.specs.Graph.{Graph, node, HasNoCycle}
 use Rattle.mk_graph.specs.Serial.{visits, order_from}
 use Rattle.mk_graph.specs.Schedules.{HasAll, CanStart, IsSchedule, IsPart}
-use Rattle.mk_graph.proofs.Turning.{HasAll-has, HasAll-from}
+use Rattle.mk_graph.proofs.Turning.{HasAll-has}
 use Rattle.mk_graph.proofs.SerialTurns.{serial_turns, order_is, goal_is_chosen}
 use Rattle.mk_build.specs.Setting.{FileName, Setting, is_editable, reads, writes, writings}
 use Rattle.mk_build.specs.World.{Outcome, Disk, World, Idle, Busy, IsStartDisk, HasStampsFor, content, written, last_stamp, outcome, disk_of}
@@ -194,7 +195,7 @@ module _ (g : Graph) (s : Setting) where
     goals_are_done is part =
         let serial = serial_turns g is goals in
         subst (λ (l : List ℕ). HasAll l goals) (sym (append-nil (reverse (order_from g goals))
-        ∙ order_is g is goals)) (HasAll-from (visits g [] (filter (has goals) g.goals)) goals
+        ∙ order_is g is goals)) (HasAll-from_Has (visits g [] (filter (has goals) g.goals)) goals
         (λ n h. HasAll-has (visits g [] (filter (has goals) g.goals)) (filter (has goals) g.goals) n
         serial.1 (goal_is_chosen g is goals g.goals n (HasAll-has g.goals goals n part.within h) h)))
 

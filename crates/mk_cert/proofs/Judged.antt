@@ -2,9 +2,10 @@
 use Rattle.std.proofs.Common.{◌≡◌, ℕ, ◌<◌, Bool, true, false, ◌||◌, cond, List, [], ◌∷◌, ◌++◌, length, get_or, inl, inr, ◌⊎◌, ⊎_elim, refl, sym, ap, subst, ◌∙◌, arith}
 use Rattle.std.specs.Prelude.{◌↔◌, not, slice_set, bytes_eq, Result, Ok, Err, IfOk, OnOk}
 use Rattle.std.specs.declared.alloc.AllocError.{AllocError}
-use Rattle.std.proofs.lemmas.Bool.{true≢false, cases_eq, not-false, not-true}
+use Rattle.std.proofs.lemmas.Bool.{true≢false, cases_eq, not-false, not-true, or_cases, or_left, or_right}
 use Rattle.std.proofs.lemmas.List.{get_or-set_same, get_or-set_other}
 use Rattle.std.proofs.lemmas.Slice.Eq.{bytes_eq-Decides}
+use Rattle.mk_lines.proofs.NameTests.{has_name-push}
 use Rattle.mk_lines.specs.Names.{has_name, with_name}
 use Rattle.mk_graph.specs.Graph.{IsGraph}
 use Rattle.mk_build.specs.BuildLaws.{NamesHaveOneNumber}
@@ -15,19 +16,6 @@ use Rattle.mk_cert.specs.WalkTables.{AreSeen}
 use Rattle.mk_cert.specs.Verdict.{IsGood, HasEntry, MayStand, NoneBad, IsFirstBad}
 use Rattle.mk_cert.specs.Checks.{Judges, HasSets}
 use Rattle.mk_cert.proofs.Walks.{recipe_is_node}
-use Rattle.mk_subject.proofs.Writing.{has_name_push}
-
-either : (a b : Bool) → (a || b) ≡ true → (a ≡ true) ⊎ (b ≡ true)
-either true b t = inl refl
-either false b t = inr t
-
-or_first : (a b : Bool) → a ≡ true → (a || b) ≡ true
-or_first true b t = refl
-or_first false b t = absurd (let e : false ≡ true = t in cc)
-
-or_second : (a b : Bool) → b ≡ true → (a || b) ≡ true
-or_second true b t = refl
-or_second false b t = t
 
 -- an entry for these is one among the others or the first
 entry_more : (w : Way) (before : List Way) (recipe file : List ℕ) → HasEntry (w ∷ before) recipe file → ((w.recipe ≡ recipe) × (w.file ≡ file)) ⊎ HasEntry before recipe file
@@ -47,9 +35,9 @@ module _ (x : Subject) (is : IsGraph x.graph) (one : NamesHaveOneNumber) (w : Wa
   here_seen before new seen f =
       let row = get_or old start [] in
       let low = recipe_is_node x start recipe in
-      let added : has_name (with_name row w.file) f ≡ (has_name row f || bytes_eq f w.file) = ap (λ b. has_name (cond b row (row ++ w.file ∷ [])) f) new ∙ has_name_push row w.file f in (
-        λ t. ⊎_elim (λ there. entry_there w before (name_of x start) f ((seen start low f).0 there)) (λ here. (w, inl refl, sym named, sym ((bytes_eq-Decides f w.file).0 here))) (either (has_name row f) (bytes_eq f w.file) (sym added ∙ t)),
-        λ h. added ∙ ⊎_elim (λ (r, k). or_second (has_name row f) (bytes_eq f w.file) ((bytes_eq-Decides f w.file).1 (sym k))) (λ there. or_first (has_name row f) (bytes_eq f w.file) ((seen start low f).1 there)) (entry_more w before (name_of x start) f h),
+      let added : has_name (with_name row w.file) f ≡ (has_name row f || bytes_eq f w.file) = ap (λ b. has_name (cond b row (row ++ w.file ∷ [])) f) new ∙ has_name-push row w.file f in (
+        λ t. ⊎_elim (λ there. entry_there w before (name_of x start) f ((seen start low f).0 there)) (λ here. (w, inl refl, sym named, sym ((bytes_eq-Decides f w.file).0 here))) (or_cases (has_name row f) (bytes_eq f w.file) (sym added ∙ t)),
+        λ h. added ∙ ⊎_elim (λ (r, k). or_right (has_name row f) (bytes_eq f w.file) ((bytes_eq-Decides f w.file).1 (sym k))) (λ there. or_left (has_name row f) (bytes_eq f w.file) ((seen start low f).1 there)) (entry_more w before (name_of x start) f h),
       )
 
   -- and at others

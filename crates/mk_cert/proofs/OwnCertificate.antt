@@ -1,5 +1,7 @@
 -- The certificate is accepted: no entry is bad, and no read lacks its way.
 use Rattle.std.proofs.Common.{◌≡◌, ℕ, List, [], ◌∷◌, map, reverse, get_or, All, inl, inr, refl, sym, ◌∙◌, ap, subst}
+use Rattle.mk_lemmas.proofs.Members.{Has-get_or}
+use Rattle.mk_graph.proofs.Nodes.{recipe_is_node}
 use Rattle.mk_graph.specs.Graph.{IsGraph}
 use Rattle.mk_build.specs.BuildLaws.{NamesHaveOneNumber}
 use Rattle.mk_graph.specs.Laws.{SerialReachesEachOnce}
@@ -11,12 +13,12 @@ use Rattle.mk_subject.specs.Reads.{Read, NeedsWay}
 use Rattle.mk_cert.specs.Verdict.{IsGood, HasEntry, NoneBad}
 use Rattle.mk_find.specs.Certifying.{reads_once, ReadNeedsWay, IsEntryFor, AreEntriesFor, nothing, entry, none}
 use Rattle.mk_cert.specs.Laws.{CertificateIsAccepted}
-use Rattle.mk_find.proofs.ReadsOnce.{reads_differ, recipe_is_node, reader_is_recipe, stands_there}
-use Rattle.mk_find.proofs.CarriedRecipes.{has_at, carried_are_recipes}
+use Rattle.mk_find.proofs.ReadsOnce.{reads_differ, reader_is_recipe, stands_there}
+use Rattle.mk_find.proofs.CarriedRecipes.{carried_are_recipes}
 
 -- all on the path are recipes
 path_of_recipes : (x : Subject) (t : ℕ) (others : List ℕ) → IsRecipe x t → AreCarried x.graph (footprints x.setting) t others → All (IsRecipe x) (t ∷ others)
-path_of_recipes x t others is are k d low = by (get_or (t ∷ others) k d) (has_at (t ∷ others) k d low)
+path_of_recipes x t others is are k d low = by (get_or (t ∷ others) k d) (Has-get_or (t ∷ others) k d low)
   where
     by : (n : ℕ) → Has (t ∷ others) n → IsRecipe x n
     by n (inl here) = subst (λ (m : ℕ). IsRecipe x m) here is

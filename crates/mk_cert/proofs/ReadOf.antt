@@ -1,34 +1,22 @@
 -- Reads that are found at a place among those that aren't settled.
-use Rattle.std.proofs.Common.{◌≡◌, ℕ, ◌<◌, List, [], ◌∷◌, Bool, true, false, cond, length, get_or, inl, inr, refl, sym, ap, subst, ◌∙◌}
-use Rattle.std.specs.Prelude.{filter, not, bytes_eq, if◌then◌else◌}
+use Rattle.std.proofs.Common.{◌≡◌, ℕ, ◌<◌, List, [], Bool, true, false, length, get_or, refl, sym, ap, subst, ◌∙◌}
+use Rattle.std.specs.Prelude.{not, bytes_eq, if◌then◌else◌}
 use Rattle.std.proofs.lemmas.Bool.{not-false}
 use Rattle.std.proofs.lemmas.Slice.Eq.{bytes_eq-Decides}
+use Rattle.mk_lemmas.proofs.Members.{Has-from_filter, Has-get_or}
+use Rattle.mk_find.proofs.ReadsOnce.{reader_is_recipe}
 use Rattle.mk_graph.specs.Membership.{Has}
 use Rattle.mk_graph.specs.Graph.{node}
-use Rattle.mk_subject.specs.Subject.{Subject, footprints, name_of, reads_of, IsRecipe}
+use Rattle.mk_subject.specs.Subject.{Subject, name_of, reads_of}
 use Rattle.mk_cert.specs.Cursor.{IsReadOf}
 use Rattle.mk_subject.specs.FileInfo.{known_of}
 use Rattle.mk_subject.specs.Settled.{is_settled}
 use Rattle.mk_subject.specs.Target.{Target, target_of, unsettled_of}
-use Rattle.mk_subject.proofs.FileDecided.{at_place}
-
--- what is kept of a list of names stands in it
-kept_step : (p : List ℕ → Bool) (g : List ℕ) (fs : List (List ℕ)) (f : List ℕ) (b : Bool) → (Has (filter p fs) f → Has fs f) → Has (cond b (g ∷ filter p fs) (filter p fs)) f → Has (g ∷ fs) f
-kept_step p g fs f true more (inl here) = inl here
-kept_step p g fs f true more (inr there) = inr (more there)
-kept_step p g fs f false more there = inr (more there)
-
-pub kept_in : (p : List ℕ → Bool) (fs : List (List ℕ)) (f : List ℕ) → Has (filter p fs) f → Has fs f
-kept_in p [] f h = absurd h
-kept_in p (g ∷ fs) f h = kept_step p g fs f (p g) (kept_in p fs f) h
 
 -- a node whose recipe reads a file has a recipe
 none_read : (b : Bool) (fs : List (List ℕ)) (f : List ℕ) → Has (if b then fs else []) f → b ≡ true
 none_read true fs f h = refl
 none_read false fs f h = absurd h
-
-pub reader_is_recipe : (x : Subject) (t : ℕ) (f : List ℕ) → Has (reads_of x t) f → IsRecipe x t
-reader_is_recipe x t f h = none_read (node x.graph t).recipe ((footprints x.setting).reads (name_of x t)) f h
 
 -- names that aren't found to differ are the same
 pub same_names : (a b : List ℕ) (differ : Bool) → differ ≡ not (bytes_eq a b) → differ ≡ false → a ≡ b
@@ -39,7 +27,7 @@ pub found_there : (x : Subject) (recipe file : List ℕ) (t place : ℕ) (target
 found_there x recipe file t place target within is named same =
     let f = get_or (unsettled_of x t) place [] in
     let it : f ≡ file = sym (ap (λ (v : Target). v.file) is) ∙ same in
-    let reads : Has (reads_of x t) file = subst (λ (g : List ℕ). Has (reads_of x t) g) it (kept_in (λ g. not (is_settled (known_of x g))) (reads_of x t) f (at_place (unsettled_of x t) place [] within)) in
+    let reads : Has (reads_of x t) file = subst (λ (g : List ℕ). Has (reads_of x t) g) it ((Has-from_filter (λ g. not (is_settled (known_of x g))) (reads_of x t) f (Has-get_or (unsettled_of x t) place [] within)).0) in
     record {
       is_recipe = reader_is_recipe x t file reads;
       named = named;

@@ -1,12 +1,12 @@
 -- The graph is selected on each disk of a build.
-use Rattle.std.proofs.Common.{◌≡◌, ◌∙◌, ℕ, Bool, true, false, List, [], ◌∷◌, ◌++◌, Option, None, Ok, cond, map, inl, inr, refl, sym, ap}
+use Rattle.std.proofs.Common.{◌≡◌, ◌∙◌, ℕ, Bool, true, false, List, [], ◌++◌, Option, None, Ok, cond, map, inl, inr, refl, sym, ap}
 use Rattle.std.specs.Prelude.{◌||◌, ◌&&◌, bytes_eq, find}
 use Rattle.std.specs.Option.{option_map}
 use Rattle.std.proofs.lemmas.List.Folds.{list_any-append}
-use Rattle.std.proofs.lemmas.Slice.Eq.{bytes_eq-Decides}
+use Rattle.mk_lemmas.proofs.Members.{Has-left, Has-right}
+use Rattle.mk_lines.proofs.NameTests.{Has-from_has_name}
 use Rattle.mk_lines.specs.Names.{begins_with_any, has_name}
 use Rattle.mk_graph.specs.Graph.{Graph, IsGraph}
-use Rattle.mk_graph.specs.Lists.{has_left, has_right}
 use Rattle.mk_graph.specs.Membership.{Has, IsWithin}
 use Rattle.mk_build.specs.Setting.{FileName}
 use Rattle.mk_build.specs.Steps.{Step, IsLegal, disk_after}
@@ -53,16 +53,6 @@ same_choice m e names name =
     let by : (List ℕ → Bool) → Option (List ℕ) = λ (there : List ℕ → Bool). option_map (λ suffix. stem m name ++ suffix) (cond (may_infer m e name) (find (λ suffix. has_some (commands_from m name suffix) && there (stem m name ++ suffix)) m.suffixes) None) in
     ap by (λ i f. same_there m e names f i)
 
--- ---- names in a list
-
-in_list : (names : List (List ℕ)) (f : List ℕ) → has_name names f ≡ true → Has names f
-in_list [] f e = absurd (let k : false ≡ true = e in cc)
-in_list (name ∷ names) f e = by (bytes_eq f name) refl (in_list names f)
-  where
-    by : (b : Bool) → bytes_eq f name ≡ b → (has_name names f ≡ true → Has names f) → Has (name ∷ names) f
-    by true same more = inl (sym ((bytes_eq-Decides f name).0 same))
-    by false differ more = inr (more (sym (ap (λ (b : Bool). b || has_name names f) differ) ∙ e))
-
 -- ---- disks
 
 module _ (graph_stays : GraphStaysSelected) (parts_stay : PartsStaySelected) (exactly : AllWritesExactly) (known : FilesAreKnown) (x : Subject) (is : IsGraph x.graph) (subject : IsSubject x)
@@ -79,15 +69,15 @@ module _ (graph_stays : GraphStaysSelected) (parts_stay : PartsStaySelected) (ex
 
   -- a file that is given and under no fixed prefix is a source or a text
   given_there : (f : FileName) (a b c : Bool) → has_name x.there.sources f ≡ a → has_name x.there.texts f ≡ c → b ≡ false → (a || (b || c)) ≡ true → Has (x.there.sources ++ x.there.texts) f
-  given_there f true b c source text fixed e = has_left x.there.sources x.there.texts f (in_list x.there.sources f source)
+  given_there f true b c source text fixed e = Has-left x.there.sources x.there.texts f (Has-from_has_name x.there.sources f source)
   given_there f false true c source text fixed e = absurd (let k : true ≡ false = fixed in cc)
-  given_there f false false c source text fixed e = has_right x.there.sources x.there.texts f (in_list x.there.texts f (text ∙ e))
+  given_there f false false c source text fixed e = Has-right x.there.sources x.there.texts f (Has-from_has_name x.there.texts f (text ∙ e))
 
   known_there : (f : FileName) → IsKnown x.graph (footprints x.setting) f → begins_with_any x.setting.fixed f ≡ false → Has on_disks f
   known_there f (inl given) fixed =
-      has_right (all_writes x) (x.there.sources ++ x.there.texts) f
+      Has-right (all_writes x) (x.there.sources ++ x.there.texts) f
       (given_there f (has_name x.setting.sources f) (begins_with_any x.setting.fixed f) (has_name x.setting.texts f) (ap (λ (l : List (List ℕ)). has_name l f) subject.sources) (ap (λ (l : List (List ℕ)). has_name l f) subject.texts) fixed given)
-  known_there f (inr written) fixed = has_left (all_writes x) (x.there.sources ++ x.there.texts) f ((exactly x is f).1 written)
+  known_there f (inr written) fixed = Has-left (all_writes x) (x.there.sources ++ x.there.texts) f ((exactly x is f).1 written)
 
   -- what is on a disk is one of these
   within : (d : Disk) (steps : List Step) → IsStartDisk (footprints x.setting) d → IsLegal x.graph (footprints x.setting) (Idle d) steps → (files : List FileName)

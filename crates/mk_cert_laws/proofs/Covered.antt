@@ -4,11 +4,11 @@ use Rattle.std.specs.Prelude.{bytes_eq}
 use Rattle.std.proofs.lemmas.Bool.{true≢false, cases_lt}
 use Rattle.std.proofs.lemmas.List.{get_or_past}
 use Rattle.std.proofs.lemmas.Slice.Eq.{bytes_eq-Decides}
+use Rattle.mk_lemmas.proofs.Members.{Has-flat_map}
 use Rattle.mk_foot.specs.Book.{Record}
 use Rattle.mk_graph.specs.declared.node.Node.{Node}
 use Rattle.mk_graph.specs.Graph.{IsGraph, no_node}
 use Rattle.mk_graph.specs.Laws.{SerialReachesEachOnce}
-use Rattle.mk_graph.specs.Lists.{joined_to}
 use Rattle.mk_graph.specs.Membership.{Has}
 use Rattle.mk_graph.specs.Serial.{serial_order}
 use Rattle.mk_infer.specs.Commands.{Commands, commands}
@@ -61,7 +61,7 @@ module _ (listed : ListedExactly) (sound : NothingFoundIsSound) (reaches : Seria
   -- what may be found of it alone
   of_node : (found : ℕ → List Candidate) (t : ℕ) (k : Candidate) → IsRecipe x t → Has (found t) k → Has (by_number x) (by_node x found) → Has (static_candidates x) k
   of_node found t k recipe of_it part =
-      joined_to (λ (l : List Candidate). l) (by_number x) (by_node x found) k part (joined_to found (serial_order x.graph) t k (in_order t recipe) of_it)
+      Has-flat_map (λ (l : List Candidate). l) (by_number x) (by_node x found) k part (Has-flat_map found (serial_order x.graph) t k (in_order t recipe) of_it)
 
   no_more : (e : Exists) → e.more ≡ [] → with_more e [] ≡ e
   no_more e none = ap (with_more e) (sym none)

@@ -21,14 +21,15 @@ use Rattle.serde_json.specs.Read.{read, max_depth, of_json}
 use Rattle.serde_json.specs.View.{items_of}
 use Rattle.serde_json.specs.Written.{outline, items_outline, compact_text}
 use Rattle.serde_json.proofs.Texts.{print-outline}
+use Rattle.mk_cert_text.proofs.TextBack.{ways_numbers}
 use Rattle.mk_json.specs.Reading.{json_of}
 use Rattle.mk_cert_text.specs.declared.fault.CertTextFault.{CertTextFault}
 use Rattle.mk_cert_text.specs.declared.fault.CertTextFault.TheVariants.{NotJson}
-use Rattle.mk_cert_text.specs.Certificate.{Way, Certificate}
+use Rattle.mk_cert_text.specs.Certificate.{Certificate}
 use Rattle.mk_cert_text.specs.Laws.{TextIsReadBack}
 use Rattle.mk_cert_text.specs.Reading.{certificate_in, certificate_from}
 use Rattle.mk_cert_text.specs.Steps.{◌>>=◌}
-use Rattle.mk_cert_text.specs.Writing.{way_value, value_of}
+use Rattle.mk_cert_text.specs.Writing.{value_of}
 use Rattle.mk_cert_laws.specs.Laws.{LineIsReadBack}
 
 -- ---- tokens, and what stands behind them
@@ -119,10 +120,6 @@ read-line d numbers =
 names_numbers : (names : List (List ℕ)) → ItemsHaveNumbers (items_outline (items_of (map value.string names)))
 names_numbers [] = tt
 names_numbers (name ∷ names) = (tt, names_numbers names)
-
-ways_numbers : (ways : List Way) → ItemsHaveNumbers (items_outline (items_of (map way_value ways)))
-ways_numbers [] = tt
-ways_numbers (way ∷ ways) = ((tt, (tt, (names_numbers way.path, (tt, tt)))), ways_numbers ways)
 
 numbers : (c : Certificate) → HasNumbers (outline (value_of c))
 numbers c = (IsNumber-decimal 1 (omega arith), (names_numbers c.goals, (ways_numbers c.ways, tt)))

@@ -5,13 +5,9 @@ use Rattle.std.specs.Str.{IsUtf8, is_utf8, IsCharBoundary}
 use Rattle.std.proofs.Math.Seq.{drop-append_seam, take-append_seam}
 use Rattle.std.proofs.lemmas.Bool.{and_parts, and_from}
 use Rattle.std.proofs.lemmas.List.{drop_more, take_more}
-use Rattle.std.proofs.lemmas.List.Folds.{list_all-append}
+use Rattle.std.proofs.lemmas.List.Folds.{list_all-append, concat-append}
 use Rattle.std.proofs.lemmas.Str.{IsUtf8-append, IsUtf8-nil, IsUtf8-from_is_utf8, is_utf8-from_IsUtf8, IsCharBoundary-at_seam}
 use Rattle.mk_cert_text.specs.Packing.{cut_from, ends_from, IsPacked}
-
-pub concat-append : (xs ys : List (List ℕ)) → concat (xs ++ ys) ≡ concat xs ++ concat ys
-concat-append [] ys = refl
-concat-append (x ∷ xs) ys = ap (λ (l : List ℕ). x ++ l) (concat-append xs ys) ∙ sym (append_assoc x (concat xs) (concat ys))
 
 -- the piece of a text that stands between two others
 pub piece_at : (s : ℕ) (before piece after text : List ℕ) → length before ≡ s → text ≡ before ++ (piece ++ after) → slice_range text s (s + length piece) ≡ piece
@@ -49,14 +45,14 @@ length-ends [] s = refl
 length-ends (name ∷ names) s = ap suc (length-ends names (s + length name))
 
 -- one more at the end
-ends_more : (names : List (List ℕ)) (name : List ℕ) (s : ℕ) → ends_from s (names ++ name ∷ []) ≡ ends_from s names ++ (s + length (concat names ++ name)) ∷ []
+pub ends_more : (names : List (List ℕ)) (name : List ℕ) (s : ℕ) → ends_from s (names ++ name ∷ []) ≡ ends_from s names ++ (s + length (concat names ++ name)) ∷ []
 ends_more [] name s = refl
 ends_more (first ∷ names) name s =
     let long : (s + length first) + length (concat names ++ name) ≡ s + length ((first ++ concat names) ++ name) = omega (arith, length-append (first ++ concat names) name, length-append first (concat names), length-append (concat names) name) in
     ap (λ (l : List ℕ). (s + length first) ∷ l) (ends_more names name (s + length first) ∙ ap (λ n. ends_from (s + length first) names ++ n ∷ []) long)
 
 -- where the name at a place begins
-begins_from : (names : List (List ℕ)) (s i : ℕ) → i ≤ length names → get_or (s ∷ ends_from s names) i 0 ≡ s + length (concat (take i names))
+pub begins_from : (names : List (List ℕ)) (s i : ℕ) → i ≤ length names → get_or (s ∷ ends_from s names) i 0 ≡ s + length (concat (take i names))
 begins_from names s zero low = sym (omega arith)
 begins_from [] s (suc i) low = absurd (omega arith)
 begins_from (name ∷ names) s (suc i) low =

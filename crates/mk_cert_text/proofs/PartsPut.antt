@@ -1,7 +1,8 @@
 -- Parts where a member is put.
-use Rattle.std.proofs.Common.{◌≡◌, ℕ, Bool, true, false, List, [], ◌∷◌, map, codes, Option, Some, Result, bytes_eq, refl, sym, ap, ◌∙◌, subst}
+use Rattle.std.proofs.Common.{◌≡◌, ℕ, true, false, List, [], ◌∷◌, map, codes, Option, Some, Result, bytes_eq, refl, sym, ap, ◌∙◌, subst}
 use Rattle.std.specs.Prelude.{⊤, option_and_then}
 use Rattle.std.proofs.lemmas.Slice.Eq.{bytes_eq-Decides}
+use Rattle.mk_lemmas.proofs.Texts.{bytes_eq-differ, differ-sym}
 use Rattle.mk_lines.specs.Names.{has_name}
 use Rattle.mk_lines.specs.declared.name.Name.{Name}
 use Rattle.mk_cert_text.specs.declared.packed_names.PackedNames.{PackedNames}
@@ -25,17 +26,6 @@ use Rattle.mk_cert_text.specs.Words.{finish_of}
 -- what is given, in other words
 pub moved : {X Y : Type 0} (view : X → Y) (r : Result X CertTextFault) (old new : Result Y CertTextFault) → Gives view r old → new ≡ old → Gives view r new
 moved view r old new given e = subst (λ (z : Result _ CertTextFault). Gives view r z) (sym e) given
-
-turned : {key other : List ℕ} → (key ≡ other → ⊥) → other ≡ key → ⊥
-turned apart e = apart (sym e)
-
-differs_at : (b : Bool) (key other : List ℕ) → bytes_eq key other ≡ b → (key ≡ other → ⊥) → b ≡ false
-differs_at true key other e apart = absurd (apart ((bytes_eq-Decides key other).0 e))
-differs_at false key other e apart = refl
-
--- different texts
-differs : (key other : List ℕ) → (key ≡ other → ⊥) → bytes_eq key other ≡ false
-differs key other apart = differs_at _ key other refl apart
 
 module _ (law : LastValueCounts) where
   here : (key : List ℕ) (value : Data) (ms : Members) → get key (object (put key value ms)) ≡ Some value
@@ -142,11 +132,11 @@ module _ (law : LastValueCounts) where
   pub other_put : (p : WayParts) (key : List ℕ) (value : Data) (ms : Members) → (key ≡ codes "end" → ⊥) → (key ≡ codes "file" → ⊥) → (key ≡ codes "path" → ⊥) → (key ≡ codes "recipe" → ⊥) → IsOfWay p (object ms)
       → IsOfWay (record { finish = p.finish; file = p.file; path = p.path; recipe = p.recipe; alone = false }) (object (put key value ms))
   other_put p key value ms a b c d was = record {
-    finish = moved (λ f. f) p.finish _ _ was.finish (finish_there key value ms (differs _ _ (turned a)));
-    file = moved (λ n. n) p.file _ _ was.file (name_there keys.File key value ms (differs _ _ (turned b)));
-    path = moved (λ n. n) p.path _ _ was.path (names_there keys.Path key value ms (differs _ _ (turned c)));
-    recipe = moved (λ n. n) p.recipe _ _ was.recipe (name_there keys.Recipe key value ms (differs _ _ (turned d)));
-    alone = sym (unknown_there way_keys key value ms (rw (differs key (codes "end") a, differs key (codes "file") b, differs key (codes "path") c, differs key (codes "recipe") d) refl));
+    finish = moved (λ f. f) p.finish _ _ was.finish (finish_there key value ms (bytes_eq-differ _ _ (differ-sym a)));
+    file = moved (λ n. n) p.file _ _ was.file (name_there keys.File key value ms (bytes_eq-differ _ _ (differ-sym b)));
+    path = moved (λ n. n) p.path _ _ was.path (names_there keys.Path key value ms (bytes_eq-differ _ _ (differ-sym c)));
+    recipe = moved (λ n. n) p.recipe _ _ was.recipe (name_there keys.Recipe key value ms (bytes_eq-differ _ _ (differ-sym d)));
+    alone = sym (unknown_there way_keys key value ms (rw (bytes_eq-differ key (codes "end") a, bytes_eq-differ key (codes "file") b, bytes_eq-differ key (codes "path") c, bytes_eq-differ key (codes "recipe") d) refl));
   }
 
   -- ---- the parts of a certificate
@@ -184,8 +174,8 @@ module _ (law : LastValueCounts) where
   pub another_put : (p : CertificateParts) (key : List ℕ) (value : Data) (ms : Members) → (key ≡ codes "format" → ⊥) → (key ≡ codes "goals" → ⊥) → (key ≡ codes "ways" → ⊥) → IsOf p (object ms)
       → IsOf (record { format = p.format; goals = p.goals; ways = p.ways; alone = false }) (object (put key value ms))
   another_put p key value ms a b c was = record {
-    format = moved (λ d. d) p.format _ _ was.format (format_there key value ms (differs _ _ (turned a)));
-    goals = moved (λ n. n) p.goals _ _ was.goals (names_there keys.Goals key value ms (differs _ _ (turned b)));
-    ways = moved_entries p.ways _ _ was.ways (values_there keys.Ways key value ms (differs _ _ (turned c)));
-    alone = sym (unknown_there all_keys key value ms (rw (differs key (codes "format") a, differs key (codes "goals") b, differs key (codes "ways") c) refl));
+    format = moved (λ d. d) p.format _ _ was.format (format_there key value ms (bytes_eq-differ _ _ (differ-sym a)));
+    goals = moved (λ n. n) p.goals _ _ was.goals (names_there keys.Goals key value ms (bytes_eq-differ _ _ (differ-sym b)));
+    ways = moved_entries p.ways _ _ was.ways (values_there keys.Ways key value ms (bytes_eq-differ _ _ (differ-sym c)));
+    alone = sym (unknown_there all_keys key value ms (rw (bytes_eq-differ key (codes "format") a, bytes_eq-differ key (codes "goals") b, bytes_eq-differ key (codes "ways") c) refl));
   }

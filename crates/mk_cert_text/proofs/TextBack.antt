@@ -47,7 +47,7 @@ names_numbers : (names : List (List ℕ)) → ItemsHaveNumbers (items_outline (i
 names_numbers [] = tt
 names_numbers (name ∷ names) = (tt, names_numbers names)
 
-ways_numbers : (ways : List Way) → ItemsHaveNumbers (items_outline (items_of (map way_value ways)))
+pub ways_numbers : (ways : List Way) → ItemsHaveNumbers (items_outline (items_of (map way_value ways)))
 ways_numbers [] = tt
 ways_numbers (way ∷ ways) = ((tt, (tt, (names_numbers way.path, (tt, tt)))), ways_numbers ways)
 

@@ -3,6 +3,7 @@ use Rattle.std.proofs.Common.{◌≡◌, ℕ, Bool, true, List, [], ◌∷◌, �
 use Rattle.std.specs.List.{list_all, flat_map}
 use Rattle.std.proofs.lemmas.Bool.{and_parts}
 use Rattle.std.proofs.lemmas.List.Folds.{list_all-append}
+use Rattle.mk_json.proofs.Arrays.{elements-items_of}
 use Rattle.mk_lines.specs.Paths.{is_plain_path}
 use Rattle.serde_json.specs.Data.{Data, string}
 use Rattle.serde_json.specs.Find.{get}
@@ -17,7 +18,6 @@ use Rattle.mk_cert_text.specs.Laws.{names_of_way, ValueIsReadBack}
 use Rattle.mk_cert_text.specs.Reading.{values_at, name_in, name_at, names_at, finish_at, way_in, format_is_one, certificate_in}
 use Rattle.mk_cert_text.specs.Steps.{each, at_least}
 use Rattle.mk_cert_text.specs.Words.{finish_word, finish_of}
-use Rattle.mk_cert_text.proofs.Read.{elements_items}
 use Rattle.mk_cert_text.specs.Writing.{names_value, way_value, value_of}
 
 -- a test of all of two lists
@@ -37,7 +37,7 @@ names_back key (name ∷ names) plain = let p = and_parts (is_plain_path name) (
 -- the values, the name and the names under a key
 values_found : (key : Key) (whole : Data) (ds : List Data) → get (spelling key) whole ≡ Some (array_of ds) → values_at key whole ≡ Ok ds
 unfolding values_at
-values_found key whole ds e = rw (e, elements_items ds) refl
+values_found key whole ds e = rw (e, elements-items_of ds) refl
 
 name_found : (key : Key) (whole : Data) (name : List ℕ) → get (spelling key) whole ≡ Some (string name) → is_plain_path name ≡ true → name_at key whole ≡ Ok name
 unfolding name_at

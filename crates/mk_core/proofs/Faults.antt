@@ -1,7 +1,8 @@
 -- Faults of the lower crates as those of a request: which failed reads they note, and out of memory
 -- among them.
-use Rattle.std.proofs.Common.{◌≡◌, ℕ, Bool, List, true, false, cond, refl, sym, ap, ◌∙◌}
+use Rattle.std.proofs.Common.{◌≡◌, ℕ, Bool, List, true, false, cond, refl, sym, ap}
 use Rattle.std.specs.Prelude.{not}
+use Rattle.std.proofs.lemmas.Bool.{both_ways}
 use Rattle.mk_infer.specs.declared.fault.InferFault.{InferFault}
 use Rattle.mk_infer.specs.Steps as inferring
 use Rattle.mk_read.specs.declared.fault.ReadFault.{ReadFault}
@@ -22,13 +23,6 @@ by_infer P fault m f = either P (Infer fault) (inferring.is_out_of_memory fault)
 pub by_read : (P : Fault → Type 0) (fault : ReadFault) → P Memory → (reading.is_out_of_memory fault ≡ false → P (Read fault)) → P (of_read fault)
 by_read P fault m f = either P (Read fault) (reading.is_out_of_memory fault) (λ _. m) f
 
-true≢false : true ≡ false → ⊥
-true≢false e = absurd cc
-
--- the test for out of memory says no of any other fault
-not_both : (b : Bool) → b ≡ false → b ≡ true → ⊥
-not_both b f t = true≢false (sym t ∙ f)
-
 -- a test, from its opposite
 pub turned : (b r : Bool) → b ≡ not r → r ≡ not b
 turned b true e = sym (ap not e)
@@ -37,10 +31,10 @@ turned b false e = sym (ap not e)
 -- ---- out of memory has one form
 
 pub plain_infer : (fault : InferFault) → is_out_of_memory (of_infer fault) ≡ true → of_infer fault ≡ Memory
-plain_infer fault = by_infer (λ f. is_out_of_memory f ≡ true → f ≡ Memory) fault (λ _. refl) (λ settled found. absurd (not_both (inferring.is_out_of_memory fault) settled found))
+plain_infer fault = by_infer (λ f. is_out_of_memory f ≡ true → f ≡ Memory) fault (λ _. refl) (λ settled found. absurd (both_ways (inferring.is_out_of_memory fault) settled found))
 
 pub plain_read : (fault : ReadFault) → is_out_of_memory (of_read fault) ≡ true → of_read fault ≡ Memory
-plain_read fault = by_read (λ f. is_out_of_memory f ≡ true → f ≡ Memory) fault (λ _. refl) (λ settled found. absurd (not_both (reading.is_out_of_memory fault) settled found))
+plain_read fault = by_read (λ f. is_out_of_memory f ≡ true → f ≡ Memory) fault (λ _. refl) (λ settled found. absurd (both_ways (reading.is_out_of_memory fault) settled found))
 
 -- ---- faults that read nothing
 

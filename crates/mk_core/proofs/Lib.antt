@@ -1,5 +1,4 @@
 pub mod Seen
-pub mod NameLists
 pub mod Faults
 pub mod Answering
 pub mod Finding

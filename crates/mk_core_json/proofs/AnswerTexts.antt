@@ -17,8 +17,8 @@ yes_parts : (c : Certificate) (recipes reads : ℕ) → compact_text (yes_value 
 unfolding serde_json_on_literals digits
 yes_parts c recipes reads = refl
 
-regroup_yes : (a b c d e f g : List ℕ) → (((((a ++ b) ++ c) ++ d) ++ e) ++ f) ++ g ≡ a ++ (b ++ (c ++ (d ++ (e ++ (f ++ g)))))
-regroup_yes a b c d e f g = simp append_assoc
+pub append-regroup_seven : (a b c d e f g : List ℕ) → (((((a ++ b) ++ c) ++ d) ++ e) ++ f) ++ g ≡ a ++ (b ++ (c ++ (d ++ (e ++ (f ++ g)))))
+append-regroup_seven a b c d e f g = simp append_assoc
 
 pub yes_joined : (c : Certificate) (recipes reads : ℕ) (s t u v w x y : List ℕ) → s ≡ codes "{\"answer\":\"yes\",\"certificate\":" → t ≡ s ++ compact_text (value_of c) → u ≡ t ++ codes ",\"format\":1,\"reads\":"
     → v ≡ u ++ decimal reads → w ≡ v ++ codes ",\"recipes\":" → x ≡ w ++ decimal recipes → y ≡ x ++ codes "}" → y ≡ compact_text (yes_value c recipes reads)
@@ -30,7 +30,7 @@ yes_joined c recipes reads s t u v w x y e f g h i j k =
     let end : List ℕ = codes "}" in
     let so_far : y ≡ (((((begin ++ written) ++ middle) ++ decimal reads) ++ key) ++ decimal recipes) ++ end =
     k ∙ ap (λ (l : List ℕ). l ++ end) (j ∙ ap (λ (l : List ℕ). l ++ decimal recipes) (i ∙ ap (λ (l : List ℕ). l ++ key) (h ∙ ap (λ (l : List ℕ). l ++ decimal reads) (g ∙ ap (λ (l : List ℕ). l ++ middle) (f ∙ ap (λ (l : List ℕ). l ++ written) e))))) in
-    so_far ∙ (regroup_yes begin written middle (decimal reads) key (decimal recipes) end ∙ sym (yes_parts c recipes reads))
+    so_far ∙ (append-regroup_seven begin written middle (decimal reads) key (decimal recipes) end ∙ sym (yes_parts c recipes reads))
 
 -- no refusal has a float
 pub place_has_no_float : (place : Option Place) → has_float (place_value place) ≡ false

@@ -17,7 +17,7 @@ use Rattle.mk_sentences.specs.Places.{rule_shown}
 use Rattle.mk_sentences.specs.Text.{shown_name}
 use Rattle.mk_core_json.specs.GroupValue.{files_of, group_value, targets_of}
 use Rattle.mk_core_json.specs.NoValue.{finding_values, groups_values, later_claims, no_value}
-use Rattle.mk_core_json.proofs.AnswerTexts.{place_has_no_float}
+use Rattle.mk_core_json.proofs.AnswerTexts.{place_has_no_float, append-regroup_seven}
 
 -- one more value is written
 pub items_step : (later : Bool) (value : Data) (values before : List Data) (out comma new all : List ℕ) → comma ≡ out ++ comma_if later → new ≡ comma ++ compact_text value → before ≡ value ∷ values
@@ -61,9 +61,6 @@ no_parts : (x : Subject) (found hidden : List Finding) → compact_text (no_valu
 unfolding serde_json_on_literals digits
 no_parts x found hidden = refl
 
-regroup_no : (a b c d e f g : List ℕ) → (((((a ++ b) ++ c) ++ d) ++ e) ++ f) ++ g ≡ a ++ (b ++ (c ++ (d ++ (e ++ (f ++ g)))))
-regroup_no a b c d e f g = simp append_assoc
-
 pub no_joined : (x : Subject) (found hidden : List Finding) (a b c d e f g : List ℕ) → a ≡ codes "{\"answer\":\"no\",\"findings\":[" → b ≡ a ++ items_text false (items_of (finding_values 1 found))
     → c ≡ b ++ codes ",\"format\":1,\"groups\":[" → d ≡ c ++ items_text false (items_of (groups_values x.makefile (map (claim_of x) found))) → e ≡ d ++ codes ",\"later\":["
     → f ≡ e ++ items_text false (items_of (groups_values x.makefile (later_claims x found hidden))) → g ≡ f ++ codes "}" → g ≡ compact_text (no_value x found hidden)
@@ -77,4 +74,4 @@ no_joined x found hidden a b c d e f g p q r s t u v =
     let end : List ℕ = codes "}" in
     let so_far : g ≡ (((((begin ++ listed) ++ middle) ++ grouped) ++ key) ++ last) ++ end =
     v ∙ ap (λ (l : List ℕ). l ++ end) (u ∙ ap (λ (l : List ℕ). l ++ last) (t ∙ ap (λ (l : List ℕ). l ++ key) (s ∙ ap (λ (l : List ℕ). l ++ grouped) (r ∙ ap (λ (l : List ℕ). l ++ middle) (q ∙ ap (λ (l : List ℕ). l ++ listed) p))))) in
-    so_far ∙ (regroup_no begin listed middle grouped key last end ∙ sym (no_parts x found hidden))
+    so_far ∙ (append-regroup_seven begin listed middle grouped key last end ∙ sym (no_parts x found hidden))

@@ -11,10 +11,10 @@ use Rattle.std.proofs.lemmas.Cmp.{nat_list_cmp_total}
 use Rattle.std.proofs.lemmas.List.{get_or_past}
 use Rattle.std.proofs.lemmas.Map.Text.{is_eq-slice_cmp}
 use Rattle.std.proofs.lemmas.Slice.Eq.{bytes_eq-Decides}
+use Rattle.mk_lemmas.proofs.Members.{Has-cases, Has-left, Has-right}
 use Rattle.mk_graph.specs.declared.node.Node.{Node}
 use Rattle.mk_graph.specs.Graph.{Graph, node, no_node}
 use Rattle.mk_graph.specs.Membership.{Has}
-use Rattle.mk_graph.specs.Lists.{has_left, has_right, has_cases}
 use Rattle.mk_build.specs.Setting.{FileName, Setting, is_given, name, reads, writes}
 use Rattle.mk_build.specs.World.{AreAscending, Disk, IsFirstDisk, IsOfWorld, numbered_disk}
 use Rattle.mk_core_laws.specs.EvidenceLaws.{FirstDiskIsThere}
@@ -124,12 +124,12 @@ module _ (names : Node → List FileName) where
   at_place : (nodes : List Node) (f : FileName) → Has (flat_map names nodes) f → (n : ℕ) × ((n < length nodes) × Has (names (get_or nodes n no_node)) f)
   at_place [] f h = absurd h
   at_place (x ∷ nodes) f h =
-      ⊎_elim (λ k. (0, (omega arith, k))) (λ k. let r = at_place nodes f k in (suc r.0, (omega (arith, r.1.0), r.1.1))) (has_cases (names x) (flat_map names nodes) f h)
+      ⊎_elim (λ k. (0, (omega arith, k))) (λ k. let r = at_place nodes f k in (suc r.0, (omega (arith, r.1.0), r.1.1))) (Has-cases (names x) (flat_map names nodes) f h)
 
   from_place : (nodes : List Node) (n : ℕ) (f : FileName) → n < length nodes → Has (names (get_or nodes n no_node)) f → Has (flat_map names nodes) f
   from_place [] n f low h = absurd (omega arith)
-  from_place (x ∷ nodes) zero f low h = has_left (names x) (flat_map names nodes) f h
-  from_place (x ∷ nodes) (suc n) f low h = has_right (names x) (flat_map names nodes) f (from_place nodes n f (omega arith) h)
+  from_place (x ∷ nodes) zero f low h = Has-left (names x) (flat_map names nodes) f h
+  from_place (x ∷ nodes) (suc n) f low h = Has-right (names x) (flat_map names nodes) f (from_place nodes n f (omega arith) h)
 
 -- ---- the names of the world
 
@@ -145,15 +145,15 @@ module _ (g : Graph) (s : Setting) where
   in_recipe n f h = at (node g n).recipe h
     where
       at : (b : Bool) → Has (cond b (s.reads (name g n) ++ s.writes (name g n)) []) f → Has (cond b (s.reads (name g n)) []) f ⊎ Has (cond b (s.writes (name g n)) []) f
-      at true k = has_cases (s.reads (name g n)) (s.writes (name g n)) f k
+      at true k = Has-cases (s.reads (name g n)) (s.writes (name g n)) f k
       at false k = absurd k
 
   of_recipe : (n : ℕ) (f : FileName) → Has (reads g s n) f ⊎ Has (writes g s n) f → Has (cond (node g n).recipe (s.reads (name g n) ++ s.writes (name g n)) []) f
   of_recipe n f h = at (node g n).recipe h
     where
       at : (b : Bool) → Has (cond b (s.reads (name g n)) []) f ⊎ Has (cond b (s.writes (name g n)) []) f → Has (cond b (s.reads (name g n) ++ s.writes (name g n)) []) f
-      at true (inl k) = has_left (s.reads (name g n)) (s.writes (name g n)) f k
-      at true (inr k) = has_right (s.reads (name g n)) (s.writes (name g n)) f k
+      at true (inl k) = Has-left (s.reads (name g n)) (s.writes (name g n)) f k
+      at true (inr k) = Has-right (s.reads (name g n)) (s.writes (name g n)) f k
       at false (inl k) = absurd k
       at false (inr k) = absurd k
 
@@ -172,12 +172,12 @@ module _ (g : Graph) (s : Setting) where
       by_node n low (inr h) = inr (inr (n, in_recipe n f h))
 
       told : Has all_names f → IsOfWorld g s f
-      told h = ⊎_elim (λ k. inr (inl k)) (λ k. let r = at_place names_at g.nodes f k in by_node r.0 r.1.0 r.1.1) (has_cases s.sources (flat_map names_at g.nodes) f h)
+      told h = ⊎_elim (λ k. inr (inl k)) (λ k. let r = at_place names_at g.nodes f k in by_node r.0 r.1.0 r.1.1) (Has-cases s.sources (flat_map names_at g.nodes) f h)
 
       tells : IsOfWorld g s f → Has all_names f
-      tells (inl (n, (low, is))) = has_right s.sources (flat_map names_at g.nodes) f (from_place names_at g.nodes n f low (inl is))
-      tells (inr (inl h)) = has_left s.sources (flat_map names_at g.nodes) f h
-      tells (inr (inr (n, h))) = has_right s.sources (flat_map names_at g.nodes) f (from_place names_at g.nodes n f (is_node n f h) (inr (of_recipe n f h)))
+      tells (inl (n, (low, is))) = Has-right s.sources (flat_map names_at g.nodes) f (from_place names_at g.nodes n f low (inl is))
+      tells (inr (inl h)) = Has-left s.sources (flat_map names_at g.nodes) f h
+      tells (inr (inr (n, h))) = Has-right s.sources (flat_map names_at g.nodes) f (from_place names_at g.nodes n f (is_node n f h) (inr (of_recipe n f h)))
 
   abbrev given_names : List FileName
   given_names = sorted (filter (is_given s) all_names)

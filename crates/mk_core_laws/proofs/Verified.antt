@@ -1,8 +1,8 @@
 -- A certificate that `check` answers with is accepted.
-use Rattle.std.proofs.Common.{◌≡◌, ◌∙◌, ◌<◌, ℕ, suc, Bool, true, ◌&&◌, List, [], ◌∷◌, ◌++◌, All, length, map, Option, None, Some, Result, Ok, Err, inl, inr, refl, sym, ap, ap₂, subst, arith}
+use Rattle.std.proofs.Common.{◌≡◌, ◌∙◌, ◌<◌, ℕ, suc, true, List, [], ◌∷◌, ◌++◌, All, length, map, Option, None, Some, Result, Ok, Err, inl, inr, refl, sym, ap, ap₂, subst, arith}
 use Rattle.std.specs.List.{list_all, flat_map}
 use Rattle.std.specs.Option.{ok_or}
-use Rattle.std.proofs.lemmas.Bool.{true≢false, cases_lt}
+use Rattle.std.proofs.lemmas.Bool.{true≢false, cases_lt, and_from}
 use Rattle.std.proofs.lemmas.List.{get_or_past}
 use Rattle.std.proofs.lemmas.List.Folds.{list_all-append}
 use Rattle.serde_json.specs.Written.{compact_text}
@@ -41,9 +41,6 @@ use Rattle.mk_core_laws.specs.EvidenceLaws.{NamesOfWorldArePlain}
 
 -- ---- the names of an accepted certificate
 
-both : (a b : Bool) → a ≡ true → b ≡ true → (a && b) ≡ true
-both a b e k = rw (e, k) refl
-
 module _ (x : Subject) (is : IsGraph x.graph) (world : (f : List ℕ) → IsOfWorld x.graph (footprints x.setting) f → is_plain_path f ≡ true) where
   node_plain : (n : ℕ) → n < length x.graph.nodes → is_plain_path (name_of x n) ≡ true
   node_plain n low = world (name_of x n) (inl (n, (low, refl)))
@@ -58,30 +55,30 @@ module _ (x : Subject) (is : IsGraph x.graph) (world : (f : List ℕ) → IsOfWo
   goals_plain : (ns : List ℕ) → ((n : ℕ) → Has ns n → n < length x.graph.nodes) → list_all is_plain_path (map (name_of x) ns) ≡ true
   goals_plain [] low = refl
   goals_plain (n ∷ ns) low =
-      both (is_plain_path (name_of x n)) (list_all is_plain_path (map (name_of x) ns)) (node_plain n (low n (inl refl))) (goals_plain ns (λ k h. low k (inr h)))
+      and_from (is_plain_path (name_of x n)) (list_all is_plain_path (map (name_of x) ns)) (node_plain n (low n (inl refl))) (goals_plain ns (λ k h. low k (inr h)))
 
   path_plain : (ns : List ℕ) → All (IsRecipe x) ns → list_all is_plain_path (map (name_of x) ns) ≡ true
   path_plain [] are = refl
   path_plain (n ∷ ns) are =
-      both (is_plain_path (name_of x n)) (list_all is_plain_path (map (name_of x) ns)) (node_plain n (is_node n (are 0 0 (omega arith)))) (path_plain ns (λ k d low. are (suc k) d (omega arith)))
+      and_from (is_plain_path (name_of x n)) (list_all is_plain_path (map (name_of x) ns)) (node_plain n (is_node n (are 0 0 (omega arith)))) (path_plain ns (λ k d low. are (suc k) d (omega arith)))
 
   way_plain : (w : Way) → IsGood x w → list_all is_plain_path (names_of_way w) ≡ true
   way_plain w good =
       let recipe : is_plain_path w.recipe ≡ true = subst (λ (f : List ℕ). is_plain_path f ≡ true) (sym good.begins) (node_plain good.start (is_node good.start (good.recipes 0 0 (omega arith)))) in
       let file : is_plain_path w.file ≡ true = world w.file (inr (inr (good.start, inl good.needed.0))) in
       let path : list_all is_plain_path w.path ≡ true = ap (list_all is_plain_path) good.names ∙ path_plain (good.start ∷ good.others) good.recipes in
-      both (is_plain_path w.recipe) (list_all is_plain_path (w.file ∷ w.path)) recipe (both (is_plain_path w.file) (list_all is_plain_path w.path) file path)
+      and_from (is_plain_path w.recipe) (list_all is_plain_path (w.file ∷ w.path)) recipe (and_from (is_plain_path w.file) (list_all is_plain_path w.path) file path)
 
   ways_plain : (before ways : List Way) → NoneBad x before ways → list_all is_plain_path (flat_map names_of_way ways) ≡ true
   ways_plain before [] none = refl
   ways_plain before (w ∷ ways) none =
       list_all-append is_plain_path (names_of_way w) (flat_map names_of_way ways)
-      ∙ both (list_all is_plain_path (names_of_way w)) (list_all is_plain_path (flat_map names_of_way ways)) (way_plain w none.0.0) (ways_plain (w ∷ before) ways none.1)
+      ∙ and_from (list_all is_plain_path (names_of_way w)) (list_all is_plain_path (flat_map names_of_way ways)) (way_plain w none.0.0) (ways_plain (w ∷ before) ways none.1)
 
   pub names_plain : (c : Certificate) → Verifies x c (Ok tt) → list_all is_plain_path (names_of c) ≡ true
   names_plain c accepted =
       list_all-append is_plain_path c.goals (flat_map names_of_way c.ways)
-      ∙ both (list_all is_plain_path c.goals) (list_all is_plain_path (flat_map names_of_way c.ways)) (ap (list_all is_plain_path) accepted.0 ∙ goals_plain x.graph.goals is.sound.goals) (ways_plain [] c.ways accepted.2)
+      ∙ and_from (list_all is_plain_path c.goals) (list_all is_plain_path (flat_map names_of_way c.ways)) (ap (list_all is_plain_path) accepted.0 ∙ goals_plain x.graph.goals is.sound.goals) (ways_plain [] c.ways accepted.2)
 
 -- ---- its text
 

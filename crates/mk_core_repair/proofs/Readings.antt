@@ -6,7 +6,9 @@ use Rattle.std.specs.HashMap.{HashMap, get_by_text}
 use Rattle.std.specs.Map.{lookup}
 use Rattle.std.specs.Option.{is_some, option_map, option_or}
 use Rattle.std.specs.Str.{bytes_eq}
-use Rattle.mk_lines.proofs.Places.{bytes_eq_sym}
+use Rattle.mk_lemmas.proofs.Texts.{bytes_eq-sym}
+use Rattle.mk_lemmas.proofs.Results.{is_some-map}
+use Rattle.mk_lines.proofs.NameTests.{has_name-push}
 use Rattle.mk_lines.specs.Names.{has_name}
 use Rattle.mk_foot.specs.Names.{Has}
 use Rattle.mk_core_text.specs.declared.fault.Fault.{Fault}
@@ -31,7 +33,7 @@ seen_text m name = all_seen m.entries
     all_seen : (entries : List (String Global × Vec ℕ Global)) → text_at (texts_by entries) name ≡ option_map (λ text. text.items) (lookup (λ key. bytes_eq name (string_bytes key)) entries)
     all_seen [] = refl
     all_seen (entry ∷ entries) =
-        ap (λ b. cond b (Some entry.1.items) (text_at (texts_by entries) name)) (bytes_eq_sym (string_bytes entry.0) name)
+        ap (λ b. cond b (Some entry.1.items) (text_at (texts_by entries) name)) (bytes_eq-sym (string_bytes entry.0) name)
         ∙ of_one (bytes_eq name (string_bytes entry.0)) entry.1 (text_at (texts_by entries) name) (lookup (λ key. bytes_eq name (string_bytes key)) entries) (all_seen entries)
 
 -- what is added to a table is seen of it
@@ -39,7 +41,7 @@ pub text_added : {S : Type 0} (old new : HashMap (String Global) (Vec ℕ Global
     → text_at (texts_by new.entries) name ≡ option_or (text_at (texts_by old.entries) name) (text_at ((more, text.items) ∷ []) name)
 text_added old new more text name e =
     seen_text new name ∙ (ap (option_map (λ t. t.items)) e ∙ (by (get_by_text old name) (bytes_eq name more)
-    ∙ (ap (λ b. option_or (option_map (λ t. t.items) (get_by_text old name)) (cond b (Some text.items) None)) (bytes_eq_sym name more)
+    ∙ (ap (λ b. option_or (option_map (λ t. t.items) (get_by_text old name)) (cond b (Some text.items) None)) (bytes_eq-sym name more)
     ∙ ap (λ o. option_or o (text_at ((more, text.items) ∷ []) name)) (sym (seen_text old name)))))
   where
     by : (o : Option (Vec ℕ Global)) (b : Bool) → option_map (λ t. t.items) (or_if o b text) ≡ option_or (option_map (λ t. t.items) o) (cond b (Some text.items) None)
@@ -57,17 +59,9 @@ or_none : (o : Option (List ℕ)) → option_or o None ≡ o
 or_none (Some t) = refl
 or_none None = refl
 
-or_false : (b : Bool) → (b || false) ≡ b
-or_false true = refl
-or_false false = refl
-
 or_assoc : (a b c : Bool) → (a || (b || c)) ≡ ((a || b) || c)
 or_assoc true b c = refl
 or_assoc false b c = refl
-
-has_push : (names : List (List ℕ)) (more name : List ℕ) → has_name (names ++ more ∷ []) name ≡ (has_name names name || bytes_eq name more)
-has_push [] more name = or_false (bytes_eq name more)
-has_push (other ∷ names) more name = ap (λ b. bytes_eq name other || b) (has_push names more name) ∙ or_assoc (bytes_eq name other) (has_name names name) (bytes_eq name more)
 
 -- none is known before
 pub cut_none : (files : Told) → IsCutTo [] files []
@@ -77,7 +71,7 @@ module _ (names : List (List ℕ)) (files cut : Told) (is : IsCutTo names files 
   -- a file that was read before
   pub cut_again : is_some (text_at cut more) ≡ true → IsCutTo (names ++ more ∷ []) files cut
   cut_again known name =
-      is name ∙ (by (has_name names name) (bytes_eq name more) (λ e. ap (has_name names) ((bytes_eq-Decides name more).0 e) ∙ here) ∙ ap (λ b. cond b (text_at files name) None) (sym (has_push names more name)))
+      is name ∙ (by (has_name names name) (bytes_eq name more) (λ e. ap (has_name names) ((bytes_eq-Decides name more).0 e) ∙ here) ∙ ap (λ b. cond b (text_at files name) None) (sym (has_name-push names more name)))
     where
       of_some : (b : Bool) (o : Option (List ℕ)) → is_some (cond b o None) ≡ true → b ≡ true
       of_some true o e = refl
@@ -94,7 +88,7 @@ module _ (names : List (List ℕ)) (files cut : Told) (is : IsCutTo names files 
   -- a file that doesn't exist
   pub cut_missing : None ≡ text_at files more → IsCutTo (names ++ more ∷ []) files cut
   cut_missing none name =
-      is name ∙ (by (has_name names name) (bytes_eq name more) (λ e. none ∙ ap (text_at files) (sym ((bytes_eq-Decides name more).0 e))) ∙ ap (λ b. cond b (text_at files name) None) (sym (has_push names more name)))
+      is name ∙ (by (has_name names name) (bytes_eq name more) (λ e. none ∙ ap (text_at files) (sym ((bytes_eq-Decides name more).0 e))) ∙ ap (λ b. cond b (text_at files name) None) (sym (has_name-push names more name)))
     where
       by : (a b : Bool) → (b ≡ true → None ≡ text_at files name) → cond a (text_at files name) None ≡ cond (a || b) (text_at files name) None
       by true b h = refl
@@ -106,8 +100,8 @@ module _ (names : List (List ℕ)) (files cut : Told) (is : IsCutTo names files 
       → IsCutTo (names ++ more ∷ []) files new
   cut_found text new found added name =
       added name ∙ (ap (λ o. option_or o (text_at ((more, text) ∷ []) name)) (is name)
-      ∙ (ap (λ b. option_or (text_among names files name) (cond b (Some text) None)) (bytes_eq_sym more name)
-      ∙ (by (has_name names name) (bytes_eq name more) (text_at files name) (λ e. found ∙ ap (text_at files) (sym ((bytes_eq-Decides name more).0 e))) ∙ ap (λ b. cond b (text_at files name) None) (sym (has_push names more name)))))
+      ∙ (ap (λ b. option_or (text_among names files name) (cond b (Some text) None)) (bytes_eq-sym more name)
+      ∙ (by (has_name names name) (bytes_eq name more) (text_at files name) (λ e. found ∙ ap (text_at files) (sym ((bytes_eq-Decides name more).0 e))) ∙ ap (λ b. cond b (text_at files name) None) (sym (has_name-push names more name)))))
     where
       by : (a b : Bool) (o : Option (List ℕ)) → (b ≡ true → Some text ≡ o) → option_or (cond a o None) (cond b (Some text) None) ≡ cond (a || b) o None
       by true true o h = first_of_same text o (h refl)
@@ -146,13 +140,9 @@ is_among [] i d low = absurd (omega arith)
 is_among (name ∷ names) zero d low = inl refl
 is_among (name ∷ names) (suc i) d low = inr (is_among names i d (omega arith))
 
-some_of : {X Y : Type 0} (f : X → Y) (o : Option X) → is_some (option_map f o) ≡ is_some o
-some_of f (Some x) = refl
-some_of f None = refl
-
 -- what a table has is seen of it
 pub has_text : {S : Type 0} (m : HashMap (String Global) (Vec ℕ Global) S) (name : List ℕ) → true ≡ is_some (get_by_text m name) → is_some (text_at (texts_by m.entries) name) ≡ true
-has_text m name e = ap is_some (seen_text m name) ∙ (some_of (λ t. t.items) (get_by_text m name) ∙ sym e)
+has_text m name e = ap is_some (seen_text m name) ∙ (is_some-map (λ t. t.items) (get_by_text m name) ∙ sym e)
 
 -- a failed read of one of the names
 pub read_fails_among : (names : List (String Global)) (i : ℕ) (name : String Global) (shown : List ℕ) (fault : Fault) → i < length names → name ≡ get_or names i name → shown ≡ string_bytes name

@@ -1,7 +1,8 @@
 -- Where lines are the answer, they suffice; where a cycle is, nothing does.
-use Rattle.std.proofs.Common.{◌≡◌, ℕ, zero, suc, Bool, true, false, ◌||◌, List, [], ◌∷◌, ◌++◌, Option, Some, None, Result, Ok, Err, inl, inr, refl, sym, ap, subst, ◌∙◌}
+use Rattle.std.proofs.Common.{◌≡◌, ℕ, zero, suc, true, false, ◌||◌, List, [], ◌∷◌, ◌++◌, Option, Some, None, Result, Ok, Err, inl, inr, refl, sym, ap, subst, ◌∙◌}
 use Rattle.std.proofs.lemmas.Slice.Eq.{bytes_eq-Decides}
 use Rattle.std.specs.Str.{bytes_eq}
+use mathlib.Core.Bool.{or-true}
 use Rattle.mk_find.specs.declared.finding.Finding.{Finding}
 use Rattle.mk_build_needs.specs.Laws.{FirstCycleCannotBeMended}
 use Rattle.mk_lines.specs.Names.{has_name}
@@ -32,13 +33,9 @@ use Rattle.mk_core_repair.proofs.Surveys.{survey_accepted, first_surveys}
 
 -- ---- the footprint file is known
 
-or_true : (b : Bool) → (b || true) ≡ true
-or_true true = refl
-or_true false = refl
-
 behind_known : (names more : List (List ℕ)) (name : List ℕ) → has_name more name ≡ true → has_name (names ++ more) name ≡ true
 behind_known [] more name e = e
-behind_known (other ∷ names) more name e = ap (λ b. bytes_eq name other || b) (behind_known names more name e) ∙ or_true (bytes_eq name other)
+behind_known (other ∷ names) more name e = ap (λ b. bytes_eq name other || b) (behind_known names more name e) ∙ or-true (bytes_eq name other)
 
 book_in : (book : Option (List ℕ)) (name : List ℕ) → book ≡ Some name → has_name (book_names book) name ≡ true
 book_in None name e = absurd cc

@@ -36,11 +36,6 @@ pub some_or : {A : Type 0} (a b : Option A) → is_some (option_or a b) ≡ (is_
 some_or None b = refl
 some_or (Some x) b = refl
 
--- a value that is changed is there as before
-pub some_map : {A B : Type 0} (f : A → B) (o : Option A) → is_some (option_map f o) ≡ is_some o
-some_map f None = refl
-some_map f (Some x) = refl
-
 -- an element is found where one passes
 pub some_find : {A : Type 0} (p : A → Bool) (xs : List A) → is_some (find p xs) ≡ list_any p xs
 some_find p [] = refl

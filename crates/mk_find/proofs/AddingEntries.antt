@@ -1,6 +1,8 @@
 -- Entries of a certificate that grow.
 use Rattle.std.proofs.Common.{◌≡◌, ℕ, ◌+◌, ◌<◌, inl, inr, length, length-append, reverse, List, [], ◌∷◌, ◌++◌, get_or, map, take, sym, ap, subst, ◌∙◌, append_assoc, append-nil, arith}
 use Rattle.std.proofs.lemmas.List.{length-map, map_push, nil_from_length, take_more}
+use Rattle.mk_lemmas.proofs.Members.{Has-map}
+use Rattle.mk_graph.proofs.Nodes.{recipe_is_node}
 use Rattle.mk_graph.specs.Membership.{Has}
 use Rattle.mk_cert_text.specs.declared.certificate.Finish.{Finish}
 use Rattle.mk_find.specs.declared.finding.Finding.{Finding}
@@ -14,8 +16,6 @@ use Rattle.mk_subject.specs.Subject.{Subject, reads_of}
 use Rattle.mk_subject.specs.Reads.{Read}
 use Rattle.mk_find.specs.FirstPaths.{IsAlongFirstPath}
 use Rattle.mk_find.proofs.CarriedRecipes.{carried_are_recipes}
-use Rattle.mk_graph.specs.Lists.{has_mapped}
-use Rattle.mk_find.proofs.ReadsOnce.{recipe_is_node}
 use Rattle.mk_find.specs.Certifying.{ReadNeedsWay, IsEntryFor, AreEntriesFor, nothing, entry, none, AddsEntries}
 
 -- the reads of these files by a recipe
@@ -80,4 +80,4 @@ nothing_kept x all old new a empty =
 -- so no read of the recipe is stale
 pub reads_not_stale : ListedExactly → (x : Subject) (t : ℕ) (old new : List Finding) → Adds x (map (λ f. stale t f) (reads_of x t)) old new → new ≡ [] → (f : List ℕ) → Has (reads_of x t) f → ¬ (IsStale x t f)
 reads_not_stale listed x t old new a empty f h stale_it =
-    (listed x (map (λ g. stale t g) (reads_of x t)) [] (nothing_kept x (map (λ g. stale t g) (reads_of x t)) old new a empty) (stale t f)).1 (has_mapped (λ g. stale t g) (reads_of x t) f h, stale_it)
+    (listed x (map (λ g. stale t g) (reads_of x t)) [] (nothing_kept x (map (λ g. stale t g) (reads_of x t)) old new a empty) (stale t f)).1 (Has-map (λ g. stale t g) (reads_of x t) f h, stale_it)

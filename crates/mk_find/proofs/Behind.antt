@@ -1,7 +1,8 @@
 -- What stands behind a number.
-use Rattle.std.proofs.Common.{◌≡◌, ℕ, zero, suc, ◌+◌, ◌<◌, Bool, true, false, cond, List, [], ◌∷◌, length, get_or, drop, add-one, refl, sym, ap, subst, ◌∙◌, inl, inr, arith}
+use Rattle.std.proofs.Common.{◌≡◌, ℕ, zero, suc, ◌+◌, ◌<◌, Bool, true, false, cond, List, [], ◌∷◌, length, get_or, drop, add-one, refl, sym, ap, subst, ◌∙◌, inr, arith}
 use Rattle.std.specs.Prelude.{filter, ◌==◌}
 use Rattle.std.proofs.lemmas.Bool.{true≢false, eqb-true, eq-eqb}
+use Rattle.mk_lemmas.proofs.Members.{Has-get_or}
 use Rattle.mk_graph.specs.Membership.{Has, IsDistinct}
 use Rattle.mk_find.specs.NodeChecks.{behind}
 
@@ -34,12 +35,6 @@ pub behind_filter : (p : ℕ → Bool) (o : ℕ) (ns : List ℕ) → p o ≡ tru
 behind_filter p o [] t = refl
 behind_filter p o (n ∷ ns) t = filter_step p o n ns (n == o) (p n) refl refl t (behind_filter p o ns t)
 
--- what stands behind the number at a place is what is left after that place
-has_at : (ns : List ℕ) (i : ℕ) → i < length ns → Has ns (get_or ns i 0)
-has_at [] i h = absurd (omega arith)
-has_at (n ∷ ns) zero h = inl refl
-has_at (n ∷ ns) (suc i) h = inr (has_at ns i (omega arith))
-
 at_step : (n o : ℕ) (ns rest : List ℕ) (b : Bool) → (n == o) ≡ b → ¬ (n ≡ o) → behind o ns ≡ rest → cond b ns (behind o ns) ≡ rest
 at_step n o ns rest true e differ more = absurd (differ (eqb-true n o e))
 at_step n o ns rest false e differ more = more
@@ -48,7 +43,7 @@ pub behind_at : (ns : List ℕ) (i : ℕ) → IsDistinct ns → i < length ns �
 behind_at [] i distinct h = absurd (omega arith)
 behind_at (n ∷ ns) zero distinct h = rw (eq-eqb n n refl) refl
 behind_at (n ∷ ns) (suc i) distinct h =
-    at_step n (get_or ns i 0) ns (drop (suc i) ns) (n == get_or ns i 0) refl (λ same. distinct.0 (subst (λ (k : ℕ). Has ns k) (sym same) (has_at ns i (omega arith)))) (behind_at ns i distinct.1 (omega arith))
+    at_step n (get_or ns i 0) ns (drop (suc i) ns) (n == get_or ns i 0) refl (λ same. distinct.0 (subst (λ (k : ℕ). Has ns k) (sym same) (Has-get_or ns i 0 (omega arith)))) (behind_at ns i distinct.1 (omega arith))
 
 pub behind_after : (ns : List ℕ) (i : ℕ) → IsDistinct ns → i < length ns → behind (get_or ns i 0) ns ≡ drop (i + 1) ns
 behind_after ns i distinct low = rw add-one (behind_at ns i distinct low)

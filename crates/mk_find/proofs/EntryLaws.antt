@@ -1,6 +1,7 @@
 -- Entries of certificates: there is one for each read, and none is longer than a path.
 use Rattle.std.proofs.Common.{◌≡◌, ℕ, List, [], ◌∷◌, length, map, inl, inr, refl, sym, ◌∙◌, ap, subst, arith}
 use Rattle.std.proofs.lemmas.List.{length-map}
+use Rattle.mk_graph.proofs.Nodes.{recipe_is_node}
 use Rattle.mk_build.specs.BuildLaws.{NamesHaveOneNumber}
 use Rattle.mk_graph.specs.Membership.{Has}
 use Rattle.mk_graph_search.specs.Ways.{along}
@@ -10,7 +11,7 @@ use Rattle.mk_subject.specs.Reads.{Read}
 use Rattle.mk_find.specs.Certifying.{IsEntryFor, AreEntriesFor, nothing, entry, none, reads_once, ReadNeedsWay}
 use Rattle.mk_find.specs.FirstPaths.{IsPathOver}
 use Rattle.mk_find.specs.WayLaws.{FirstPathIsOne, FirstPathIsShortest, CertificateIsOne, CertificateIsShortest, EntriesAreShortest}
-use Rattle.mk_find.proofs.ReadsOnce.{reader_is_recipe, recipe_is_node}
+use Rattle.mk_find.proofs.ReadsOnce.{reader_is_recipe}
 use Rattle.mk_find.proofs.Turned.{length_turned}
 
 -- there is one entry for a read

@@ -10,7 +10,6 @@ pub mod FirstOf
 pub mod FirstPaths
 pub mod FirstFound
 pub mod Lists
-pub mod Members
 pub mod NothingFound
 pub mod Noting
 pub mod OwnReads

@@ -1,12 +1,12 @@
 -- Whether a read is stale, by the paths that lead to the file.
-use Rattle.std.proofs.Common.{◌≡◌, ◌<◌, ℕ, zero, suc, ◌∷◌, get_or, inl, inr, arith, map, String, Global, true, false, cond, List, [], length, Option, Some, None, MatchOption, is_some, Bool, ap, refl, sym, subst, ◌∙◌}
+use Rattle.std.proofs.Common.{◌≡◌, ◌<◌, ℕ, arith, map, String, Global, true, false, cond, List, [], length, Option, Some, None, MatchOption, is_some, Bool, ap, refl, sym, subst, ◌∙◌}
 use Rattle.std.specs.String.{string_bytes}
 use Rattle.std.proofs.lemmas.List.{length-map}
 use Rattle.std.proofs.lemmas.Bool.{false≢true}
+use Rattle.mk_subject.proofs.Entries.{same_reads}
+use Rattle.mk_graph.proofs.Nodes.{recipe_is_node}
 use Rattle.mk_lines.specs.Names.{once}
-use Rattle.mk_foot.specs.Book.{Record}
 use Rattle.mk_foot.specs.Setting as foot
-use Rattle.mk_graph.specs.declared.node.Node.{Node}
 use Rattle.mk_graph.specs.Graph.{IsGraph, node}
 use Rattle.mk_graph.specs.Membership.{Has}
 use Rattle.mk_build.specs.Ways.{CanChange}
@@ -17,19 +17,10 @@ use Rattle.mk_subject.specs.NodeRow.{NodeRow, IsEntry, reads_in, entry_reads}
 use Rattle.mk_find.specs.FindingLaws.{NothingFoundIsSound}
 use Rattle.mk_subject.specs.Laws.{PathsAreWays}
 use Rattle.mk_find.specs.Listing.{Lists}
-use Rattle.mk_subject.specs.Subject.{Subject, IsSubject, footprints, name_of, reads_of, writes_of}
+use Rattle.mk_subject.specs.Subject.{Subject, IsSubject, footprints, reads_of, writes_of}
 use Rattle.mk_find.specs.declared.first_path.FirstPath.{FirstPath}
 use Rattle.mk_find.specs.FirstPaths.{IsAlongFirstPath, HasNoPath}
-use Rattle.mk_find.proofs.ReadsOnce.{recipe_is_node, reader_is_recipe}
-
--- what is looked up of the reads of a record is what the setting says
-reads_by : (s : foot.Setting) (name : List ℕ) (r : Option Record) → foot.record_for s.records name ≡ r → reads_in r ≡ foot.reads s name
-reads_by s name None e = rw e refl
-reads_by s name (Some r) e = rw e refl
-
--- so an entry reads what the recipe of its node does
-pub same_reads : (x : Subject) (e : NodeRow) → IsEntry x e → entry_reads e ≡ reads_of x e.number
-same_reads x e is = ap (λ (n : Node). cond n.recipe (reads_in e.recorded) []) is.same_node ∙ ap (λ fs. cond (node x.graph e.number).recipe fs []) (reads_by x.setting (name_of x e.number) e.recorded (sym is.same_record))
+use Rattle.mk_find.proofs.ReadsOnce.{reader_is_recipe}
 
 -- and no file twice
 pub reads_distinct : (x : Subject) (e : NodeRow) → IsEntry x e → once (reads_of x e.number) ≡ reads_of x e.number
@@ -48,8 +39,8 @@ pub place_is : (e : NodeRow) (files : List (String Global)) (i : ℕ) → map st
 place_is e files i same lt = omega (arith, length-map files string_bytes, ap (λ (l : List (List ℕ)). length l) same)
 
 -- who reads is a node
-pub reader_low : (x : Subject) (t : ℕ) (f : List ℕ) → Has (reads_of x t) f → t < length x.graph.nodes
-reader_low x t f h = recipe_is_node x.graph t (reader_is_recipe x t f h)
+pub reader_is_node : (x : Subject) (t : ℕ) (f : List ℕ) → Has (reads_of x t) f → t < length x.graph.nodes
+reader_is_node x t f h = recipe_is_node x.graph t (reader_is_recipe x t f h)
 
 -- it doesn't write what it reads
 pub reader_writes_not : NothingFoundIsSound → (x : Subject) → IsGraph x.graph → IsSubject x → Lists x (static_candidates x) [] → (t : ℕ) (f : List ℕ) → Has (reads_of x t) f → ¬ (Has (writes_of x t) f)
@@ -71,9 +62,3 @@ some_not_stale ways x f t (Some p) m e = path_not_stale ways x f t p.nodes.items
 pub none_is_none : (x : Subject) (f : List ℕ) (t : ℕ) (o : Option FirstPath) → MatchOption o (HasNoPath x f t) (λ p. IsAlongFirstPath x f t p.nodes.items p.finish) → is_some o ≡ false → HasNoPath x f t
 none_is_none x f t None m e = m
 none_is_none x f t (Some p) m e = absurd (false≢true (sym e))
-
--- a file at its place stands among the files
-pub at_place : (files : List (List ℕ)) (i : ℕ) (d : List ℕ) → i < length files → Has files (get_or files i d)
-at_place [] i d h = absurd (omega arith)
-at_place (f ∷ files) zero d h = inl refl
-at_place (f ∷ files) (suc i) d h = inr (at_place files i d (omega arith))

@@ -3,6 +3,7 @@ use Rattle.std.proofs.Common.{◌≡◌, ℕ, ◌<◌, List, [], length, map, Op
 use Rattle.std.specs.Prelude.{bytes_eq, option_to_list, Ok}
 use Rattle.std.proofs.lemmas.Bool.{cases_Bool, true≢false}
 use Rattle.std.proofs.lemmas.Slice.Eq.{bytes_eq-Decides}
+use Rattle.mk_lemmas.proofs.Members.{Has-flat_map, Has-map}
 use Rattle.mk_graph.specs.Membership.{Has}
 use Rattle.mk_graph.specs.Graph.{IsGraph}
 use Rattle.mk_graph.specs.Laws.{SerialReachesEachOnce}
@@ -14,7 +15,6 @@ use Rattle.mk_subject.specs.Subject.{Subject, IsSubject, name_of, all_writes}
 use Rattle.mk_find.specs.Candidates.{Candidate, selection, by_node, by_number, choice_with_writes, static_candidates}
 use Rattle.mk_find.specs.FindingLaws.{PartsStay}
 use Rattle.mk_find.specs.Listing.{Lists}
-use Rattle.mk_graph.specs.Lists.{has_mapped, joined_to}
 use Rattle.mk_find.proofs.Lists.{holding_listed}
 use Rattle.mk_subject.proofs.InOrder.{in_order}
 use Rattle.mk_find.proofs.Sound.{found_by_node}
@@ -36,8 +36,8 @@ module _ (x : Subject) (is : IsGraph x.graph) (subject : IsSubject x) (reaches :
   stands : (n : ℕ) (c : List ℕ) → n < length x.graph.nodes → with_all n ≡ Some c → Has (static_candidates x) (selection n c)
   stands n c low chosen =
       let there : Has (choice_with_writes x n) c = subst (λ (o : Option (List ℕ)). Has (option_to_list o) c) (sym chosen) (inl refl) in
-      let found = found_by_node x is reaches (λ k. map (λ d. selection k d) (choice_with_writes x k)) n (selection n c) (in_order x is reaches n low) (has_mapped (λ d. selection n d) (choice_with_writes x n) c there) in
-      joined_to (λ (part : List Candidate). part) (by_number x) (by_node x (λ k. map (λ d. selection k d) (choice_with_writes x k))) (selection n c) (inr (inr (inr (inr (inr (inr (inr (inr (inr (inl refl)))))))))) found
+      let found = found_by_node x is reaches (λ k. map (λ d. selection k d) (choice_with_writes x k)) n (selection n c) (in_order x is reaches n low) (Has-map (λ d. selection n d) (choice_with_writes x n) c there) in
+      Has-flat_map (λ (part : List Candidate). part) (by_number x) (by_node x (λ k. map (λ d. selection k d) (choice_with_writes x k))) (selection n c) (inr (inr (inr (inr (inr (inr (inr (inr (inr (inl refl)))))))))) found
 
   -- what is chosen without writes, as the candidate has it
   same_without : (n : ℕ) → without n ≡ choice x.makefile x.there (name_of x n)

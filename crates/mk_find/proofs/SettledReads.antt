@@ -1,7 +1,8 @@
 -- What is found of reads of settled files: nothing. And the places of those that aren't settled.
-use Rattle.std.proofs.Common.{◌≡◌, ℕ, ◌<◌, ◌≤◌, List, [], ◌∷◌, Bool, true, false, length, get_or, map, drop, cond, inl, inr, refl, sym, ap, subst, ◌∙◌, ⊎_elim, arith}
-use Rattle.std.specs.Prelude.{filter, not}
+use Rattle.std.proofs.Common.{◌≡◌, ℕ, ◌<◌, ◌≤◌, List, [], length, get_or, map, drop, refl, sym, ap, subst, ◌∙◌, ⊎_elim, arith}
+use Rattle.std.specs.Prelude.{not}
 use Rattle.std.proofs.lemmas.Bool.{true≢false}
+use Rattle.mk_lemmas.proofs.Members.{Has-from_filter, Has-get_or}
 use Rattle.mk_lines.specs.Names.{has_name}
 use Rattle.mk_graph.specs.Graph.{IsGraph}
 use Rattle.mk_graph.specs.Laws.{SerialReachesEachOnce}
@@ -17,7 +18,6 @@ use Rattle.mk_subject.specs.Settled.{is_settled}
 use Rattle.mk_subject.specs.Target.{Target, target_of, unsettled_of}
 use Rattle.mk_find.proofs.Adding.{drop_past, lists_lifted}
 use Rattle.mk_subject.proofs.Decided.{has_decides}
-use Rattle.mk_subject.proofs.FileDecided.{at_place}
 use Rattle.mk_find.proofs.FileDecided.{not_own}
 use Rattle.mk_subject.proofs.SettledReads.{IsSettled, OpenAt}
 
@@ -37,19 +37,9 @@ module _ (x : Subject) (f : List ℕ) (is : IsSettled (known_of x f)) where
   pub cannot_change : ¬ (CanChange (footprints x.setting) f)
   cannot_change h = ⊎_elim (λ e. true≢false (sym e ∙ is.fixed)) (λ g. true≢false (sym is.given ∙ g)) h
 
--- what is kept of files is one of them
-kept_step : (p : List ℕ → Bool) (f : List ℕ) (files : List (List ℕ)) (g : List ℕ) (b : Bool) → (Has (filter p files) g → Has files g) → Has (cond b (f ∷ filter p files) (filter p files)) g → Has (f ∷ files) g
-kept_step p f files g true more (inl here) = inl here
-kept_step p f files g true more (inr there) = inr (more there)
-kept_step p f files g false more there = inr (more there)
-
-kept_in : (p : List ℕ → Bool) (files : List (List ℕ)) (g : List ℕ) → Has (filter p files) g → Has files g
-kept_in p [] g h = h
-kept_in p (f ∷ files) g h = kept_step p f files g (p f) (kept_in p files g) h
-
 -- what isn't settled at a place is a file that the recipe reads
 pub unsettled_read : (x : Subject) (t i : ℕ) → i < length (unsettled_of x t) → Has (reads_of x t) (get_or (unsettled_of x t) i [])
-unsettled_read x t i low = kept_in (λ f. not (is_settled (known_of x f))) (reads_of x t) (get_or (unsettled_of x t) i []) (at_place (unsettled_of x t) i [] low)
+unsettled_read x t i low = (Has-from_filter (λ f. not (is_settled (known_of x f))) (reads_of x t) (get_or (unsettled_of x t) i []) (Has-get_or (unsettled_of x t) i [] low)).0
 
 pub open_at : (x : Subject) (n t i count : ℕ) (target : Target) → n ≡ t → count ≡ length (unsettled_of x n) → i < count → target ≡ target_of x (get_or (unsettled_of x n) i []) → OpenAt x t i target
 open_at x n t i count target number many lt is =

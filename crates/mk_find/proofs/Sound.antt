@@ -5,6 +5,7 @@ use Rattle.std.specs.List.{flat_map}
 use Rattle.std.proofs.lemmas.Bool.{cases_Bool, cases_eq, cases_lt, true≢false}
 use Rattle.std.proofs.lemmas.List.{get_or-map, get_or_past, length-map}
 use Rattle.std.proofs.lemmas.Slice.Eq.{bytes_eq-Decides}
+use Rattle.mk_lemmas.proofs.Members.{Has-flat_map, Has-map, cases_Has}
 use Rattle.mk_lines.specs.Names.{has_name}
 use Rattle.mk_graph.specs.declared.node.Node.{Node}
 use Rattle.mk_graph.specs.Membership.{Has}
@@ -21,7 +22,6 @@ use Rattle.mk_find.specs.Candidates.{Candidate, IsFinding, no_record, no_target,
 use Rattle.mk_find.specs.Listing.{Lists}
 use Rattle.mk_find.proofs.Lists.{nothing_holds}
 use Rattle.mk_subject.proofs.InOrder.{in_order, recipe_is_node, writer_in_order, reader_in_order}
-use Rattle.mk_graph.specs.Lists.{has_mapped, joined_to}
 use Rattle.mk_find.proofs.PairMembers.{pair_stands}
 
 -- a name stands in a list or doesn't
@@ -30,21 +30,16 @@ cases_among [] f = inr (λ h. h)
 cases_among (k ∷ files) f =
     ⊎_elim (λ here. inl (inl ((bytes_eq-Decides k f).0 here))) (λ differ. ⊎_elim (λ there. inl (inr there)) (λ out. inr (λ h. ⊎_elim (λ same. true≢false (sym ((bytes_eq-Decides k f).1 same) ∙ differ)) out h)) (cases_among files f)) (cases_Bool (bytes_eq k f))
 
--- a number stands in a list or doesn't
-cases_number : (ns : List ℕ) (n : ℕ) → Has ns n ⊎ (¬ (Has ns n))
-cases_number [] n = inr (λ h. h)
-cases_number (m ∷ ns) n = ⊎_elim (λ same. inl (inl same)) (λ differ. ⊎_elim (λ there. inl (inr there)) (λ out. inr (λ h. ⊎_elim differ out h)) (cases_number ns n)) (cases_eq m n)
-
 module _ (x : Subject) (is : IsGraph x.graph) (reaches : SerialReachesEachOnce) where
   -- what a node may be found for
   pub found_by_node : (found : ℕ → List Candidate) (n : ℕ) (c : Candidate) → Has (serial_order x.graph) n → Has (found n) c → Has (by_node x found) c
-  found_by_node found n c stands h = joined_to found (serial_order x.graph) n c stands h
+  found_by_node found n c stands h = Has-flat_map found (serial_order x.graph) n c stands h
 
   -- a race may be found
   race_stands : (t o : ℕ) (f : List ℕ) → Has (reads_of x t) f → Has (writes_of x o) f → Has (race_candidates x) (race t o f)
   race_stands t o f read wrote =
       let others = λ (h : List ℕ). map (λ n. race t n h) (serial_order x.graph) in
-      found_by_node (λ k. flat_map (λ h. map (λ n. race k n h) (serial_order x.graph)) (reads_of x k)) t (race t o f) (reader_in_order x is reaches t f read) (joined_to others (reads_of x t) f (race t o f) read (has_mapped (λ n. race t n f) (serial_order x.graph) o (writer_in_order x is reaches o f wrote)))
+      found_by_node (λ k. flat_map (λ h. map (λ n. race k n h) (serial_order x.graph)) (reads_of x k)) t (race t o f) (reader_in_order x is reaches t f read) (Has-flat_map others (reads_of x t) f (race t o f) read (Has-map (λ n. race t n f) (serial_order x.graph) o (writer_in_order x is reaches o f wrote)))
 
   -- where none is found, there is none
   pub no_race_found : BeforeIsDecided → Lists x (race_candidates x) [] → HaveNoRace x.graph (footprints x.setting)
@@ -75,25 +70,25 @@ module _ (x : Subject) (is : IsGraph x.graph) (subject : IsSubject x) (reaches :
 
   -- where the candidates of a number stand
   at_no_record : (c : Candidate) → Has (by_node x (λ t. no_record t ∷ [])) c → Has (static_candidates x) c
-  at_no_record c h = joined_to (λ (part : List Candidate). part) (by_number x) (by_node x (λ t. no_record t ∷ [])) c (inl refl) h
+  at_no_record c h = Has-flat_map (λ (part : List Candidate). part) (by_number x) (by_node x (λ t. no_record t ∷ [])) c (inl refl) h
 
   at_no_target : (c : Candidate) → Has (by_node x (λ t. no_target t ∷ [])) c → Has (static_candidates x) c
-  at_no_target c h = joined_to (λ (part : List Candidate). part) (by_number x) (by_node x (λ t. no_target t ∷ [])) c (inr (inr (inr (inl refl)))) h
+  at_no_target c h = Has-flat_map (λ (part : List Candidate). part) (by_number x) (by_node x (λ t. no_target t ∷ [])) c (inr (inr (inr (inl refl)))) h
 
   at_two_writers : (c : Candidate) → Has (pairs_of_writers x (serial_order x.graph)) c → Has (static_candidates x) c
-  at_two_writers c h = joined_to (λ (part : List Candidate). part) (by_number x) (pairs_of_writers x (serial_order x.graph)) c (inr (inr (inr (inr (inl refl))))) h
+  at_two_writers c h = Has-flat_map (λ (part : List Candidate). part) (by_number x) (pairs_of_writers x (serial_order x.graph)) c (inr (inr (inr (inr (inl refl))))) h
 
   at_given : (c : Candidate) → Has (by_node x (λ t. map (λ f. given_written t f) (writes_of x t))) c → Has (static_candidates x) c
-  at_given c h = joined_to (λ (part : List Candidate). part) (by_number x) (by_node x (λ t. map (λ f. given_written t f) (writes_of x t))) c (inr (inr (inr (inr (inr (inl refl)))))) h
+  at_given c h = Has-flat_map (λ (part : List Candidate). part) (by_number x) (by_node x (λ t. map (λ f. given_written t f) (writes_of x t))) c (inr (inr (inr (inr (inr (inl refl)))))) h
 
   at_own : (c : Candidate) → Has (by_node x (λ t. map (λ f. own_read t f) (reads_of x t))) c → Has (static_candidates x) c
-  at_own c h = joined_to (λ (part : List Candidate). part) (by_number x) (by_node x (λ t. map (λ f. own_read t f) (reads_of x t))) c (inr (inr (inr (inr (inr (inr (inl refl))))))) h
+  at_own c h = Has-flat_map (λ (part : List Candidate). part) (by_number x) (by_node x (λ t. map (λ f. own_read t f) (reads_of x t))) c (inr (inr (inr (inr (inr (inr (inl refl))))))) h
 
   at_unknown : (c : Candidate) → Has (by_node x (λ t. map (λ f. unknown_read t f) (reads_of x t))) c → Has (static_candidates x) c
-  at_unknown c h = joined_to (λ (part : List Candidate). part) (by_number x) (by_node x (λ t. map (λ f. unknown_read t f) (reads_of x t))) c (inr (inr (inr (inr (inr (inr (inr (inl refl)))))))) h
+  at_unknown c h = Has-flat_map (λ (part : List Candidate). part) (by_number x) (by_node x (λ t. map (λ f. unknown_read t f) (reads_of x t))) c (inr (inr (inr (inr (inr (inr (inr (inl refl)))))))) h
 
   at_loose : (c : Candidate) → Has (by_node x (λ n. map (λ o. loose n o) (serial_order x.graph))) c → Has (static_candidates x) c
-  at_loose c h = joined_to (λ (part : List Candidate). part) (by_number x) (by_node x (λ n. map (λ o. loose n o) (serial_order x.graph))) c (inr (inr (inr (inr (inr (inr (inr (inr (inl refl))))))))) h
+  at_loose c h = Has-flat_map (λ (part : List Candidate). part) (by_number x) (by_node x (λ n. map (λ o. loose n o) (serial_order x.graph))) c (inr (inr (inr (inr (inr (inr (inr (inr (inl refl))))))))) h
 
   -- a recipe has a record
   has_record : (t : ℕ) → (node x.graph t).recipe ≡ true → (r : Record) × (record_of x t ≡ Some r)
@@ -123,7 +118,7 @@ module _ (x : Subject) (is : IsGraph x.graph) (subject : IsSubject x) (reaches :
   -- what is written is neither given nor phony
   given_stands : (t : ℕ) (f : List ℕ) → Has (writes_of x t) f → Has (static_candidates x) (given_written t f)
   given_stands t f wrote =
-      at_given (given_written t f) (found_by_node x is reaches (λ k. map (λ h. given_written k h) (writes_of x k)) t (given_written t f) (writer_in_order x is reaches t f wrote) (has_mapped (λ h. given_written t h) (writes_of x t) f wrote))
+      at_given (given_written t f) (found_by_node x is reaches (λ k. map (λ h. given_written k h) (writes_of x k)) t (given_written t f) (writer_in_order x is reaches t f wrote) (Has-map (λ h. given_written t h) (writes_of x t) f wrote))
 
   not_given : (t : ℕ) (f : List ℕ) → Has (writes_of x t) f → is_given x.setting f ≡ false
   not_given t f wrote = ⊎_elim (λ e. absurd (holds_not (given_written t f) (given_stands t f wrote) (wrote, inl e))) (λ e. e) (cases_Bool (is_given x.setting f))
@@ -139,7 +134,7 @@ module _ (x : Subject) (is : IsGraph x.graph) (subject : IsSubject x) (reaches :
   -- no recipe reads what it writes
   not_own : (t : ℕ) (f : List ℕ) → Has (reads_of x t) f → ¬ (Has (writes_of x t) f)
   not_own t f read wrote =
-      holds_not (own_read t f) (at_own (own_read t f) (found_by_node x is reaches (λ k. map (λ h. own_read k h) (reads_of x k)) t (own_read t f) (reader_in_order x is reaches t f read) (has_mapped (λ h. own_read t h) (reads_of x t) f read))) (read, wrote)
+      holds_not (own_read t f) (at_own (own_read t f) (found_by_node x is reaches (λ k. map (λ h. own_read k h) (reads_of x k)) t (own_read t f) (reader_in_order x is reaches t f read) (Has-map (λ h. own_read t h) (reads_of x t) f read))) (read, wrote)
 
   -- among these nodes one writes the file or none does
   cases_writer : (f : List ℕ) (ns : List ℕ) → ((o : ℕ) × Has (writes_of x o) f) ⊎ ((o : ℕ) → Has ns o → ¬ (Has (writes_of x o) f))
@@ -154,7 +149,7 @@ module _ (x : Subject) (is : IsGraph x.graph) (subject : IsSubject x) (reaches :
       (λ no_writer. absurd (holds_not (unknown_read t f)
       (at_unknown (unknown_read t f) (found_by_node x is reaches
       (λ k. map (λ h. unknown_read k h) (reads_of x k)) t (unknown_read t f)
-      (reader_in_order x is reaches t f read) (has_mapped (λ h. unknown_read t h) (reads_of x t) f read)))
+      (reader_in_order x is reaches t f read) (Has-map (λ h. unknown_read t h) (reads_of x t) f read)))
       (read, not, λ o wrote. no_writer o (writer_in_order x is reaches o f wrote) wrote)))
       (cases_writer f (serial_order x.graph))) (cases_Bool (is_given x.setting f))
 
@@ -163,9 +158,9 @@ module _ (x : Subject) (is : IsGraph x.graph) (subject : IsSubject x) (reaches :
   not_loose n o low no_recipe wrote =
       ⊎_elim (λ h. h) (λ out. absurd (holds_not (loose n o)
       (at_loose (loose n o) (found_by_node x is reaches (λ k. map (λ j. loose k j) (serial_order x.graph))
-      n (loose n o) (in_order x is reaches n low) (has_mapped (λ j. loose n j) (serial_order x.graph) o
+      n (loose n o) (in_order x is reaches n low) (Has-map (λ j. loose n j) (serial_order x.graph) o
       (writer_in_order x is reaches o (name_of x n) wrote)))) (no_recipe, wrote, out)))
-      (cases_number (prerequisites x.graph n) o)
+      (cases_Has (prerequisites x.graph n) o)
 
   -- all of it
   pub footprints_are_sound : AreSound x.graph (footprints x.setting)

@@ -4,12 +4,14 @@ use Rattle.std.proofs.Common.{◌≡◌, ℕ, ◌+◌, ◌<◌, ◌≤◌, Optio
 use Rattle.std.specs.List.{list_any}
 use Rattle.std.specs.Str.{bytes_eq}
 use Rattle.std.proofs.Math.Nat.{eq-or-lt_of_le, min-le_left, min-le_right}
-use Rattle.std.proofs.lemmas.Bool.{false≢true, cases_lt, or_cases, or_left, or_right, false_from_ne_true}
+use Rattle.std.proofs.lemmas.Bool.{false≢true, cases_lt, or_cases, or_left, or_right, false_from_ne_true, and_parts}
 use Rattle.std.proofs.lemmas.Slice.Eq.{bytes_eq-Decides}
+use Rattle.mk_lemmas.proofs.Members.{Has-cases, Has-filter, Has-from_then}
+use Rattle.mk_graph.proofs.Nodes.{recipe_is_node}
+use Rattle.mk_lines.proofs.NameTests.{Has-from_has_name, has_name-from_Has}
 use Rattle.mk_lines.specs.Names.{has_name}
 use Rattle.mk_graph.specs.Graph.{IsGraph, node, prerequisites}
 use Rattle.mk_graph.specs.Laws.{SerialReachesEachOnce}
-use Rattle.mk_graph.specs.Lists.{has_cases}
 use Rattle.mk_graph.specs.Membership.{Has}
 use Rattle.mk_graph.specs.Serial.{serial_order}
 use Rattle.mk_build.specs.Setting.{is_editable}
@@ -23,19 +25,6 @@ use Rattle.mk_subject.specs.NodeRow.{writers_of}
 use Rattle.mk_subject.specs.Subject.{Subject, footprints, name_of, writes_of}
 use Rattle.mk_find.specs.FirstPaths.{AlwaysNoneBefore, EndsNoneBefore, MayEnd, IsFirstFinish, IsAlongFirstPath, HasNoPath}
 use Rattle.mk_find.proofs.FirstPaths.{HasFinish, found_first, none_found}
-use Rattle.mk_find.proofs.Members.{kept_to}
-use Rattle.mk_find.proofs.ReadsOnce.{has_recipe, recipe_is_node}
-
--- a name that stands in a list is found
-pub found : (files : List (List ℕ)) (f : List ℕ) → Has files f → has_name files f ≡ true
-found [] f h = absurd h
-found (k ∷ files) f (inl here) = or_left (bytes_eq f k) (has_name files f) ((bytes_eq-Decides f k).1 (sym here))
-found (k ∷ files) f (inr there) = or_right (bytes_eq f k) (has_name files f) (found files f there)
-
--- and what is found stands there
-pub stands : (files : List (List ℕ)) (f : List ℕ) → has_name files f ≡ true → Has files f
-stands [] f e = absurd (false≢true e)
-stands (k ∷ files) f e = elim (or_cases (bytes_eq f k) (has_name files f) e) [ inl here ↦ inl (sym ((bytes_eq-Decides f k).0 here)) | inr there ↦ inr (stands files f there) ]
 
 -- some number of a list passes
 pub some_passes : (test : ℕ → Bool) (ns : List ℕ) (n : ℕ) → Has ns n → test n ≡ true → list_any test ns ≡ true
@@ -47,11 +36,6 @@ some_passes test (m ∷ ns) n (inr there) e = or_right (test m) (list_any test n
 pub which_passes : (test : ℕ → Bool) (ns : List ℕ) → list_any test ns ≡ true → (n : ℕ) × Has ns n × (test n ≡ true)
 which_passes test [] e = absurd (false≢true e)
 which_passes test (m ∷ ns) e = elim (or_cases (test m) (list_any test ns) e) [ inl here ↦ (m, inl refl, here) | inr there ↦ (let at = which_passes test ns there in (at.0, inr at.1, at.2)) ]
-
--- both of two tests
-both_from : (a b : Bool) → (a && b) ≡ true → (a ≡ true) × (b ≡ true)
-both_from true b e = (refl, e)
-both_from false b e = absurd (false≢true e)
 
 -- the tests for the finishes
 needs : Subject → List ℕ → ℕ → Bool
@@ -67,7 +51,7 @@ may_end x f n = has_name (writes_of x n) f || ((is_editable (footprints x.settin
 -- it says yes where there is a finish
 pub says_yes : (x : Subject) (f : List ℕ) (n : ℕ) → HasFinish x f n → may_end x f n ≡ true
 unfolding may_end needs always
-says_yes x f n (Written, wrote) = or_left (has_name (writes_of x n) f) _ (found (writes_of x n) f wrote)
+says_yes x f n (Written, wrote) = or_left (has_name (writes_of x n) f) _ (has_name-from_Has (writes_of x n) f wrote)
 says_yes x f n (Source, is) =
     let need = some_passes (λ p. bytes_eq f (name_of x p)) (prerequisites x.graph n) is.1.0 is.1.1 ((bytes_eq-Decides f (name_of x is.1.0)).1 (sym is.1.2)) in
     or_right (has_name (writes_of x n) f) _ (or_left (is_editable (footprints x.setting) f && needs x f n) (always x n) (both_true (is_editable (footprints x.setting) f) (needs x f n) is.0 need))
@@ -88,13 +72,13 @@ pub finish_from : (x : Subject) (f : List ℕ) (n : ℕ) → may_end x f n ≡ t
 unfolding may_end needs always
 finish_from x f n e =
     elim (or_cases (has_name (writes_of x n) f) _ e) [
-      | inl wrote ↦ (Written, stands (writes_of x n) f wrote)
+      | inl wrote ↦ (Written, Has-from_has_name (writes_of x n) f wrote)
       | inr other ↦ elim (or_cases (is_editable (footprints x.setting) f && needs x f n) (always x n) other) [
         | inl source ↦ (let at = which_passes (λ p. bytes_eq f (name_of x p)) (prerequisites x.graph n)
-            (both_from (is_editable (footprints x.setting) f) (needs x f n) source).1 in (
+            (and_parts (is_editable (footprints x.setting) f) (needs x f n) source).1 in (
               Source,
               (
-                (both_from (is_editable (footprints x.setting) f) (needs x f n) source).0,
+                (and_parts (is_editable (footprints x.setting) f) (needs x f n) source).0,
                 (at.0, at.1, sym ((bytes_eq-Decides f (name_of x at.0)).0 at.2)),
               ),
             ))
@@ -139,9 +123,9 @@ says_no x f t place before j low way stands =
 -- who writes a file is among its writers
 pub writer_there : SerialReachesEachOnce → (x : Subject) → IsGraph x.graph → (f : List ℕ) (n : ℕ) → Has (writes_of x n) f → Has (writers_of x f) n
 writer_there serial x is f n wrote =
-    let low = recipe_is_node x.graph n (has_recipe (node x.graph n).recipe _ f wrote) in
+    let low = recipe_is_node x.graph n ((Has-from_then (node x.graph n).recipe _ f wrote).0) in
     let in_order : Has (serial_order x.graph) n = ((serial x.graph is.no_cycle).1 n).1 (is.sound.reached n low) in
-    kept_to (λ o. has_name (writes_of x o) f) (serial_order x.graph) n in_order (found (writes_of x n) f wrote)
+    Has-filter (λ o. has_name (writes_of x o) f) (serial_order x.graph) n in_order (has_name-from_Has (writes_of x n) f wrote)
 
 -- where the file isn't editable, no path to it may end before its writers and what is always made
 pub none_before_writers : SerialReachesEachOnce → (x : Subject) → IsGraph x.graph → (f : List ℕ) (t place passed : ℕ) → is_editable (footprints x.setting) f ≡ false → AlwaysNoneBefore x t passed → place ≤ passed → ((n : ℕ) → Has (writers_of x f) n → IsOutBefore (carried x) t place n) → EndsNoneBefore x f t place
@@ -177,7 +161,7 @@ path_missing carries none x is f t place before few =
 carried_low : CarriedExactly → (x : Subject) → IsGraph x.graph → (n o : ℕ) → Has (carried x n) o → o < length x.graph.nodes
 carried_low carries x is n o h =
     let c = (carries x is n o).0 h in
-    recipe_is_node x.graph o (has_recipe (node x.graph o).recipe _ _ c.2)
+    recipe_is_node x.graph o ((Has-from_then (node x.graph o).recipe _ _ c.2).0)
 
 -- so places are below the number of nodes
 pub place_low : CarriedExactly → PlacesAreBelow → (x : Subject) → IsGraph x.graph → (t place number : ℕ) → t < length x.graph.nodes → EndsAt (carried x) t place number → place < length x.graph.nodes
@@ -218,7 +202,7 @@ out_sooner succ t place sooner n few out k low = out k (omega arith)
 -- of one more recipe
 pub all_out : (succ : ℕ → List ℕ) (t place other : ℕ) (front : List ℕ) (m : ℕ) → ((n : ℕ) → Has front n → IsOutBefore succ t place n) → IsOutBefore succ t other m → (n : ℕ) → Has (front ++ m ∷ []) n → IsOutBefore succ t (min place other) n
 all_out succ t place other front m before here n h =
-    elim (has_cases front (m ∷ []) n h) [
+    elim (Has-cases front (m ∷ []) n h) [
       | inl there ↦ out_sooner succ t place (min place other) n (min-le_left place other) (before n there)
       | inr last ↦ elim last [
         | inl is ↦ subst (λ (o : ℕ). IsOutBefore succ t (min place other) o) is (out_sooner succ t other (min place other) m (min-le_right place other) here)

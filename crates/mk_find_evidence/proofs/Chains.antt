@@ -1,13 +1,12 @@
 -- A search over carried recipes visits just what chains of them lead to.
-use Rattle.std.proofs.Common.{◌≡◌, ℕ, ◌+◌, ◌<◌, ◌≤◌, Option, Some, None, MatchOption, Bool, true, false, cond, List, [], ◌∷◌, ◌++◌, length, ◌⊎◌, inl, inr, ◌↔◌, refl, sym, ◌∙◌, ap, subst, arith}
+use Rattle.std.proofs.Common.{◌≡◌, ℕ, ◌+◌, ◌<◌, ◌≤◌, Option, Some, None, MatchOption, List, [], ◌∷◌, ◌++◌, length, ◌⊎◌, inl, inr, ◌↔◌, refl, sym, ◌∙◌, ap, subst, arith}
 use Rattle.std.specs.Prelude.{nat_eq}
 use Rattle.std.proofs.Math.Nat.{eq-or-lt_of_le}
-use Rattle.std.proofs.lemmas.Bool.{false≢true, false_from_ne_true, cases_eq, cases_lt, eqb-true, eq-eqb}
-use Rattle.std.proofs.lemmas.List.{get_or_past}
-use Rattle.mk_graph.specs.declared.node.Node.{Node}
-use Rattle.mk_graph.specs.Graph.{Graph, no_node, node}
+use Rattle.std.proofs.lemmas.Bool.{false≢true, false_from_ne_true, eqb-true, eq-eqb}
+use Rattle.mk_lemmas.proofs.Members.{Has-from_then, Has-right, cases_Has}
+use Rattle.mk_graph.proofs.Nodes.{recipe_is_node}
+use Rattle.mk_graph.specs.Graph.{Graph, node}
 use Rattle.mk_graph.specs.Membership.{Has}
-use Rattle.mk_graph.specs.Lists.{has_right}
 use Rattle.mk_build.specs.Setting.{Setting, name}
 use Rattle.mk_build.specs.Stale.{Chain, here, further}
 use Rattle.mk_build.specs.Ways.{Carries}
@@ -15,25 +14,9 @@ use Rattle.mk_graph_search.specs.Ways.{end, IsWay, successors}
 use Rattle.mk_graph_search.specs.Places.{SearchInput, StandsAt, EndsAt, HasAtMost}
 use Rattle.mk_graph_search.specs.Laws.{NoneByPlaces, OneWayAtAPlace, PlacesAreBelow, SaysNoBefore}
 
--- what has files is a recipe
-pub has_recipe : (b : Bool) (files : List (List ℕ)) (f : List ℕ) → Has (cond b files []) f → b ≡ true
-has_recipe true files f h = refl
-has_recipe false files f h = absurd h
-
--- a recipe is a node
-pub recipe_is_node : (g : Graph) (n : ℕ) → (node g n).recipe ≡ true → n < length g.nodes
-recipe_is_node g n e =
-    elim (cases_lt n (length g.nodes)) [ inl low ↦ low | inr past ↦ absurd (false≢true (ap (λ (k : Node). k.recipe) (sym (get_or_past g.nodes n no_node past)) ∙ e)) ]
-
--- a number stands in a list or doesn't
-pub stands_or_not : (ns : List ℕ) (n : ℕ) → Has ns n ⊎ (¬ (Has ns n))
-stands_or_not [] n = inr (λ h. h)
-stands_or_not (m ∷ ns) n =
-    elim (cases_eq m n) [ inl e ↦ inl (inl e) | inr differ ↦ elim (stands_or_not ns n) [ inl there ↦ inl (inr there) | inr out ↦ inr (λ h. elim h [ inl e ↦ differ e | inr there ↦ out there ]) ] ]
-
 -- the last of a list stands in it
 last_stands : (ways : List (List ℕ)) (way : List ℕ) → Has (ways ++ way ∷ []) way
-last_stands ways way = has_right ways (way ∷ []) way (inl refl)
+last_stands ways way = Has-right ways (way ∷ []) way (inl refl)
 
 module _ (g : Graph) (s : Setting) (succ : ℕ → List ℕ) where
   -- In the set stands where the ways at all places before this one end; and chains lead to all that
@@ -59,7 +42,7 @@ module _ (g : Graph) (s : Setting) (succ : ℕ → List ℕ) (carries : (t o : �
   carried_low : (n o : ℕ) → Has (succ n) o → o < length g.nodes
   carried_low n o h =
       let carried = (carries n o).0 h in
-      recipe_is_node g o (has_recipe (node g o).recipe (s.writes (name g o)) (name g carried.0) carried.2)
+      recipe_is_node g o ((Has-from_then (node g o).recipe (s.writes (name g o)) (name g carried.0) carried.2).0)
 
   -- so is the end of a way
   end_low : (t : ℕ) → t < length g.nodes → (way : List ℕ) → IsWay succ t way → end t way < length g.nodes
@@ -103,7 +86,7 @@ module _ (g : Graph) (s : Setting) (succ : ℕ → List ℕ) (carries : (t o : �
 
   -- where there are no more places, just what chains lead to stands there
   pub holds_all : NoneByPlaces → (t place : ℕ) (set : List ℕ) → HoldsBefore g s succ t place set → HasAtMost succ t place → (n : ℕ) → Has set n ↔ Chain g s t n
-  holds_all none t place set before few n = (before.carried_closure n, λ chain. elim (stands_or_not set n) [ inl there ↦ there | inr out ↦ absurd (lost out chain) ])
+  holds_all none t place set before few n = (before.carried_closure n, λ chain. elim (cases_Has set n) [ inl there ↦ there | inr out ↦ absurd (lost out chain) ])
     where
       says_no : ¬ (Has set n) → SaysNoBefore succ t (λ m. nat_eq m n) place
       says_no out j low way stands =

@@ -1,14 +1,13 @@
 -- How many files nodes write.
 use Rattle.std.proofs.Common.{◌≡◌, ℕ, ◌+◌, ◌<◌, ◌≤◌, List, [], ◌∷◌, length, refl, sym, ap, ◌∙◌, subst, inl, inr, arith}
 use Rattle.std.specs.Prelude.{sum_by}
-use Rattle.std.specs.List.{flat_map}
 use Rattle.std.proofs.lemmas.List.Sums.{sum_by-cons}
+use Rattle.mk_graph.proofs.OpenGroups.{InOpenGroup-Has}
 use Rattle.mk_graph.specs.Membership.{Has, IsDistinct}
-use Rattle.mk_graph.specs.Lists.{has_left, has_right}
 use Rattle.mk_graph.specs.Graph.{Graph, node, IsGraph}
 use Rattle.mk_graph.specs.Serial.{serial_order}
 use Rattle.mk_build.specs.Setting.{Setting, writes, writings}
-use Rattle.mk_graph.specs.Schedules.{InOpenGroup, Wanted, goal, onward, IsSchedule}
+use Rattle.mk_graph.specs.Schedules.{Wanted, goal, onward, IsSchedule}
 use Rattle.mk_graph.specs.Laws.{SerialReachesEachOnce}
 
 -- the list without this place
@@ -47,14 +46,10 @@ pub turns_differ : (g : Graph) (goals ns : List ℕ) → IsSchedule g goals ns �
 turns_differ g goals [] h = tt
 turns_differ g goals (n ∷ ns) h = (h.0.not_done, turns_differ g goals ns h.1)
 
-in_open : (done : List ℕ) (groups : List (List ℕ)) (n : ℕ) → InOpenGroup done groups n → Has (flat_map (λ group. group) groups) n
-in_open done [] n h = absurd h
-in_open done (group ∷ groups) n h = elim h [ inl here ↦ has_left group _ n here | inr later ↦ has_right group _ n (in_open done groups n later.1) ]
-
 -- what is wanted is a node
 pub wanted_low : (g : Graph) (done : List ℕ) → IsGraph g → (n : ℕ) → Wanted g g.goals done n → n < length g.nodes
 wanted_low g done is n (goal h) = is.sound.goals n h
-wanted_low g done is n (onward {p = p} before h) = is.sound.edges p n (in_open done (node g p).groups n h)
+wanted_low g done is n (onward {p = p} before h) = is.sound.edges p n (InOpenGroup-Has done (node g p).groups n h)
 
 -- the nodes of a turn list are nodes
 pub turns_low : (g : Graph) (ns : List ℕ) → IsGraph g → IsSchedule g g.goals ns → (n : ℕ) → Has ns n → n < length g.nodes

@@ -1,6 +1,7 @@
 -- Histories that go on.
 use Rattle.std.proofs.Common.{◌≡◌, ℕ, List, [], ◌∷◌, ◌++◌, map, true, false, refl, sym, ap, ◌∙◌, subst, append_assoc, ◌⊎◌}
 use Rattle.std.proofs.lemmas.List.{append-nil, map-append}
+use Rattle.mk_world.proofs.RunsAgree.{legal_behind, legal_front}
 use Rattle.mk_graph.specs.Membership.{Has}
 use Rattle.mk_graph.specs.Graph.{node}
 use Rattle.mk_build.specs.World.{World}
@@ -11,7 +12,7 @@ use Rattle.mk_world.specs.State.{Scene, setting, world_of}
 use Rattle.mk_world.specs.Steps.{step_of}
 use Rattle.mk_world.specs.NamedStep as named
 use Rattle.mk_find_evidence.specs.Histories.{History, MayGoOn, GoesOn, puts_in, MakesOn, MayMake, GoesOnMaking}
-use Rattle.mk_find_evidence.proofs.Steps.{after_appended, legal_front, legal_behind, makes_exist}
+use Rattle.mk_find_evidence.proofs.Steps.{after_appended, makes_exist}
 
 -- a history goes on by no steps
 pub goes_nowhere : (h : History) → GoesOn h h []

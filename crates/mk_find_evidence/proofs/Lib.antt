@@ -1,4 +1,3 @@
-pub mod Answered
 pub mod Numbers
 pub mod Steps
 pub mod FirstDisks

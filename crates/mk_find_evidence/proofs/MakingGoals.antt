@@ -1,8 +1,10 @@
 -- How histories go on by makes of all goals and by edits.
 use Rattle.std.proofs.Common.{◌≡◌, ℕ, ◌+◌, ◌*◌, ◌<◌, ◌≤◌, List, [], ◌∷◌, ◌++◌, length, map, Option, Some, None, ◌↔◌, refl, sym, ◌∙◌, ap, subst, append_assoc}
 use Rattle.std.proofs.lemmas.List.{map-append}
+use Rattle.mk_world.proofs.RunsAgree.{legal_front}
+use Rattle.mk_graph.proofs.Nodes.{reached_is_node}
 use Rattle.mk_graph.specs.Membership.{Has}
-use Rattle.mk_graph.specs.Graph.{Graph, IsGraph, Reached, goal, onward}
+use Rattle.mk_graph.specs.Graph.{Graph, IsGraph}
 use Rattle.mk_graph.specs.Laws.{OrderOfAllGoals, SerialReachesEachOnce}
 use Rattle.mk_graph.specs.Serial.{serial_order, order_from}
 use Rattle.mk_build.specs.Setting.{FileName, Setting, writings}
@@ -24,18 +26,13 @@ use Rattle.mk_find_evidence.specs.Histories.{History, MayGoOn, GoesOn, MakesOn, 
 use Rattle.mk_find_evidence.specs.Makes.{HasNoMake, MakesGoalsOn, MayMakeGoals, GoesOnMakingGoals, MayEdit, GoesOnEditing}
 use Rattle.mk_find_evidence.specs.Shown.{EndsStale}
 use Rattle.mk_find_evidence.proofs.Histories.{goes_further, may_further}
-use Rattle.mk_find_evidence.proofs.Steps.{makes_alike, makes_exist, legal_front, after_appended}
+use Rattle.mk_find_evidence.proofs.Steps.{makes_alike, makes_exist, after_appended}
 use Rattle.mk_find_evidence.proofs.StaleSteps.{AreShown, first_legal, edit_legal, second_legal}
 use Rattle.mk_find_evidence.proofs.FirstDisks.{one_first}
 
--- what a graph reaches are its nodes
-reached_low : (g : Graph) → IsGraph g → (n : ℕ) → Reached g n → n < length g.nodes
-reached_low g is n (goal h) = is.sound.goals n h
-reached_low g is n (onward {n = m} before h) = is.sound.edges m n h
-
--- so are the nodes of the serial order
+-- the nodes of the serial order are nodes of the graph
 pub order_low : SerialReachesEachOnce → (g : Graph) → IsGraph g → (order : List ℕ) → order ≡ serial_order g → (n : ℕ) → Has order n → n < length g.nodes
-order_low reaches g is order same n h = reached_low g is n (((reaches g is.no_cycle).1 n).0 (subst (λ (l : List ℕ). Has l n) same h))
+order_low reaches g is order same n h = reached_is_node g is n (((reaches g is.no_cycle).1 n).0 (subst (λ (l : List ℕ). Has l n) same h))
 
 -- where a make may end it is in progress, and then it is not
 idle_behind : (g : Graph) (s : Setting) (w : World) → model.Allowed g s w model.EndMake → (d : Disk) × (model.after g s w model.EndMake ≡ Idle d)

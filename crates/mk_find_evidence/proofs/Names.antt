@@ -52,9 +52,3 @@ numbers_are g (n ∷ ns) sound low =
     let first = number_is g n sound (low n (inl refl)) in
     let rest = numbers_are g ns sound (λ m h. low m (inr h)) in
     λ i. first i ∷ rest i
-
--- what stands at a place stands in the list
-pub at_place : (xs : List ℕ) (i d : ℕ) → i < length xs → Has xs (get_or xs i d)
-at_place [] i d low = absurd (omega arith)
-at_place (x ∷ xs) zero d low = inl refl
-at_place (x ∷ xs) (suc i) d low = inr (at_place xs i d (omega arith))

@@ -1,10 +1,11 @@
 -- The names of the world of a subject that was read are plain paths.
-use Rattle.std.proofs.Common.{◌≡◌, ◌<◌, ℕ, Bool, true, false, List, [], ◌∷◌, ◌++◌, length, get_or, Option, None, Some, inl, inr, zero, suc, refl, sym, subst, ◌∙◌, arith}
-use Rattle.std.specs.Prelude.{find, cond}
+use Rattle.std.proofs.Common.{◌≡◌, ℕ, Bool, true, false, List, [], ◌∷◌, ◌++◌, get_or, Option, None, Some, inl, inr, refl, sym, subst, ◌∙◌}
+use Rattle.std.specs.Prelude.{cond}
 use Rattle.std.specs.List.{list_all, flat_map}
 use Rattle.std.proofs.lemmas.Bool.{and_parts}
 use Rattle.std.proofs.lemmas.List.Folds.{list_all-append}
 use Rattle.std.specs.Str.{bytes_eq}
+use Rattle.mk_lemmas.proofs.Members.{Has-get_or, find-Has, list_all-Has}
 use Rattle.mk_foot.specs.Book.{Book, Record}
 use Rattle.mk_foot.specs.Laws as foot
 use Rattle.mk_foot.specs.Setting as recorded
@@ -24,11 +25,6 @@ ArePlain names = list_all is_plain_path names ≡ true
 
 -- ---- lists
 
-told : {A : Type 0} (p : A → Bool) (xs : List A) (x : A) → list_all p xs ≡ true → Has xs x → p x ≡ true
-told p [] x all h = absurd h
-told p (y ∷ xs) x all (inl e) = subst (λ z. p z ≡ true) e (and_parts (p y) (list_all p xs) all).0
-told p (y ∷ xs) x all (inr h) = told p xs x (and_parts (p y) (list_all p xs) all).1 h
-
 pub two_parts : (names others : List (List ℕ)) → ArePlain (names ++ others) → ArePlain names × ArePlain others
 two_parts names others all = and_parts (list_all is_plain_path names) (list_all is_plain_path others) (sym (list_all-append is_plain_path names others) ∙ all)
 
@@ -36,19 +32,6 @@ one_part : (records : List Record) (r : Record) → ArePlain (flat_map foot.name
 one_part [] r all h = absurd h
 one_part (first ∷ records) r all (inl e) = subst (λ k. ArePlain (foot.names_of_record k)) e (two_parts (foot.names_of_record first) (flat_map foot.names_of_record records) all).0
 one_part (first ∷ records) r all (inr h) = one_part records r (two_parts (foot.names_of_record first) (flat_map foot.names_of_record records) all).1 h
-
-found_has : {A : Type 0} (p : A → Bool) (xs : List A) (x : A) → find p xs ≡ Some x → Has xs x
-found_has p [] x e = absurd cc
-found_has {A} p (y ∷ xs) x e = at (p y) (found_has p xs x) e
-  where
-    at : (b : Bool) → (find p xs ≡ Some x → Has xs x) → cond b (Some y) (find p xs) ≡ Some x → Has (y ∷ xs) x
-    at true deeper k = let same : y ≡ x = cc in inl same
-    at false deeper k = inr (deeper k)
-
-has_at : {A : Type 0} (xs : List A) (i : ℕ) (d : A) → i < length xs → Has xs (get_or xs i d)
-has_at [] i d low = absurd (omega arith)
-has_at (x ∷ xs) zero d low = inl refl
-has_at (x ∷ xs) (suc i) d low = inr (has_at xs i d (omega arith))
 
 -- ---- what is recorded
 
@@ -72,7 +55,7 @@ module _ (s : recorded.Setting) (all : ArePlain (flat_map foot.names_of_record s
       at : (o : Option Record) → recorded.record_for s.records n ≡ o → ArePlain (recorded.reads s n) × ArePlain (recorded.writes s n)
       at None none = (subst ArePlain (sym (read_nowhere s n none)) refl, subst ArePlain (sym (written_nowhere s n none)) refl)
       at (Some r) some =
-          let whole = one_part s.records r all (found_has (λ (k : Record). bytes_eq n k.target) s.records r some) in
+          let whole = one_part s.records r all ((find-Has (λ (k : Record). bytes_eq n k.target) s.records r some).0) in
           let parts = two_parts r.reads r.writes (and_parts (is_plain_path r.target) (list_all is_plain_path (r.reads ++ r.writes)) whole).1 in
           (subst ArePlain (sym (read_there s n r some)) parts.0, subst ArePlain (sym (written_there s n r some)) parts.1)
 
@@ -81,20 +64,20 @@ module _ (s : recorded.Setting) (all : ArePlain (flat_map foot.names_of_record s
   of_recipe g t f h = at (node g t).recipe h
     where
       at : (b : Bool) → Has (cond b (recorded.reads s (name g t)) []) f → is_plain_path f ≡ true
-      at true k = told is_plain_path (recorded.reads s (name g t)) f (recorded_plain (name g t)).0 k
+      at true k = list_all-Has is_plain_path (recorded.reads s (name g t)) f (recorded_plain (name g t)).0 k
       at false k = absurd k
 
   by_recipe : (g : Graph) (t : ℕ) (f : FileName) → Has (writes g (footprints s) t) f → is_plain_path f ≡ true
   by_recipe g t f h = at (node g t).recipe h
     where
       at : (b : Bool) → Has (cond b (recorded.writes s (name g t)) []) f → is_plain_path f ≡ true
-      at true k = told is_plain_path (recorded.writes s (name g t)) f (recorded_plain (name g t)).1 k
+      at true k = list_all-Has is_plain_path (recorded.writes s (name g t)) f (recorded_plain (name g t)).1 k
       at false k = absurd k
 
   -- all names
   pub of_world : (g : Graph) → ArePlain s.sources → list_all (λ (n : Node). is_plain_path n.name) g.nodes ≡ true → (f : FileName) → IsOfWorld g (footprints s) f → is_plain_path f ≡ true
-  of_world g sources nodes f (inl (n, (low, same))) = subst (λ k. is_plain_path k ≡ true) same (told (λ (k : Node). is_plain_path k.name) g.nodes (get_or g.nodes n no_node) nodes (has_at g.nodes n no_node low))
-  of_world g sources nodes f (inr (inl h)) = told is_plain_path s.sources f sources h
+  of_world g sources nodes f (inl (n, (low, same))) = subst (λ k. is_plain_path k ≡ true) same (list_all-Has (λ (k : Node). is_plain_path k.name) g.nodes (get_or g.nodes n no_node) nodes (Has-get_or g.nodes n no_node low))
+  of_world g sources nodes f (inr (inl h)) = list_all-Has is_plain_path s.sources f sources h
   of_world g sources nodes f (inr (inr (t, inl h))) = of_recipe g t f h
   of_world g sources nodes f (inr (inr (t, inr h))) = by_recipe g t f h
 

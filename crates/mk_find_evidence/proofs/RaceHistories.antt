@@ -1,6 +1,7 @@
 -- The history that shows a race, step by step.
 use Rattle.std.proofs.Common.{◌≡◌, ℕ, ◌+◌, ◌*◌, ◌≤◌, List, [], ◌∷◌, map, reverse, true, sym, subst, arith}
-use Rattle.std.specs.Prelude.{Option, None, Some, MatchOption}
+use Rattle.std.specs.Prelude.{Option, None, MatchOption}
+use Rattle.mk_world.proofs.RunsAgree.{legal_front}
 use Rattle.mk_foot.specs.Setting as recorded
 use Rattle.mk_graph.specs.Membership.{Has}
 use Rattle.mk_graph.specs.Graph.{Graph, IsGraph, node}
@@ -17,16 +18,11 @@ use Rattle.mk_world.specs.State.{Scene, setting_of, disk_of}
 use Rattle.mk_world.specs.Steps.{step_of, IsFirstOf}
 use Rattle.mk_find_evidence.specs.Shown.{EndsInRace}
 use Rattle.mk_find_evidence.specs.Histories.{History, MayGoOn, GoesOn, MayMake, GoesOnMaking}
-use Rattle.mk_find_evidence.proofs.Steps.{legal_front}
 use Rattle.mk_find_evidence.proofs.FirstDisks.{one_first}
 use Rattle.mk_find_evidence.proofs.Taken.{Taken, nothing_taken, taken_further, may_go_on, may_go_behind, makes_behind}
 use Rattle.mk_find_evidence.proofs.Races.{all_are_part, turns_run, not_done_before}
 
--- what stands in an option that has a value
-pub some_of : {A : Type 0} (P : Type 0) (Q : A → Type 0) {o : Option A} {x : A} → o ≡ Some x → MatchOption o P Q → Q x
-some_of P Q e h = subst (λ o. MatchOption o P Q) e h
-
--- and of one that has none
+-- what is said of an option without a value
 pub none_of : {A : Type 0} (P : Type 0) (Q : A → Type 0) {o : Option A} → o ≡ None → MatchOption o P Q → P
 none_of P Q e h = subst (λ o. MatchOption o P Q) e h
 

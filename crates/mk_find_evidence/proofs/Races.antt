@@ -4,8 +4,8 @@ use Rattle.std.specs.Prelude.{sum_by}
 use Rattle.std.proofs.lemmas.List.{reverse-reverse}
 use mathlib.Core.List.{reverse-cons}
 use Rattle.std.proofs.lemmas.List.Sums.{sum_by-append, sum_by-cons}
+use Rattle.mk_lemmas.proofs.Members.{Has-left, Has-reverse, Has-right}
 use Rattle.mk_graph.specs.Membership.{Has}
-use Rattle.mk_graph.specs.Lists.{has_left, has_right}
 use Rattle.mk_graph.specs.Graph.{Graph, IsGraph, node}
 use Rattle.mk_graph.specs.Serial.{serial_order}
 use Rattle.mk_build.specs.Setting.{Setting, writes, writings}
@@ -34,15 +34,11 @@ pub all_are_part : (g : Graph) (o t : ℕ) (ns : List ℕ) → IsScheduleWithout
 all_are_part g o t ns past = record { not_empty = some_goal g g.goals ns t past.can_start.wanted; within = all_within g.goals g.goals (λ n h. h) }
 
 has_pushed : (xs : List ℕ) (x n : ℕ) → Has xs n ⊎ (x ≡ n) → Has (xs ++ x ∷ []) n
-has_pushed xs x n h = elim h [ inl before ↦ has_left xs (x ∷ []) n before | inr last ↦ has_right xs (x ∷ []) n (inl last) ]
-
-has_reversed : (xs : List ℕ) (n : ℕ) → Has xs n → Has (reverse xs) n
-has_reversed [] n none = absurd none
-has_reversed (x ∷ xs) n h = subst (λ (l : List ℕ). Has l n) (sym (reverse-cons x xs)) (has_pushed (reverse xs) x n (elim h [ inl e ↦ inr e | inr r ↦ inl (has_reversed xs n r) ]))
+has_pushed xs x n h = elim h [ inl before ↦ Has-left xs (x ∷ []) n before | inr last ↦ Has-right xs (x ∷ []) n (inl last) ]
 
 -- the turns are nodes
 pub turns_are_nodes : (g : Graph) (o t : ℕ) (turns : List ℕ) → IsGraph g → IsScheduleWithout g o t (reverse turns) → (n : ℕ) → Has turns n → n < length g.nodes
-turns_are_nodes g o t turns is past n h = turns_low g (reverse turns) is past.turns n (has_reversed turns n h)
+turns_are_nodes g o t turns is past n h = turns_low g (reverse turns) is past.turns n (Has-reverse turns n h)
 
 sum_reversed : (F : ℕ → ℕ) (xs : List ℕ) → sum_by F (reverse xs) ≡ sum_by F xs
 sum_reversed F [] = refl

@@ -1,6 +1,8 @@
 -- Each race and each stale read among the findings can be shown.
 use Rattle.std.proofs.Common.{◌≡◌, ℕ, ◌+◌, ◌*◌, ◌<◌, ◌≤◌, Bool, true, false, not, nat_eq, cond, List, [], ◌∷◌, ◌++◌, length, map, filter, reverse, inl, inr, refl, sym, ap, subst}
 use Rattle.std.proofs.lemmas.List.{reverse-reverse}
+use Rattle.mk_lemmas.proofs.Members.{Has-from_filter}
+use Rattle.mk_world.proofs.RunsAgree.{legal_behind}
 use Rattle.mk_build.specs.EmptyInputs.{empty_setting, empty_disk, steps_of, node_steps, ShowsNotBefore}
 use Rattle.mk_build.specs.BuildLaws.{FirstIsAStart, NotBeforeIsShown, StaleHistoryExists, StaleIsShown, SchedulesRun}
 use Rattle.mk_graph.specs.Graph.{Graph, IsGraph, IsSound, node}
@@ -23,7 +25,7 @@ use Rattle.mk_find_evidence.specs.Shown.{EndsInRace, EndsStale, HasStamps, IsRac
 use Rattle.mk_find_evidence.proofs.Counts.{wanted_low}
 use Rattle.mk_find_evidence.proofs.Names.{number_is, numbers_are}
 use Rattle.mk_find_evidence.proofs.Races.{not_done_before, turns_run}
-use Rattle.mk_find_evidence.proofs.Steps.{legal_behind, makes_exist}
+use Rattle.mk_find_evidence.proofs.Steps.{makes_exist}
 use Rattle.mk_find_evidence.proofs.Told.{race_numbers, reader_has_recipe, stale_number, told_race, told_stale}
 
 -- ---- steps whose numbers are those of nodes have names
@@ -71,15 +73,6 @@ abbrev HasNodes : Graph → World → Type 0
 HasNodes g (Idle d) = Unit {0}
 HasNodes g (Busy m d) = IsWithin m.goals g.goals × AreNodes g m.running
 
-kept_from : (test : ℕ → Bool) (ns : List ℕ) (n : ℕ) → Has (filter test ns) n → Has ns n
-kept_from test [] n h = absurd h
-kept_from test (m ∷ ns) n h = by (test m) (kept_from test ns n) h
-  where
-    by : (b : Bool) → (Has (filter test ns) n → Has ns n) → Has (cond b (m ∷ filter test ns) (filter test ns)) n → Has (m ∷ ns) n
-    by true on (inl here) = inl here
-    by true on (inr there) = inr (on there)
-    by false on there = inr (on there)
-
 all_within : (all ns : List ℕ) → HasAll all ns → (n : ℕ) → Has ns n → Has all n
 all_within all [] h n none = absurd none
 all_within all (m ∷ ns) h n (inl here) = subst (λ (k : ℕ). Has all k) here h.0
@@ -94,7 +87,7 @@ module _ (g : Graph) (s : Setting) (is : IsGraph g) where
   may_turn_low goals done n within may = wanted_low g done is n (wanted_by_all g goals done within n may.wanted)
 
   finished_low : (t : ℕ) (running : List ℕ) → AreNodes g running → AreNodes g (filter (λ n. not (nat_eq t n)) running)
-  finished_low t running low n h = low n (kept_from (λ k. not (nat_eq t k)) running n h)
+  finished_low t running low n h = low n ((Has-from_filter (λ k. not (nat_eq t k)) running n h).0)
 
   step_low : (w : World) (step : Step) → HasNodes g w → Allowed g s w step → IsLow g step × HasNodes g (after g s w step)
   step_low (Idle d) (Edit f c) low allowed = (tt, tt)

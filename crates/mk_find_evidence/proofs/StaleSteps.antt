@@ -1,19 +1,16 @@
 -- The parts of a history that shows a stale read, where the whole of it is legal.
-use Rattle.std.proofs.Common.{ℕ, ◌+◌, List, [], ◌∷◌, ◌++◌, inl, inr, ◌↔◌, refl, sym, subst, append_assoc}
-use Rattle.std.proofs.lemmas.Bool.{cases_Bool}
+use Rattle.std.proofs.Common.{ℕ, List, ◌++◌, ◌↔◌, sym, subst, append_assoc}
+use Rattle.mk_world.proofs.RunsAgree.{legal_behind, legal_front}
+use Rattle.mk_build.proofs.StaleExists.{edit_exists}
 use Rattle.mk_graph.specs.Membership.{Has}
 use Rattle.mk_graph.specs.Graph.{Graph}
-use Rattle.mk_build.specs.Setting.{FileName, Setting, is_editable}
+use Rattle.mk_build.specs.Setting.{FileName, Setting}
 use Rattle.mk_build.specs.World.{Disk, Idle, Busy}
-use Rattle.mk_build.specs.Steps.{Step, Edit, make_of, IsLegal, after_all, disk_after}
+use Rattle.mk_build.specs.Steps.{Step, make_of, IsLegal, after_all, disk_after}
 use Rattle.mk_graph.specs.Serial.{order_from}
 use Rattle.mk_build.specs.SerialMake.{one_make}
 use Rattle.mk_build.specs.Stale.{Chain, IsEditOf, stale_history, MakesGoalsBut, ShowsStale, IsLaterThanAll}
-use Rattle.mk_find_evidence.proofs.Steps.{makes_alike, makes_exist, legal_front, legal_behind}
-
--- there is an edit of an editable file, or none of another
-edit_exists : (s : Setting) (f : FileName) (d : Disk) → (edit : List Step) × IsEditOf s f d edit
-edit_exists s f d = elim (cases_Bool (is_editable s f)) [ inl editable ↦ (Edit f (d.clock + 1) ∷ [], inl (editable, refl)) | inr not ↦ ([], inr (not, refl)) ]
+use Rattle.mk_find_evidence.proofs.Steps.{makes_alike, makes_exist}
 
 module _ (g : Graph) (s : Setting) (t : ℕ) (f : FileName) (d : Disk) where
   -- each history of this form is legal, and the file is later at its end

@@ -1,36 +1,19 @@
 -- Steps one behind the other, and lists of steps that make nodes.
 use Rattle.std.proofs.Common.{◌≡◌, ℕ, List, [], ◌∷◌, ◌++◌, false, inl, inr, ◌⊎◌}
-use Rattle.std.proofs.lemmas.Bool.{cases_Bool, cases_eq}
+use Rattle.std.proofs.lemmas.Bool.{cases_Bool}
 use Rattle.std.proofs.lemmas.List.Sums.{fold-append}
+use Rattle.mk_lemmas.proofs.Members.{cases_Has}
 use Rattle.mk_graph.specs.Membership.{Has}
 use Rattle.mk_graph.specs.Graph.{Graph, node}
 use Rattle.mk_build.specs.Setting.{Setting}
 use Rattle.mk_build.specs.World.{World, disk_of}
-use Rattle.mk_build.specs.Steps.{Step, Pass, IsLegal, after, after_all}
+use Rattle.mk_build.specs.Steps.{Step, Pass, after, after_all}
 use Rattle.mk_build.specs.SerialMake.{whole_run}
 use Rattle.mk_build.specs.NodeByNode.{MakesAllBut, ends, passes, runs, to_put}
 
 -- the world that steps leave behind others
 pub after_appended : (g : Graph) (s : Setting) (w : World) (xs ys : List Step) → after_all g s w (xs ++ ys) ≡ after_all g s (after_all g s w xs) ys
 after_appended g s w xs ys = fold-append (after g s) w xs ys
-
--- the front of a legal list is legal
-pub legal_front : (g : Graph) (s : Setting) (w : World) (xs ys : List Step) → IsLegal g s w (xs ++ ys) → IsLegal g s w xs
-legal_front g s w [] ys h = tt
-legal_front g s w (x ∷ xs) ys h = (h.0, legal_front g s (after g s w x) xs ys h.1)
-
--- and what stands behind it is legal from the world that it leaves
-pub legal_behind : (g : Graph) (s : Setting) (w : World) (xs ys : List Step) → IsLegal g s w (xs ++ ys) → IsLegal g s (after_all g s w xs) ys
-legal_behind g s w [] ys h = h
-legal_behind g s w (x ∷ xs) ys h = legal_behind g s (after g s w x) xs ys h.1
-
--- whether a number stands in the list
-pub cases_Has : (ns : List ℕ) (n : ℕ) → Has ns n ⊎ (¬ (Has ns n))
-cases_Has [] n = inr (λ none. none)
-cases_Has (m ∷ ns) n = elim (cases_eq m n) [
-  | inl e ↦ inl (inl e)
-  | inr apart ↦ elim (cases_Has ns n) [ inl h ↦ inl (inr h) | inr not ↦ inr (λ h. elim h [ inl e ↦ apart e | inr r ↦ not r ]) ]
-]
 
 -- there is a list of steps that makes these nodes, but for those that are to be passed
 pub makes_exist : (g : Graph) (s : Setting) (passed : List ℕ) (w : World) (ns : List ℕ) → (steps : List Step) × MakesAllBut g s (Has passed) w ns steps

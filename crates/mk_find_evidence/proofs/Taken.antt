@@ -2,6 +2,7 @@
 use Rattle.std.proofs.Common.{◌≡◌, ℕ, List, [], ◌++◌, map, sym, ap, ◌∙◌, subst}
 use Rattle.std.specs.Prelude.{Option}
 use Rattle.std.proofs.lemmas.List.{map-append}
+use Rattle.mk_world.proofs.RunsAgree.{legal_behind}
 use Rattle.mk_foot.specs.Setting as recorded
 use Rattle.mk_graph.specs.Membership.{Has}
 use Rattle.mk_graph.specs.Graph.{Graph}
@@ -11,7 +12,7 @@ use Rattle.mk_build.specs.NodeByNode.{MakesAllBut}
 use Rattle.mk_world.specs.State.{Scene, MakeState, setting, setting_of, disk_of, world_in, world_of}
 use Rattle.mk_world.specs.Steps.{step_of, IsFirstOf}
 use Rattle.mk_find_evidence.specs.Histories.{History, MayGoOn, GoesOn, MakesOn}
-use Rattle.mk_find_evidence.proofs.Steps.{after_appended, legal_behind}
+use Rattle.mk_find_evidence.proofs.Steps.{after_appended}
 
 -- the history has taken these steps from this disk, on which no make was in progress
 pub record Taken (g : Graph) (r : recorded.Setting) (d : Disk) (steps : List Step) (h : History) : Type 0 where

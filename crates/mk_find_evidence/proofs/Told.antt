@@ -1,11 +1,13 @@
 -- What is known of a race or a stale read that is told.
-use Rattle.std.proofs.Common.{◌≡◌, ℕ, ◌<◌, List, [], ◌∷◌, ◌++◌, length, map, true, Option, Some, None, Result, Ok, Err, Vec, inl, inr, sym, subst}
+use Rattle.std.proofs.Common.{◌≡◌, ℕ, List, [], ◌∷◌, ◌++◌, map, true, Option, Some, None, Result, Ok, Err, Vec, inl, inr, sym, subst}
 use Rattle.std.specs.List.{flat_map}
 use Rattle.std.specs.Prelude.{IfOk, MatchOption}
 use Rattle.std.specs.declared.alloc.AllocError.{AllocError}
 use Rattle.std.specs.declared.alloc.Global.{Global}
+use Rattle.mk_lemmas.proofs.Members.{Has-from_map, Has-from_then}
+use Rattle.mk_subject.proofs.FileDecided.{writer_is_node}
+use Rattle.mk_find.proofs.Noting.{reader_is_node}
 use Rattle.mk_graph.specs.Membership.{Has}
-use Rattle.mk_graph.specs.Lists.{mapped_from}
 use Rattle.mk_graph.specs.Graph.{node}
 use Rattle.mk_graph.specs.Serial.{serial_order}
 use Rattle.mk_build.specs.Setting.{IsNumberOf}
@@ -20,7 +22,6 @@ use Rattle.mk_subject.specs.Subject.{Subject, footprints, name_of, reads_of, wri
 use Rattle.mk_find.specs.declared.finding.Finding.{Finding}
 use Rattle.mk_find.specs.declared.finding.Finding.TheVariants as found
 use Rattle.mk_find_evidence.specs.Shown.{HasStamps, IsNotShown, IsReported, Shows, ShowsRace, ShowsStaleRead}
-use Rattle.mk_find_evidence.proofs.Chains.{has_recipe, recipe_is_node}
 
 module _ {B : Type 0} (P : B → Type 0) where
   -- all that stands in the list is so
@@ -40,7 +41,7 @@ module _ {B : Type 0} (P : B → Type 0) where
   all_both (x ∷ xs) ys first second y (inr there) = all_both xs ys (λ z k. first z (inr k)) second y there
 
   all_mapped : {A : Type 0} (f : A → B) → ((x : A) → P (f x)) → (xs : List A) → AllAre (map f xs)
-  all_mapped f each xs y h = let at = mapped_from f xs y h in subst P at.2 (each at.0)
+  all_mapped f each xs y h = let at = Has-from_map f xs y h in subst P at.2 (each at.0)
 
   all_joined : {A : Type 0} (f : A → List B) → ((x : A) → AllAre (f x)) → (xs : List A) → AllAre (flat_map f xs)
   all_joined f each [] = all_none
@@ -123,7 +124,7 @@ module _ (listed : ListedExactly) (x : Subject) where
   -- what is told is one of the candidates, by its names
   told_by : (all : List Candidate) (finding : Finding) (told : List Finding) → Has told finding → Adds x all [] told → (c : Candidate) × Has all c × IsFinding x c × (named x c ≡ finding)
   told_by all finding told one adds =
-      let at = mapped_from (named x) adds.kept finding (subst (λ (l : List Finding). Has l finding) adds.added one) in
+      let at = Has-from_map (named x) adds.kept finding (subst (λ (l : List Finding). Has l finding) adds.added one) in
       let is = (listed x all adds.kept adds.right at.0).0 at.1 in
       (at.0, is.0, is.1, at.2)
 
@@ -143,14 +144,7 @@ module _ (listed : ListedExactly) (x : Subject) where
 
 -- who reads a file is a recipe, and so a node
 pub reader_has_recipe : (x : Subject) (t : ℕ) (f : List ℕ) → Has (reads_of x t) f → (node x.graph t).recipe ≡ true
-reader_has_recipe x t f h = has_recipe (node x.graph t).recipe ((footprints x.setting).reads (name_of x t)) f h
-
-pub reader_is_node : (x : Subject) (t : ℕ) (f : List ℕ) → Has (reads_of x t) f → t < length x.graph.nodes
-reader_is_node x t f h = recipe_is_node x.graph t (reader_has_recipe x t f h)
-
--- so is who writes one
-pub writer_is_node : (x : Subject) (o : ℕ) (f : List ℕ) → Has (writes_of x o) f → o < length x.graph.nodes
-writer_is_node x o f h = recipe_is_node x.graph o (has_recipe (node x.graph o).recipe ((footprints x.setting).writes (name_of x o)) f h)
+reader_has_recipe x t f h = (Has-from_then (node x.graph t).recipe ((footprints x.setting).reads (name_of x t)) f h).0
 
 -- so its nodes have these names
 pub race_numbers : (x : Subject) (recipe writer f : List ℕ) (is : IsRaceOf x recipe writer f) → IsNumberOf x.graph writer is.o × IsNumberOf x.graph recipe is.t

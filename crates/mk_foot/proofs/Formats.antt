@@ -4,6 +4,7 @@ use Rattle.std.specs.List.{list_all}
 use Rattle.std.proofs.lemmas.Slice.Eq.{bytes_eq-Decides}
 use Rattle.serde_json.specs.Data.{Data, string}
 use Rattle.serde_json.specs.Find.{as_str}
+use Rattle.mk_json.proofs.Arrays.{elements-items_of}
 use Rattle.mk_json.specs.Kinds as json
 use Rattle.mk_lines.specs.Paths.{is_plain_path}
 use Rattle.mk_foot.specs.declared.fault.FootFault.{FootFault}
@@ -17,7 +18,6 @@ use Rattle.mk_foot.specs.Fields.{texts_of, text_at, texts_at, elements_at, membe
 use Rattle.mk_foot.specs.FootprintFile.{entry_in, shared_in, group_in, lists_in, first_format, second_format, footprints_in}
 use Rattle.mk_foot.specs.Checks.{group_is_plain, names_are_plain, check_all, group_for}
 use Rattle.mk_foot.specs.Reading.{book_in, book_of}
-use Rattle.mk_foot.proofs.Members.{elements_items}
 use Rattle.mk_foot.specs.Laws.{Values, plain_record, bare_record, plain_file, grouped_file, one_group, FormatsAgree}
 
 -- a record reads as the same in both formats
@@ -46,7 +46,7 @@ same_self (name ∷ names) = rw ((bytes_eq-Decides name name).1 refl) (same_self
 -- the group, of these records
 group_reads : (goals : List (List ℕ)) (vs : List Values) → group_in (one_group goals vs) ≡ (each (entry_in Two) (map bare_record vs) >>= λ es. Ok (record { goals = Some goals; records = es }))
 unfolding group_in texts_at json.texts_of elements_at json.has_only
-group_reads goals vs = rw (elements_items, texts_back, elements_items) refl
+group_reads goals vs = rw (elements-items_of, texts_back, elements-items_of) refl
 
 abbrev plain_parts : List (List ℕ) → List (List ℕ) → List RawRecord → FootprintFile
 plain_parts fixed sources es = record { fixed = fixed; sources = sources; lists = []; groups = (record { goals = None; records = es }) ∷ [] }
@@ -68,7 +68,7 @@ same_finish goals fixed sources es plain = rw (same_tests goals fixed sources es
 -- the parts of both files
 plain_reads : (fixed sources : Data) (vs : List Values) → footprints_in (plain_file fixed sources vs) ≡ (texts_of keys.Fixed fixed >>= λ f. texts_of keys.Sources sources >>= λ s. each (entry_in One) (map plain_record vs) >>= λ es. Ok (plain_parts f s es))
 unfolding footprints_in format_in first_format texts_at elements_at json.has_only
-plain_reads fixed sources vs = rw elements_items refl
+plain_reads fixed sources vs = rw elements-items_of refl
 
 grouped_reads : (goals : List (List ℕ)) (fixed sources : Data) (vs : List Values)
     → footprints_in (grouped_file goals fixed sources vs)

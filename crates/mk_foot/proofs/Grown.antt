@@ -4,6 +4,7 @@ use Rattle.std.specs.Prelude.{option_and_then, ok_or}
 use Rattle.std.proofs.lemmas.List.{map_push}
 use Rattle.serde_json.specs.Data.{Data}
 use Rattle.serde_json.specs.Find.{as_str}
+use Rattle.mk_json.proofs.Arrays.{elements-items_of}
 use Rattle.mk_json.specs.Kinds as json
 use Rattle.mk_json.specs.Kinds.{array_of}
 use Rattle.mk_foot.specs.declared.fault.FootFault.{FootFault}
@@ -12,7 +13,6 @@ use Rattle.mk_foot.specs.declared.key.Key.{Key}
 use Rattle.mk_foot.specs.Fields.{texts_of}
 use Rattle.mk_foot.specs.ReaderParts.{text_of}
 use Rattle.mk_foot.specs.Steps.{◌>>=◌, each}
-use Rattle.mk_foot.proofs.Members.{elements_items}
 use Rattle.mk_foot.proofs.Steps.{Fails}
 
 first_of_all : {B : Type 0} (r : Result B FootFault) → (r >>= λ y. Ok [] >>= λ ys. Ok (y ∷ ys)) ≡ (Ok [] >>= λ (ys : List B). r >>= λ y. Ok (ys ++ y ∷ []))
@@ -62,4 +62,4 @@ texts_each key (d ∷ ds) = one_text (Shape key) (as_str d) (json.each_some as_s
 
 pub texts_listed : (key : Key) (ds : List Data) → texts_of key (array_of ds) ≡ each (text_of key) ds
 unfolding json.texts_of
-texts_listed key ds = ap (λ (es : List Data). ok_or (json.each_some as_str es) (Shape key)) (elements_items ds) ∙ texts_each key ds
+texts_listed key ds = ap (λ (es : List Data). ok_or (json.each_some as_str es) (Shape key)) (elements-items_of ds) ∙ texts_each key ds

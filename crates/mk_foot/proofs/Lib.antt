@@ -1,4 +1,3 @@
-pub mod ListTests
 pub mod Steps
 pub mod Members
 pub mod Read
@@ -8,7 +7,6 @@ pub mod Sets
 pub mod Targets
 pub mod Same
 pub mod SharedLists
-pub mod Once
 pub mod Found
 pub mod TargetPlaces
 pub mod GivenLaws

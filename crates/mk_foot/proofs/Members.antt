@@ -1,18 +1,12 @@
 -- Shared lists beside the members of the object that they stand in.
-use Rattle.std.proofs.Common.{◌≡◌, ℕ, List, [], ◌∷◌, Result, String, Vec, Global, Ordering, Less, Equal, Greater, string_bytes, string_cmp, refl, ap, subst}
+use Rattle.std.proofs.Common.{ℕ, List, [], ◌∷◌, Result, String, Vec, Global, Ordering, Less, Equal, Greater, string_bytes, string_cmp, refl, subst}
 use Rattle.std.specs.BTreeMap.{insert_entry}
 use Rattle.std.specs.Ordering.{match_ordering}
 use Rattle.serde_json.specs.Data.{Data, Members, no_members, member, put}
-use Rattle.serde_json.specs.View.{items_of}
-use Rattle.mk_json.specs.Kinds.{elements}
 use Rattle.mk_foot.specs.declared.fault.FootFault.{FootFault}
 use Rattle.mk_foot.specs.declared.key.Key.TheVariants as keys
 use Rattle.mk_foot.specs.Fields.{texts_of}
 use Rattle.mk_foot.specs.ReaderParts.{GivesTexts, AreLists}
-
-pub elements_items : (ds : List Data) → elements (items_of ds) ≡ ds
-elements_items [] = refl
-elements_items (d ∷ ds) = ap (λ es. d ∷ es) (elements_items ds)
 
 -- a name, and what was read of its list
 abbrev pub Found : Type 0

@@ -4,9 +4,10 @@ use Rattle.std.specs.Prelude.{filter}
 use Rattle.std.specs.Str.{bytes_eq}
 use Rattle.std.proofs.lemmas.Bool.{false≢true}
 use Rattle.std.proofs.lemmas.Slice.Eq.{bytes_eq-Decides}
+use Rattle.mk_lemmas.proofs.Texts.{bytes_eq-sym}
+use Rattle.mk_lines.proofs.Once.{once-push}
 use Rattle.mk_foot.specs.Names.{has_name, once}
 use Rattle.mk_foot.specs.Laws.{EachOnce, OnceKeepsFirst}
-use Rattle.mk_foot.proofs.Once.{bytes_eq_sym, once_push}
 
 -- the others of a list
 abbrev others : List ℕ → List (List ℕ) → List (List ℕ)
@@ -16,7 +17,7 @@ others name names = filter (λ other. not (bytes_eq name other)) names
 among_step : (q x : List ℕ) (name : List ℕ) (same : Bool) → bytes_eq name x ≡ same → (later whole : Bool) → later ≡ (not (bytes_eq name q) && whole) → (drops : List (List ℕ)) → has_name drops q ≡ later
     → has_name (cond (not same) (x ∷ drops) drops) q ≡ (not (bytes_eq name q) && (bytes_eq q x || whole))
 among_step q x name true e later whole h drops d =
-    let is : bytes_eq q x ≡ bytes_eq name q = ap (bytes_eq q) (sym ((bytes_eq-Decides name x).0 e)) ∙ bytes_eq_sym q name in
+    let is : bytes_eq q x ≡ bytes_eq name q = ap (bytes_eq q) (sym ((bytes_eq-Decides name x).0 e)) ∙ bytes_eq-sym q name in
     d ∙ (h ∙ (split (bytes_eq name q) whole ∙ ap (λ b. not (bytes_eq name q) && (b || whole)) (sym is)))
   where
     split : (a w : Bool) → (not a && w) ≡ (not a && (a || w))
@@ -42,7 +43,7 @@ pub has_once : (names : List (List ℕ)) (q : List ℕ) → has_name (once names
 has_once [] q = refl
 has_once (name ∷ names) q =
     ap (λ b. bytes_eq q name || b) (has_others name q (once names) ∙ ap (λ b. not (bytes_eq name q) && b) (has_once names q))
-    ∙ (ap (λ b. bytes_eq q name || (not b && has_name names q)) (bytes_eq_sym name q) ∙ absorbed (bytes_eq q name) (has_name names q))
+    ∙ (ap (λ b. bytes_eq q name || (not b && has_name names q)) (bytes_eq-sym name q) ∙ absorbed (bytes_eq q name) (has_name names q))
   where
     absorbed : (a b : Bool) → (a || (not a && b)) ≡ (a || b)
     absorbed true b = refl
@@ -75,7 +76,7 @@ pub once_keeps_first : OnceKeepsFirst
 once_keeps_first names = record {
   same = has_once names;
   apart = each_once names;
-  order = λ name. once_push names name ∙ ap (λ b. cond b (once names) (once names ++ name ∷ [])) (has_once names name);
+  order = λ name. once-push names name ∙ ap (λ b. cond b (once names) (once names ++ name ∷ [])) (has_once names name);
 }
 
 -- names that differ from the first are all kept

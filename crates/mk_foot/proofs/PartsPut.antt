@@ -1,7 +1,8 @@
 -- Parts where a member is put.
-use Rattle.std.proofs.Common.{◌≡◌, ℕ, Bool, true, false, List, [], ◌∷◌, map, codes, Option, Some, Result, bytes_eq, String, Vec, Global, string_bytes, refl, sym, ap, ◌∙◌, subst}
+use Rattle.std.proofs.Common.{◌≡◌, ℕ, true, false, List, [], ◌∷◌, map, codes, Option, Some, Result, bytes_eq, String, Vec, Global, string_bytes, refl, sym, ap, ◌∙◌, subst}
 use Rattle.std.specs.Prelude.{option_and_then, ok_or}
 use Rattle.std.proofs.lemmas.Slice.Eq.{bytes_eq-Decides}
+use Rattle.mk_lemmas.proofs.Texts.{bytes_eq-differ, differ-sym}
 use Rattle.mk_lines.specs.Names.{has_name}
 use Rattle.serde_json.specs.Data.{Data, object, Members, put}
 use Rattle.serde_json.specs.Find.{get, as_str, as_number, as_integer}
@@ -23,17 +24,6 @@ use Rattle.mk_foot.specs.Parts.{RawRecord, Group, SharedList}
 use Rattle.mk_foot.specs.ReaderParts.{text_of, format_from, lists_from, GivesTexts, AreEach, IsOfEntry, IsOfGroup, IsOf, first_keys, second_keys}
 use Rattle.mk_foot.specs.Steps.{◌>>=◌, Gives, each}
 use Rattle.mk_foot.proofs.Read.{moved}
-
-turned : {key other : List ℕ} → (key ≡ other → ⊥) → other ≡ key → ⊥
-turned apart e = apart (sym e)
-
-differs_at : (b : Bool) (key other : List ℕ) → bytes_eq key other ≡ b → (key ≡ other → ⊥) → b ≡ false
-differs_at true key other e apart = absurd (apart ((bytes_eq-Decides key other).0 e))
-differs_at false key other e apart = refl
-
--- different texts
-differs : (key other : List ℕ) → (key ≡ other → ⊥) → bytes_eq key other ≡ false
-differs key other apart = differs_at _ key other refl apart
 
 texts_moved : (texts : Result (Vec (String Global) Global) FootFault) (old new : Result (List (List ℕ)) FootFault) → GivesTexts texts old → new ≡ old → GivesTexts texts new
 texts_moved texts old new given e = moved (λ all. map string_bytes all.items) texts old new given e
@@ -195,17 +185,17 @@ module _ (law : LastValueCounts) where
   }
 
   is_none : (format : Format) (key : List ℕ) → (key ≡ codes "target" → ⊥) → (key ≡ codes "commands" → ⊥) → (key ≡ codes "reads" → ⊥) → (key ≡ codes "writes" → ⊥) → (key ≡ codes "shared" → ⊥) → has_name (names_of format) key ≡ false
-  is_none One key a b c d e = rw (differs key (codes "target") a, differs key (codes "commands") b, differs key (codes "reads") c, differs key (codes "writes") d) refl
-  is_none Two key a b c d e = rw (differs key (codes "target") a, differs key (codes "commands") b, differs key (codes "reads") c, differs key (codes "writes") d, differs key (codes "shared") e) refl
+  is_none One key a b c d e = rw (bytes_eq-differ key (codes "target") a, bytes_eq-differ key (codes "commands") b, bytes_eq-differ key (codes "reads") c, bytes_eq-differ key (codes "writes") d) refl
+  is_none Two key a b c d e = rw (bytes_eq-differ key (codes "target") a, bytes_eq-differ key (codes "commands") b, bytes_eq-differ key (codes "reads") c, bytes_eq-differ key (codes "writes") d, bytes_eq-differ key (codes "shared") e) refl
 
   pub other_put : (format : Format) (p : EntryParts) (key : List ℕ) (value : Data) (ms : Members) → (key ≡ codes "target" → ⊥) → (key ≡ codes "commands" → ⊥) → (key ≡ codes "reads" → ⊥) → (key ≡ codes "writes" → ⊥) → (key ≡ codes "shared" → ⊥) → IsOfEntry format p (object ms)
       → IsOfEntry format (record { target = p.target; commands = p.commands; reads = p.reads; writes = p.writes; shared = p.shared; alone = false }) (object (put key value ms))
   other_put format p key value ms a b c d e was = record {
-    target = moved string_bytes p.target _ _ was.target (text_there keys.Target key value ms (differs _ _ (turned a)));
-    commands = texts_moved p.commands _ _ was.commands (texts_there keys.Commands key value ms (differs _ _ (turned b)));
-    reads = texts_moved p.reads _ _ was.reads (texts_there keys.Reads key value ms (differs _ _ (turned c)));
-    writes = texts_moved p.writes _ _ was.writes (texts_there keys.Writes key value ms (differs _ _ (turned d)));
-    shared = texts_moved p.shared _ _ was.shared (shared_there format key value ms (differs _ _ (turned e)));
+    target = moved string_bytes p.target _ _ was.target (text_there keys.Target key value ms (bytes_eq-differ _ _ (differ-sym a)));
+    commands = texts_moved p.commands _ _ was.commands (texts_there keys.Commands key value ms (bytes_eq-differ _ _ (differ-sym b)));
+    reads = texts_moved p.reads _ _ was.reads (texts_there keys.Reads key value ms (bytes_eq-differ _ _ (differ-sym c)));
+    writes = texts_moved p.writes _ _ was.writes (texts_there keys.Writes key value ms (bytes_eq-differ _ _ (differ-sym d)));
+    shared = texts_moved p.shared _ _ was.shared (shared_there format key value ms (bytes_eq-differ _ _ (differ-sym e)));
     alone = sym (unknown_there (names_of format) key value ms (is_none format key a b c d e));
   }
 
@@ -233,9 +223,9 @@ module _ (law : LastValueCounts) where
   pub other_group_put : (p : GroupParts) (key : List ℕ) (value : Data) (ms : Members) → (key ≡ codes "goals" → ⊥) → (key ≡ codes "records" → ⊥) → IsOfGroup p (object ms)
       → IsOfGroup (record { goals = p.goals; records = p.records; alone = false }) (object (put key value ms))
   other_group_put p key value ms a b was = record {
-    goals = texts_moved p.goals _ _ was.goals (texts_there keys.Goals key value ms (differs _ _ (turned a)));
-    records = each_moved (entry_in Two) p.records _ _ was.records (elements_there keys.Records key value ms (differs _ _ (turned b)));
-    alone = sym (unknown_there group_names key value ms (rw (differs key (codes "goals") a, differs key (codes "records") b) refl));
+    goals = texts_moved p.goals _ _ was.goals (texts_there keys.Goals key value ms (bytes_eq-differ _ _ (differ-sym a)));
+    records = each_moved (entry_in Two) p.records _ _ was.records (elements_there keys.Records key value ms (bytes_eq-differ _ _ (differ-sym b)));
+    alone = sym (unknown_there group_names key value ms (rw (bytes_eq-differ key (codes "goals") a, bytes_eq-differ key (codes "records") b) refl));
   }
 
   -- ---- the parts of a file
@@ -327,12 +317,12 @@ module _ (law : LastValueCounts) where
   pub other_file_put : (p : Parts) (key : List ℕ) (value : Data) (ms : Members) → (key ≡ codes "format" → ⊥) → (key ≡ codes "fixed" → ⊥) → (key ≡ codes "sources" → ⊥) → (key ≡ codes "records" → ⊥) → (key ≡ codes "lists" → ⊥) → (key ≡ codes "groups" → ⊥) → IsOf p (object ms)
       → IsOf (record { format = p.format; fixed = p.fixed; sources = p.sources; records = p.records; lists = p.lists; groups = p.groups; is_first = false; is_second = false }) (object (put key value ms))
   other_file_put p key value ms a b c d e g was = record {
-    format = moved (λ format. format) p.format _ _ was.format (format_there key value ms (differs _ _ (turned a)));
-    fixed = texts_moved p.fixed _ _ was.fixed (texts_there keys.Fixed key value ms (differs _ _ (turned b)));
-    sources = texts_moved p.sources _ _ was.sources (texts_there keys.Sources key value ms (differs _ _ (turned c)));
-    records = each_moved (entry_in One) p.records _ _ was.records (elements_there keys.Records key value ms (differs _ _ (turned d)));
-    lists = moved (λ (all : Vec SharedList Global). all.items) p.lists _ _ was.lists (lists_there key value ms (differs _ _ (turned e)));
-    groups = each_moved group_in p.groups _ _ was.groups (elements_there keys.Groups key value ms (differs _ _ (turned g)));
-    is_first = sym (unknown_there first_names key value ms (rw (differs key (codes "format") a, differs key (codes "fixed") b, differs key (codes "sources") c, differs key (codes "records") d) refl));
-    is_second = sym (unknown_there second_names key value ms (rw (differs key (codes "format") a, differs key (codes "fixed") b, differs key (codes "sources") c, differs key (codes "lists") e, differs key (codes "groups") g) refl));
+    format = moved (λ format. format) p.format _ _ was.format (format_there key value ms (bytes_eq-differ _ _ (differ-sym a)));
+    fixed = texts_moved p.fixed _ _ was.fixed (texts_there keys.Fixed key value ms (bytes_eq-differ _ _ (differ-sym b)));
+    sources = texts_moved p.sources _ _ was.sources (texts_there keys.Sources key value ms (bytes_eq-differ _ _ (differ-sym c)));
+    records = each_moved (entry_in One) p.records _ _ was.records (elements_there keys.Records key value ms (bytes_eq-differ _ _ (differ-sym d)));
+    lists = moved (λ (all : Vec SharedList Global). all.items) p.lists _ _ was.lists (lists_there key value ms (bytes_eq-differ _ _ (differ-sym e)));
+    groups = each_moved group_in p.groups _ _ was.groups (elements_there keys.Groups key value ms (bytes_eq-differ _ _ (differ-sym g)));
+    is_first = sym (unknown_there first_names key value ms (rw (bytes_eq-differ key (codes "format") a, bytes_eq-differ key (codes "fixed") b, bytes_eq-differ key (codes "sources") c, bytes_eq-differ key (codes "records") d) refl));
+    is_second = sym (unknown_there second_names key value ms (rw (bytes_eq-differ key (codes "format") a, bytes_eq-differ key (codes "fixed") b, bytes_eq-differ key (codes "sources") c, bytes_eq-differ key (codes "lists") e, bytes_eq-differ key (codes "groups") g) refl));
   }

@@ -1,15 +1,12 @@
 -- Lists of the same names.
-use Rattle.std.proofs.Common.{◌≡◌, ℕ, suc, Bool, true, false, ◌&&◌, List, [], ◌∷◌, length, refl, ap, ◌∙◌}
+use Rattle.std.proofs.Common.{◌≡◌, ℕ, suc, false, ◌&&◌, List, [], ◌∷◌, length, refl, ap, ◌∙◌}
 use Rattle.std.specs.Str.{bytes_eq}
+use mathlib.Core.Bool.{and-false}
 use Rattle.mk_foot.specs.Names.{same_names}
-
-and_no : (b : Bool) → (b && false) ≡ false
-and_no true = refl
-and_no false = refl
 
 -- lists of other lengths hold other names
 pub other_lengths : (xs ys : List (List ℕ)) → (length xs ≡ length ys → ⊥) → same_names xs ys ≡ false
 other_lengths [] [] h = absurd (h refl)
 other_lengths [] (b ∷ ys) h = refl
 other_lengths (a ∷ xs) [] h = refl
-other_lengths (a ∷ xs) (b ∷ ys) h = ap (λ t. bytes_eq a b && t) (other_lengths xs ys (λ e. h (ap suc e))) ∙ and_no (bytes_eq a b)
+other_lengths (a ∷ xs) (b ∷ ys) h = ap (λ t. bytes_eq a b && t) (other_lengths xs ys (λ e. h (ap suc e))) ∙ and-false (bytes_eq a b)

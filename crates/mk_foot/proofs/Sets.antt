@@ -1,30 +1,10 @@
 -- Sets of names that are parts of a text.
-use Rattle.std.proofs.Common.{◌≡◌, ℕ, Bool, true, false, ◌+◌, ◌<◌, length, cond, List, [], ◌∷◌, ◌++◌, map, get_or, drop, refl, sym, ap, ◌∙◌}
+use Rattle.std.proofs.Common.{◌≡◌, ℕ, ◌+◌, ◌<◌, length, List, get_or, drop, sym, ap, ◌∙◌}
 use Rattle.std.specs.Prelude.{fold}
 use Rattle.std.specs.Borrow.{Bor}
-use Rattle.std.specs.Str.{bytes_eq}
-use Rattle.std.specs.List.{list_any}
-use Rattle.std.proofs.lemmas.List.{map_push, drop_more}
-use Rattle.mk_foot.specs.Names.{has_name, with_name}
-use Rattle.mk_foot.proofs.ListTests.{list_any_map}
-
--- what texts of the code spell
-abbrev pub texts : List (Bor (List ℕ)) → List (List ℕ)
-texts names = map (λ name. name.now) names
-
--- whether a name is among them
-pub among : (keys : List (Bor (List ℕ))) (name : List ℕ) (old : List (List ℕ)) → texts keys ≡ old → list_any (λ other. bytes_eq name other.now) keys ≡ has_name old name
-among keys name old v = sym (list_any_map (λ (other : List ℕ). bytes_eq name other) (λ (n : Bor (List ℕ)). n.now) keys) ∙ ap (λ names. has_name names name) v
-
--- the names after an insertion
-pub inserted : (keys : List (Bor (List ℕ))) (name : Bor (List ℕ)) (old : List (List ℕ)) (new : List (Bor (List ℕ))) → new ≡ cond (list_any (λ other. bytes_eq name.now other.now) keys) keys (keys ++ name ∷ []) → texts keys ≡ old
-    → texts new ≡ with_name old name.now
-inserted keys name old new e v =
-    ap texts e ∙ (both (list_any (λ other. bytes_eq name.now other.now) keys) ∙ (ap (λ b. cond b (texts keys) (texts keys ++ name.now ∷ [])) (among keys name.now old v) ∙ ap (λ names. cond (has_name old name.now) names (names ++ name.now ∷ [])) v))
-  where
-    both : (b : Bool) → texts (cond b keys (keys ++ name ∷ [])) ≡ cond b (texts keys) (texts keys ++ name.now ∷ [])
-    both true = refl
-    both false = map_push (λ (n : Bor (List ℕ)). n.now) keys name
+use Rattle.std.proofs.lemmas.List.{drop_more}
+use Rattle.mk_lemmas.proofs.Texts.{texts}
+use Rattle.mk_foot.specs.Names.{with_name}
 
 -- one more of the names goes in
 pub one_in : (old new : List (List ℕ)) (names : List (Bor (List ℕ))) (i : ℕ) (d : Bor (List ℕ)) (whole : List (List ℕ)) → new ≡ with_name old (get_or names i d).now

@@ -1,26 +1,9 @@
 -- Places of the names of a list that were noted one after another.
-use Rattle.std.proofs.Common.{◌≡◌, ℕ, suc, ◌+◌, ◌<◌, Bool, true, false, cond, List, [], ◌∷◌, ◌++◌, length, Option, Some, None, refl, sym, ap, ◌∙◌, arith, map, get_or, take, length-take-le}
+use Rattle.std.proofs.Common.{◌≡◌, ℕ, ◌+◌, ◌<◌, List, [], ◌∷◌, ◌++◌, length, Option, sym, ap, ◌∙◌, arith, map, get_or, take, length-take-le}
 use Rattle.std.proofs.lemmas.List.{take_more, map_push, length-map}
 use Rattle.std.specs.Str.{bytes_eq}
-use Rattle.mk_lines.specs.Places.{place_in}
+use Rattle.mk_lines.proofs.Places.{place_push}
 use Rattle.mk_foot.specs.Names.{place_from, else_last}
-
--- no name has a place among none
-pub none_in : (name : List ℕ) → place_in [] name ≡ place_from 0 [] name
-unfolding place_from place_in
-none_in name = refl
-
--- one more at the end has a place there, unless it had one before
-else_or : (b : Bool) (n m : ℕ) (o new : Option ℕ) (last : Bool) → new ≡ else_last o last m → cond b (Some n) new ≡ else_last (cond b (Some n) o) last m
-else_or true n m o new last e = refl
-else_or false n m o new last e = e
-
-place_push : (n : ℕ) (names : List (List ℕ)) (more name : List ℕ) → place_from n (names ++ more ∷ []) name ≡ else_last (place_from n names name) (bytes_eq name more) (n + length names)
-unfolding place_from
-place_push n [] more name = ap (λ m. cond (bytes_eq name more) (Some m) None) (omega arith)
-place_push n (other ∷ names) more name =
-    let at : n + 1 + length names ≡ n + suc (length names) = omega arith in
-    else_or (bytes_eq name other) n _ _ _ _ (place_push (n + 1) names more name ∙ ap (else_last (place_from (n + 1) names name) (bytes_eq name more)) at)
 
 -- one more of a list is noted
 pub next_place : {A : Type 0} (key : A → List ℕ) (before after : Option ℕ) (xs : List A) (i : ℕ) (d : A) (noted name : List ℕ) → noted ≡ key (get_or xs i d) → after ≡ else_last before (bytes_eq name noted) i

@@ -1,14 +1,10 @@
 -- Names in lists, in addition to those of mk_lines.
 pub use Rattle.mk_lines.specs.Names.{has_name, with_name, once, else_last, begins_with_any}
 unfoldable pub use Rattle.mk_lines.specs.Names.{place_from}
-use Rattle.std.specs.Prelude.{◌≡◌, ◌⊎◌, ℕ, ◌-◌, ◌==◌, Bool, true, false, ◌&&◌, ◌||◌, List, [], ◌∷◌, ◌++◌, length, take, slice_index, nat_lt, codes, Option, None, Some, if◌then◌else◌}
+pub use Rattle.mk_lemmas.specs.Membership.{Has}
+use Rattle.std.specs.Prelude.{ℕ, ◌-◌, ◌==◌, Bool, true, false, ◌&&◌, ◌||◌, List, [], ◌∷◌, ◌++◌, length, take, slice_index, nat_lt, codes, Option, None, Some, if◌then◌else◌}
 use Rattle.std.specs.Str.{bytes_eq}
 use Rattle.mk_lines.specs.Paths.{is_plain_path}
-
--- the name is in the list
-abbrev pub Has : List (List ℕ) → List ℕ → Type 0
-Has [] name = ⊥
-Has (other ∷ names) name = (other ≡ name) ⊎ Has names name
 
 -- the first name that occurs before itself in the list or among the names `before`
 unfoldable pub first_repeat : List (List ℕ) → List (List ℕ) → Option (List ℕ)

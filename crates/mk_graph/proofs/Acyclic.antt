@@ -3,12 +3,12 @@ use Rattle.std.proofs.Common.{◌≡◌, ℕ, cond, eqb, ◌<◌, ◌≤◌, Lis
 use Rattle.std.specs.List.{flat_map}
 use Rattle.std.proofs.lemmas.Bool.{cases_Bool, cond-true, cond-false, cases_lt}
 use Rattle.std.proofs.lemmas.List.{get_or_past}
+use Rattle.mk_lemmas.proofs.Members.{length-le_distinct}
 use Rattle.mk_graph.specs.declared.node.Node.{Node}
 use Rattle.mk_graph.specs.Membership.{Has}
 use Rattle.mk_graph.specs.Graph.{Graph, node, no_node, prerequisites, Reached, goal, onward, HasPath, one, then, HasNoCycle, IsSound}
 use Rattle.mk_graph.specs.Walk.{Through}
 use Rattle.mk_graph.specs.Build.{WalksAll}
-use Rattle.mk_graph.proofs.Members.{length-le_distinct}
 use Rattle.mk_graph.proofs.Walks.{IsOrdered, ordered_needs, ordered_distinct, keeps_order, takes, holds_through}
 
 -- how many nodes stand behind n

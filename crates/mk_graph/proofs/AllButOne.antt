@@ -1,11 +1,10 @@
 -- What can be done without one node decides which nodes it is before.
 use Rattle.std.proofs.Common.{true, ◌≡◌, ℕ, zero, suc, ◌<◌, List, [], ◌∷◌, length, inl, inr, ⊎_elim, ◌⊎◌, refl, sym, subst, arith}
+use Rattle.mk_lemmas.proofs.Members.{Has-left, Has-right, cases_Has}
 use Rattle.mk_graph.specs.Membership.{Has, IsWithin}
 use Rattle.mk_graph.specs.Graph.{Graph, node, prerequisites, Reached, goal, onward, HasPath, one, then, IsSound, IsGraph}
 use Rattle.mk_graph.specs.Schedules.{HasAll, InOpenGroup, Wanted, goal as wanted_goal, onward as wanted_onward, CanStart, IsSchedule, IsPart, Before}
 use Rattle.mk_graph.specs.Without.{IsFree, AreFree, joined}
-use Rattle.mk_graph.specs.Lists.{has_left, has_right}
-use Rattle.mk_graph.proofs.Members.{cases_Has}
 use Rattle.mk_graph.proofs.Parts.{HasAll-from_Has, Has-from_HasAll, HasAll-grows, Wanted-grows}
 use Rattle.mk_graph.proofs.Loops.{HasAll-append}
 
@@ -32,8 +31,8 @@ free_made g o n ne all = (ne, λ l. let s = first_step g n o l in ⊎_elim (λ s
 -- an open group is one of the groups
 pub open_joined : (done : List ℕ) (groups : List (List ℕ)) (n : ℕ) → InOpenGroup done groups n → Has (joined groups) n
 open_joined done [] n h = absurd h
-open_joined done (group ∷ groups) n (inl here) = has_left group (joined groups) n here
-open_joined done (group ∷ groups) n (inr later) = has_right group (joined groups) n (open_joined done groups n later.1)
+open_joined done (group ∷ groups) n (inl here) = Has-left group (joined groups) n here
+open_joined done (group ∷ groups) n (inr later) = Has-right group (joined groups) n (open_joined done groups n later.1)
 
 -- what is wanted is reached
 pub wanted_reached : (g : Graph) (done : List ℕ) (n : ℕ) → Wanted g g.goals done n → Reached g n
@@ -86,8 +85,8 @@ module _ (g : Graph) (o : ℕ) where
   finish_groups : (groups : List (List ℕ)) → ((p : ℕ) → Has (joined groups) p → Finishes p) → (ns : List ℕ) → IsLonger ns ns → AreOpened ns groups → (ms : List ℕ) × IsLonger ns ms × HasAll ms (joined groups)
   finish_groups [] f ns is opened = (ns, is, tt)
   finish_groups (group ∷ groups) f ns is opened =
-      let a = finish_all group (λ p h. f p (has_left group (joined groups) p h)) ns is (λ p h. opened ns (λ k t. t) p (inl h)) in
-      let b = finish_groups groups (λ p h. f p (has_right group (joined groups) p h)) a.0 (itself ns a.0 a.1) (λ ms within p stands. opened ms (λ k t. within k (a.1.within k t)) p (inr (HasAll-grows a.0 ms group within a.2, stands))) in
+      let a = finish_all group (λ p h. f p (Has-left group (joined groups) p h)) ns is (λ p h. opened ns (λ k t. t) p (inl h)) in
+      let b = finish_groups groups (λ p h. f p (Has-right group (joined groups) p h)) a.0 (itself ns a.0 a.1) (λ ms within p stands. opened ms (λ k t. within k (a.1.within k t)) p (inr (HasAll-grows a.0 ms group within a.2, stands))) in
       (b.0, longer_on ns a.0 b.0 a.1 b.1, (HasAll-append b.0 group (joined groups)).1 (HasAll-grows a.0 b.0 group b.1.within a.2, b.2))
 
   -- what a wanted node has in open groups is wanted

@@ -1,9 +1,11 @@
 -- What the rows of prerequisites are, and what the walk over them means for the graph.
-use Rattle.std.proofs.Common.{◌≡◌, ℕ, zero, suc, ◌<◌, ◌≤◌, List, [], ◌∷◌, length, map, get_or, reverse, All, Vec, refl, sym, ap, subst, ◌∙◌, arith}
+use Rattle.std.proofs.Common.{◌≡◌, ℕ, ◌<◌, ◌≤◌, List, [], length, map, get_or, reverse, All, Vec, sym, ap, subst, ◌∙◌, arith}
 use Rattle.std.specs.declared.alloc.Global.{Global}
 use Rattle.std.specs.List.{flat_map}
 use Rattle.std.proofs.lemmas.List.{length-map}
 use mathlib.Core.Path.{fun_ext}
+use Rattle.mk_lemmas.proofs.Members.{All-from_Has}
+use Rattle.mk_lemmas.proofs.Lists.{get_or-map_default}
 use Rattle.mk_graph.specs.declared.node.Node.{Node}
 use Rattle.mk_graph.specs.Membership.{Has}
 use Rattle.mk_graph.specs.Graph.{Graph, no_node, prerequisites, IsSound, IsGraph}
@@ -12,16 +14,9 @@ use Rattle.mk_graph.specs.declared.walk.End.{End}
 use Rattle.mk_graph.specs.Progress.{row, AreRows, walk_end}
 use Rattle.mk_graph.specs.Build.{WalksAll}
 use Rattle.mk_graph.specs.Serial.{serial_order}
-use Rattle.mk_graph.proofs.Members.{All-from_Has}
 use Rattle.mk_graph.proofs.Walks.{holds_closes}
 use Rattle.mk_graph.proofs.Acyclic.{no_cycle}
 use Rattle.mk_graph.proofs.SerialOrder.{serial_is}
-
--- a mapped list at a place, with the mapped default
-pub get_or-map_default : {X Y : Type 0} (f : X → Y) (xs : List X) (n : ℕ) (d : X) → get_or (map f xs) n (f d) ≡ f (get_or xs n d)
-get_or-map_default f [] n d = refl
-get_or-map_default f (x ∷ xs) zero d = refl
-get_or-map_default f (x ∷ xs) (suc n) d = get_or-map_default f xs n d
 
 -- the prerequisites of a node
 abbrev pub joined_groups : Node → List ℕ

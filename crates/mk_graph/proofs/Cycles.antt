@@ -1,12 +1,12 @@
 -- Walks close cycles, come through without cycles, and have an end.
 use Rattle.std.proofs.Common.{true, false, ◌≡◌, ℕ, zero, suc, ◌+◌, ◌<◌, eqb, List, [], ◌∷◌, ◌++◌, length, inl, inr, ⊎_elim, refl, sym, subst, arith, eqb-true, eq-eqb}
 use Rattle.std.proofs.lemmas.Bool.{cases_Bool, cond-true, cond-false, eqb-false}
+use Rattle.mk_lemmas.proofs.Members.{cases_Has, length-le_distinct}
 use Rattle.mk_graph.specs.Membership.{Has, IsDistinct}
 use Rattle.mk_graph.specs.Graph.{Graph, prerequisites, Reached, goal, onward, HasPath, one, then, HasNoCycle, IsSound}
 use Rattle.mk_graph.specs.Walk.{WalkEnd, Through, Closes, path_from, closed_path, Walks, ends, passes, closes, breaks, finishes}
 use Rattle.mk_graph.specs.Build.{WalksAll}
 use Rattle.mk_graph.specs.Laws.{WalkHasAnEnd, WalkHasOneEnd, GoesAlong, step, further, ClosesOnlyCycles, ComesThroughWithoutCycles, HeightsForbidCycles, NoCycleGivesHeights}
-use Rattle.mk_graph.proofs.Members.{cases_Has, length-le_distinct}
 use Rattle.mk_graph.proofs.Walks.{one_end, holds_closes}
 use Rattle.mk_graph.proofs.Acyclic.{no_cycle, no_node_leads_to_itself}
 

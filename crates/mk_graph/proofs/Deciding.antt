@@ -2,18 +2,17 @@
 use Rattle.std.proofs.Common.{true, ◌≡◌, ℕ, zero, suc, ◌+◌, ◌<◌, ◌≤◌, List, [], ◌∷◌, ◌++◌, length, get_or, ◌⊎◌, inl, inr, ⊎_elim, refl, sym, subst, ◌∙◌, arith, add-one}
 use Rattle.std.specs.Prelude.{◌↔◌}
 use Rattle.std.proofs.lemmas.Bool.{cases_Bool, cases_eq, false≢true}
+use Rattle.mk_lemmas.proofs.Members.{Has-cases, Has-left, Has-right, cases_Has}
 use Rattle.mk_graph.specs.Membership.{Has}
 use Rattle.mk_graph.specs.Graph.{Graph, node, prerequisites, IsGraph}
 use Rattle.mk_graph.specs.Serial.{serial_order}
 use Rattle.mk_graph.specs.Schedules.{HasAll, InOpenGroup, Wanted, CanStart, IsSchedule, Before}
 use Rattle.mk_graph.specs.Without.{AreFree}
-use Rattle.mk_graph.specs.Lists.{has_left, has_right, has_cases}
-use Rattle.mk_graph.proofs.Members.{cases_Has}
 use Rattle.mk_graph.proofs.AllButOne.{is_before, is_not_before, turn_comes}
 use Rattle.mk_graph.proofs.Rounds.{AreFreeUpTo, free_joins, free_stays, all_free, AreWantedFrom, goals_wanted, opens_this, passes_this, all_wanted}
 
 -- all of a list stands in another one or doesn't
-cases_HasAll : (ns ms : List ℕ) → HasAll ns ms ⊎ (¬ (HasAll ns ms))
+pub cases_HasAll : (ns ms : List ℕ) → HasAll ns ms ⊎ (¬ (HasAll ns ms))
 cases_HasAll ns [] = inl tt
 cases_HasAll ns (m ∷ ms) =
     ⊎_elim (λ h. ⊎_elim (λ all. inl (h, all)) (λ out. inr (λ all. out all.1)) (cases_HasAll ns ms)) (λ out. inr (λ all. out all.0)) (cases_Has ns m)
@@ -27,9 +26,9 @@ opened done (group ∷ groups) =
       group ++ rest.0,
       λ n. (
         λ h. ⊎_elim (λ here. inl here)
-            (λ later. inr (all, (rest.1 n).0 later)) (has_cases group rest.0 n h),
+            (λ later. inr (all, (rest.1 n).0 later)) (Has-cases group rest.0 n h),
         λ h. ⊎_elim
-            (λ here. has_left group rest.0 n here) (λ later. has_right group rest.0 n ((rest.1 n).1 later.1)) h,
+            (λ here. Has-left group rest.0 n here) (λ later. Has-right group rest.0 n ((rest.1 n).1 later.1)) h,
       ),
     ))
     (λ out. (group, λ n. (λ h. inl h, λ h. ⊎_elim (λ here. here) (λ later. absurd (out later.0)) h)))
@@ -37,7 +36,7 @@ opened done (group ∷ groups) =
 
 -- the elements of two lists
 joins_list : (ms ns : List ℕ) (n : ℕ) → Has (ms ++ ns) n ↔ (Has ms n ⊎ Has ns n)
-joins_list ms ns n = (has_cases ms ns n, λ h. ⊎_elim (has_left ms ns n) (has_right ms ns n) h)
+joins_list ms ns n = (Has-cases ms ns n, λ h. ⊎_elim (Has-left ms ns n) (Has-right ms ns n) h)
 
 -- one more element
 joins_one : (m : ℕ) (ns : List ℕ) (n : ℕ) → Has (m ∷ ns) n ↔ ((n ≡ m) ⊎ Has ns n)

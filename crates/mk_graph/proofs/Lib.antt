@@ -1,4 +1,3 @@
-pub mod Members
 pub mod Walks
 pub mod Frames
 pub mod Paths
@@ -24,3 +23,5 @@ pub mod TurnLoops
 pub mod BitWords
 pub mod RowBits
 pub mod Settling
+pub mod Nodes
+pub mod OpenGroups

@@ -1,12 +1,13 @@
 -- Loops over numbers and over groups: what holds of the rest decides what holds of all.
-use Rattle.std.proofs.Common.{◌≡◌, ℕ, zero, suc, ◌+◌, ◌<◌, List, [], ◌∷◌, ◌++◌, length, get_or, drop, map, Vec, inl, inr, ⊎_elim, ◌⊎◌, sym, ap, subst, ◌∙◌, arith}
+use Rattle.std.proofs.Common.{◌≡◌, ℕ, zero, suc, ◌+◌, ◌<◌, List, [], ◌∷◌, ◌++◌, length, get_or, drop, Vec, inl, inr, ⊎_elim, ◌⊎◌, sym, ap, subst, ◌∙◌, arith}
 use Rattle.std.specs.Prelude.{◌↔◌}
 use Rattle.std.specs.declared.alloc.Global.{Global}
 use Rattle.std.proofs.lemmas.List.{drop_more}
+use Rattle.mk_lemmas.proofs.Members.{Has-cases, Has-left, Has-right}
+use Rattle.mk_graph.specs.BitRows.{lists}
 use Rattle.mk_graph.specs.Membership.{Has}
 use Rattle.mk_graph.specs.Schedules.{HasAll, InOpenGroup}
 use Rattle.mk_graph.specs.Without.{joined}
-use Rattle.mk_graph.specs.Lists.{has_left, has_right, has_cases}
 use Rattle.mk_graph.proofs.Parts.{HasAll-from_Has, Has-from_HasAll}
 
 module _ (ns numbers : List ℕ) (i : ℕ) (low : i < length numbers) where
@@ -34,19 +35,15 @@ number_joins was old new numbers i low joins rest n =
 -- all of two joined lists
 pub HasAll-append : (ns ms ks : List ℕ) → HasAll ns (ms ++ ks) ↔ (HasAll ns ms × HasAll ns ks)
 HasAll-append ns ms ks = (
-  λ all. (HasAll-from_Has ns ms (λ n h. Has-from_HasAll ns (ms ++ ks) all n (has_left ms ks n h)), HasAll-from_Has ns ks (λ n h. Has-from_HasAll ns (ms ++ ks) all n (has_right ms ks n h))),
-  λ both. HasAll-from_Has ns (ms ++ ks) (λ n h. ⊎_elim (Has-from_HasAll ns ms both.0 n) (Has-from_HasAll ns ks both.1 n) (has_cases ms ks n h)),
+  λ all. (HasAll-from_Has ns ms (λ n h. Has-from_HasAll ns (ms ++ ks) all n (Has-left ms ks n h)), HasAll-from_Has ns ks (λ n h. Has-from_HasAll ns (ms ++ ks) all n (Has-right ms ks n h))),
+  λ both. HasAll-from_Has ns (ms ++ ks) (λ n h. ⊎_elim (Has-from_HasAll ns ms both.0 n) (Has-from_HasAll ns ks both.1 n) (Has-cases ms ks n h)),
 )
-
--- the groups as lists
-abbrev pub lists : List (Vec ℕ Global) → List (List ℕ)
-lists groups = map (λ (r : Vec ℕ Global). r.items) groups
 
 -- what stands in the group at a place stands in all groups
 Has-joined : (groups : List (Vec ℕ Global)) (i : ℕ) (d : Vec ℕ Global) (n : ℕ) → i < length groups → Has (get_or groups i d).items n → Has (joined (lists groups)) n
 Has-joined [] i d n low h = absurd (omega arith)
-Has-joined (group ∷ groups) zero d n low h = has_left group.items (joined (lists groups)) n h
-Has-joined (group ∷ groups) (suc i) d n low h = has_right group.items (joined (lists groups)) n (Has-joined groups i d n (omega arith) h)
+Has-joined (group ∷ groups) zero d n low h = Has-left group.items (joined (lists groups)) n h
+Has-joined (group ∷ groups) (suc i) d n low h = Has-right group.items (joined (lists groups)) n (Has-joined groups i d n (omega arith) h)
 
 module _ (groups : List (Vec ℕ Global)) (i : ℕ) (group : Vec ℕ Global) (numbers : List ℕ) (low : i < length groups) (is : group ≡ get_or groups i group) (value : numbers ≡ group.items) where
   -- its members are members of all groups

@@ -2,12 +2,12 @@
 use Rattle.std.proofs.Common.{◌≡◌, ℕ, ◌<◌, suc, List, [], ◌∷◌, length, filter, reverse, inl, inr, refl, ap, subst, ◌∙◌}
 use Rattle.std.proofs.lemmas.Bool.{cond-true}
 use mathlib.Core.List.{reverse-cons}
+use Rattle.mk_lemmas.proofs.Members.{has-from_Has}
 use Rattle.mk_graph.specs.Membership.{Has, has}
 use Rattle.mk_graph.specs.Graph.{Graph, prerequisites, HasNoCycle}
 use Rattle.mk_graph.specs.Walk.{Through, Walks, ends, finishes}
 use Rattle.mk_graph.specs.Serial.{visits, serial_from, serial_order}
 use Rattle.mk_graph.specs.Laws.{SerialOrderOfOne, OrderOfAllGoals}
-use Rattle.mk_graph.proofs.Members.{has-from_Has}
 use Rattle.mk_graph.proofs.Walks.{one_end, same_finished}
 use Rattle.mk_graph.proofs.SerialOrder.{cut_height, cut_low, cut_falls, come_through, visits_walk}
 

@@ -5,12 +5,11 @@ use Rattle.std.proofs.lemmas.List.{reverse-reverse, reverse-append}
 use Rattle.std.proofs.lemmas.List.Elements.{filter-append, filter_agree}
 use Rattle.std.proofs.lemmas.List.Sums.{fold-append}
 use mathlib.Core.List.{reverse-cons}
+use Rattle.mk_lemmas.proofs.Members.{Has-cases, Has-from_has, Has-from_reverse, Has-left, Has-reverse, Has-right, IsDistinct-reverse, has-from_Has, has-from_not, has-reverse, not-from_has}
 use Rattle.mk_graph.specs.Membership.{Has, has}
 use Rattle.mk_graph.specs.Graph.{Graph, prerequisites, HasNoCycle}
 use Rattle.mk_graph.specs.Serial.{visit, visits, serial_from, serial_order}
 use Rattle.mk_graph.specs.Laws.{SerialReachesEachOnce, PrerequisitesComeFirst, beside, GoalsDecideWhatComesFirst}
-use Rattle.mk_graph.specs.Lists.{has_left, has_right, has_cases}
-use Rattle.mk_graph.proofs.Members.{Has-from_has, has-from_Has, has-from_not, not-from_has, Has-reverse, Has-from_reverse, has-reverse, IsDistinct-reverse}
 use Rattle.mk_graph.proofs.Walks.{IsOrdered, ordered_needs, ordered_distinct, ordered_behind, keeps_order}
 use Rattle.mk_graph.proofs.Acyclic.{finished_all, finished_only}
 use Rattle.mk_graph.proofs.SerialOrder.{visit_old, visit_new, visits_walk}
@@ -106,12 +105,12 @@ module _ (needs : ℕ → List ℕ) (done : List ℕ) (closed : (n p : ℕ) → 
   -- what was visited alone, or is done, is visited in both
   has_old : (visited : List ℕ) (n : ℕ) → Has visited n → has (beside done visited ++ done) n ≡ true
   has_old visited n h =
-      has-from_Has (beside done visited ++ done) n (⊎_elim (λ e. has_right (beside done visited) done n (Has-from_has done n e)) (λ e. has_left (beside done visited) done n (Has-beside done visited n h e)) (cases_Bool (has done n)))
+      has-from_Has (beside done visited ++ done) n (⊎_elim (λ e. Has-right (beside done visited) done n (Has-from_has done n e)) (λ e. Has-left (beside done visited) done n (Has-beside done visited n h e)) (cases_Bool (has done n)))
 
   -- what was neither is not
   has_new : (visited : List ℕ) (n : ℕ) → ¬ (Has visited n) → ¬ (Has done n) → has (beside done visited ++ done) n ≡ false
   has_new visited n out undone =
-      has-from_not (beside done visited ++ done) n (λ h. ⊎_elim (λ b. out (Has-from_beside done visited n b)) undone (has_cases (beside done visited) done n h))
+      has-from_not (beside done visited ++ done) n (λ h. ⊎_elim (λ b. out (Has-from_beside done visited n b)) undone (Has-cases (beside done visited) done n h))
 
   -- a visit of what was visited alone
   one_old : (deep : ℕ) (visited : List ℕ) (n : ℕ) → has visited n ≡ true → visit needs (suc deep) (beside done visited ++ done) n ≡ beside done (visit needs (suc deep) visited n) ++ done
@@ -124,7 +123,7 @@ module _ (needs : ℕ → List ℕ) (done : List ℕ) (closed : (n p : ℕ) → 
       let found = fold (visit needs deep) visited (needs n) in
       let there = Has-from_has done n d in
       let alone : beside done (visit needs (suc deep) visited n) ≡ beside done visited = ap (λ (l : List ℕ). beside done l) (visit_new needs deep visited n e) ∙ beside_in done n found d ∙ adds_nothing deep visited (needs n) (λ p need. closed n p there need) in
-      visit_old needs deep (beside done visited ++ done) n (has-from_Has (beside done visited ++ done) n (has_right (beside done visited) done n there)) ∙ sym (ap (λ (l : List ℕ). l ++ done) alone)
+      visit_old needs deep (beside done visited ++ done) n (has-from_Has (beside done visited ++ done) n (Has-right (beside done visited) done n there)) ∙ sym (ap (λ (l : List ℕ). l ++ done) alone)
 
   -- a visit of what is neither
   one_new : (deep : ℕ) → AddBeside deep → (visited : List ℕ) (n : ℕ) → has visited n ≡ false → has done n ≡ false → visit needs (suc deep) (beside done visited ++ done) n ≡ beside done (visit needs (suc deep) visited n) ++ done

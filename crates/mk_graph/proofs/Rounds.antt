@@ -3,14 +3,13 @@ use Rattle.std.proofs.Common.{Bool, true, not, ◌≡◌, ℕ, ◌+◌, ◌<◌,
 use Rattle.std.specs.Prelude.{◌↔◌}
 use Rattle.std.proofs.lemmas.Bool.{cases_Bool, false≢true}
 use Rattle.std.proofs.lemmas.List.{take_more, take-append-drop, drop_more, take_all, get_or_default}
+use Rattle.mk_lemmas.proofs.Members.{Has-cases, Has-get_or, Has-left, Has-right}
 use Rattle.mk_graph.specs.declared.node.Node.{Node}
 use Rattle.mk_graph.specs.Membership.{Has, IsWithin}
 use Rattle.mk_graph.specs.Graph.{Graph, no_node, node, prerequisites, IsGraph}
 use Rattle.mk_graph.specs.Serial.{serial_order}
 use Rattle.mk_graph.specs.Schedules.{HasAll, InOpenGroup, Wanted, goal as wanted_goal, onward as wanted_onward, Before}
 use Rattle.mk_graph.specs.Without.{IsFree, AreFree, joined}
-use Rattle.mk_graph.specs.Lists.{has_left, has_right, has_cases}
-use Rattle.mk_graph.proofs.Members.{Has-get_or}
 use Rattle.mk_graph.proofs.Parts.{Has-from_HasAll, HasAll-from_Has}
 use Rattle.mk_graph.proofs.Orders.{serial_reaches_each_once, prerequisites_come_first}
 use Rattle.mk_graph.proofs.AllButOne.{free_needs, free_made, open_joined, reached_is_node, is_before, is_not_before}
@@ -19,8 +18,8 @@ use Rattle.mk_graph.proofs.AllButOne.{free_needs, free_made, open_joined, reache
 pub Has-take_more : (ns : List ℕ) (i n : ℕ) → i < length ns → Has (take (i + 1) ns) n ↔ (Has (take i ns) n ⊎ (n ≡ get_or ns i 0))
 Has-take_more ns i n low =
     let e = take_more ns i 0 low in (
-      λ h. elim (has_cases (take i ns) (get_or ns i 0 ∷ []) n (subst (λ (l : List ℕ). Has l n) e h)) [ inl before ↦ inl before | inr (inl last) ↦ inr (sym last) | inr (inr none) ↦ absurd none ],
-      λ h. subst (λ (l : List ℕ). Has l n) (sym e) (⊎_elim (λ before. has_left (take i ns) (get_or ns i 0 ∷ []) n before) (λ same. has_right (take i ns) (get_or ns i 0 ∷ []) n (inl (sym same))) h),
+      λ h. elim (Has-cases (take i ns) (get_or ns i 0 ∷ []) n (subst (λ (l : List ℕ). Has l n) e h)) [ inl before ↦ inl before | inr (inl last) ↦ inr (sym last) | inr (inr none) ↦ absurd none ],
+      λ h. subst (λ (l : List ℕ). Has l n) (sym e) (⊎_elim (λ before. Has-left (take i ns) (get_or ns i 0 ∷ []) n before) (λ same. Has-right (take i ns) (get_or ns i 0 ∷ []) n (inl (sym same))) h),
     )
 
 -- of the first nodes of the order those that are free

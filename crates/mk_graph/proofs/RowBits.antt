@@ -12,12 +12,12 @@ use Rattle.std.proofs.lemmas.Nat.{row_fits, div-add-mod', mod_below, div-mul-add
 use Rattle.std.proofs.lemmas.Nat.Bits.{shr_and_one, same_from_bits_below, bit_at_ones, bit_at-zero, bit_at-lt, bit_at_and, bit_at_or}
 use borrow.Rule.Slice.PartMut.{put_mid}
 use Rattle.std.specs.declared.alloc.Global.{Global}
+use Rattle.mk_lemmas.proofs.Members.{Has-cases, Has-left, Has-right}
 use Rattle.mk_graph.specs.Membership.{Has}
 use Rattle.mk_graph.specs.Without.{joined}
 use Rattle.mk_graph.specs.Bits.{is_set}
-use Rattle.mk_graph.specs.BitRows.{row, Lacks, RowLacks, Stays, IsOpenTo}
-use Rattle.mk_graph.specs.Lists.{has_left, has_right, has_cases}
-use Rattle.mk_graph.proofs.Loops.{lists, lists_more}
+use Rattle.mk_graph.specs.BitRows.{row, Lacks, RowLacks, Stays, IsOpenTo, lists}
+use Rattle.mk_graph.proofs.Loops.{lists_more}
 use Rattle.mk_graph.proofs.Sets.{bit_of, bit_beyond, with_bit, set_there, kept_elsewhere}
 
 -- what isn't there has no bit set
@@ -321,12 +321,12 @@ module _ (groups : List (Vec ℕ Global)) (i : ℕ) (group : Vec ℕ Global) (nu
       let rest : List ℕ = joined (lists (drop (i + 1) groups)) in (
         λ all. (
           λ n h. all n (subst (λ (l : List (List ℕ)). Has (joined l) n) (sym e)
-              (has_left numbers rest n h)),
+              (Has-left numbers rest n h)),
           λ n h. all n (subst (λ (l : List (List ℕ)). Has (joined l) n) (sym e)
-              (has_right numbers rest n h)),
+              (Has-right numbers rest n h)),
         ),
         λ both n h. ⊎_elim (both.0 n) (both.1 n)
-            (has_cases numbers rest n (subst (λ (l : List (List ℕ)). Has (joined l) n) e h)),
+            (Has-cases numbers rest n (subst (λ (l : List (List ℕ)). Has (joined l) n) e h)),
       )
 
   module _ (stride : ℕ) (words : List ℕ) where

@@ -2,12 +2,12 @@
 use Rattle.std.proofs.Common.{◌≡◌, ℕ, zero, suc, cond, ltb, true, false, ◌<◌, ◌≤◌, List, [], ◌∷◌, length, fold, reverse, inl, inr, ⊎_elim, refl, sym, ap, subst, ◌∙◌, arith, lt-ltb, le-ltb}
 use Rattle.std.proofs.lemmas.Bool.{cases_Bool, cases_lt, cond-true, cond-false}
 use Rattle.std.proofs.lemmas.List.{reverse-reverse}
+use Rattle.mk_lemmas.proofs.Members.{Has-from_has, not-from_has}
 use Rattle.mk_graph.specs.Membership.{Has, has}
 use Rattle.mk_graph.specs.Graph.{Graph, prerequisites, HasNoCycle}
 use Rattle.mk_graph.specs.Walk.{Through, Walks, ends, passes, finishes}
 use Rattle.mk_graph.specs.Serial.{visit, visits, serial_from, serial_order}
 use Rattle.mk_graph.specs.Build.{WalksAll}
-use Rattle.mk_graph.proofs.Members.{Has-from_has, not-from_has}
 use Rattle.mk_graph.proofs.Walks.{one_end, same_finished}
 use Rattle.mk_graph.proofs.Acyclic.{is_node}
 

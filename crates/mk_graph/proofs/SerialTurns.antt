@@ -3,14 +3,14 @@ use Rattle.std.proofs.Common.{◌≡◌, ℕ, zero, suc, ◌<◌, List, [], ◌�
 use Rattle.std.specs.List.{flat_map}
 use Rattle.std.proofs.lemmas.Bool.{cases_Bool, cond-true, cond-false}
 use Rattle.std.proofs.lemmas.List.{reverse-reverse}
+use Rattle.mk_lemmas.proofs.Members.{Has-from_has, Has-right, not-from_has}
+use Rattle.mk_graph.proofs.Parts.{HasAll-from_Has}
 use Rattle.mk_graph.specs.Membership.{Has, has, IsWithin}
 use Rattle.mk_graph.specs.Graph.{Graph, node, prerequisites, HasNoCycle}
 use Rattle.mk_graph.specs.Serial.{visit, visits, serial_from, order_from}
 use Rattle.mk_graph.specs.Schedules.{HasAll, InOpenGroup, Wanted, goal, onward, CanStart, IsSchedule}
-use Rattle.mk_graph.specs.Lists.{has_right}
-use Rattle.mk_graph.proofs.Members.{Has-from_has, not-from_has}
 use Rattle.mk_graph.proofs.SerialOrder.{visit_old, visit_new, cut_height, cut_low, cut_falls}
-use Rattle.mk_graph.proofs.Turning.{HasAll-from, Wanted-grow}
+use Rattle.mk_graph.proofs.Turning.{Wanted-grow}
 
 -- a list that begins in the first of two joined lists, or goes beyond it
 data Splits (group rest : List ℕ) (n : ℕ) (front : List ℕ) : Type 0 where
@@ -31,7 +31,7 @@ pub in_open_group : (groups : List (List ℕ)) (done front back : List ℕ) (n :
 in_open_group [] done [] back n e within = absurd (cc)
 in_open_group [] done (k ∷ front) back n e within = absurd (cc)
 in_open_group (group ∷ groups) done front back n e within =
-    elim (splits group (flat_map (λ group. group) groups) front back n e) [ inside h ↦ inl h | beyond more after there before later ↦ inr (HasAll-from done group (λ k h. within k (before k h)), in_open_group groups done more after n there (λ k h. within k (later k h))) ]
+    elim (splits group (flat_map (λ group. group) groups) front back n e) [ inside h ↦ inl h | beyond more after there before later ↦ inr (HasAll-from_Has done group (λ k h. within k (before k h)), in_open_group groups done more after n there (λ k h. within k (later k h))) ]
 
 module _ (g : Graph) (is : HasNoCycle g) (goals : List ℕ) where
   -- heights that fall along prerequisites
@@ -142,7 +142,7 @@ module _ (g : Graph) (is : HasNoCycle g) (goals : List ℕ) where
 
   -- what stands before a place in a list stands in it
   at_place : (ns front back : List ℕ) (n : ℕ) → ns ≡ front ++ n ∷ back → Has ns n
-  at_place ns front back n e = subst (λ (l : List ℕ). Has l n) (sym e) (has_right front (n ∷ back) n (inl refl))
+  at_place ns front back n e = subst (λ (l : List ℕ). Has l n) (sym e) (Has-right front (n ∷ back) n (inl refl))
 
   -- the serial order of the goals, the last node first
   pub serial_turns : IsSchedule g goals (visits g [] (filter (has goals) g.goals)) × HasAll (visits g [] (filter (has goals) g.goals)) (filter (has goals) g.goals)

@@ -4,14 +4,14 @@ use Rattle.std.specs.Prelude.{◌↔◌}
 use Rattle.std.proofs.lemmas.Bool.{cases_eq}
 use Rattle.std.proofs.lemmas.List.{take_all, drop_more}
 use Rattle.std.proofs.lemmas.Nat.{row_fits}
+use Rattle.mk_lemmas.proofs.Members.{Has-cases, Has-left, Has-right, cases_Has}
+use Rattle.mk_graph.proofs.Deciding.{cases_HasAll}
 use Rattle.mk_graph.specs.Membership.{Has, IsWithin}
 use Rattle.mk_graph.specs.Graph.{Graph, node, prerequisites, Reached, goal, onward, HasPath, one, then, IsGraph}
 use Rattle.mk_graph.specs.Serial.{serial_order}
-use Rattle.mk_graph.specs.Schedules.{HasAll, InOpenGroup, Wanted, goal as wanted_goal, onward as wanted_onward, IsSchedule, Before}
+use Rattle.mk_graph.specs.Schedules.{InOpenGroup, Wanted, goal as wanted_goal, onward as wanted_onward, IsSchedule, Before}
 use Rattle.mk_graph.specs.Without.{IsFree, AreFree, joined}
 use Rattle.mk_graph.specs.BitRows.{IsSized, IsOpenTo, PassesGates, PassesTargets, OnlyIfWanted, OnlyIfFree, Stays, AreSettled}
-use Rattle.mk_graph.specs.Lists.{has_left, has_right, has_cases}
-use Rattle.mk_graph.proofs.Members.{cases_Has}
 use Rattle.mk_graph.proofs.Parts.{HasAll-from_Has, Has-from_HasAll, Wanted-grows}
 use Rattle.mk_graph.proofs.AllButOne.{free_made, wanted_reached, reached_is_node, is_not_before}
 use Rattle.mk_graph.proofs.Rounds.{Has-take_more, AreFreeUpTo, in_order, free_joins, free_stays, all_free}
@@ -43,19 +43,13 @@ open_free : (g : Graph) (o : ℕ) (done : ℕ → ℕ → Type 0) (free : List �
 open_free g o done free are lack [] nodes n stands = absurd stands
 open_free g o done free are lack (group ∷ groups) nodes n (inl here) = inl here
 open_free g o done free are lack (group ∷ groups) nodes n (inr later) =
-    inr (HasAll-from_Has free group (λ m h. let low = nodes m (has_left group (joined groups) m h) in (are m).1 (low, lack m low (later.0 m h))), open_free g o done free are lack groups (λ m h. nodes m (has_right group (joined groups) m h)) n later.1)
+    inr (HasAll-from_Has free group (λ m h. let low = nodes m (Has-left group (joined groups) m h) in (are m).1 (low, lack m low (later.0 m h))), open_free g o done free are lack groups (λ m h. nodes m (Has-right group (joined groups) m h)) n later.1)
 
 -- what is open once nodes are done that all lack o is open to them
 open_lacking : (o : ℕ) (done : ℕ → ℕ → Type 0) (ns : List ℕ) → ((m : ℕ) → Has ns m → done m o) → (groups : List (List ℕ)) (n : ℕ) → InOpenGroup ns groups n → IsOpenTo (λ m. done m o) groups n
 open_lacking o done ns lack [] n stands = absurd stands
 open_lacking o done ns lack (group ∷ groups) n (inl here) = inl here
 open_lacking o done ns lack (group ∷ groups) n (inr later) = inr (λ m h. lack m (Has-from_HasAll ns group later.0 m h), open_lacking o done ns lack groups n later.1)
-
--- all of a list stands in another one, or not
-cases_HasAll : (ns ms : List ℕ) → HasAll ns ms ⊎ (¬ (HasAll ns ms))
-cases_HasAll ns [] = inl tt
-cases_HasAll ns (m ∷ ms) =
-    elim (cases_Has ns m) [ inl there ↦ (elim (cases_HasAll ns ms) [ inl all ↦ inl (there, all) | inr lacks ↦ inr (λ h. lacks h.1) ]) | inr out ↦ inr (λ h. out h.0) ]
 
 -- where the rows of goals are emptied, rows lack what they lacked with reason, or goals
 pub goals_cleared : (g : Graph) (first new : ℕ → ℕ → Type 0) → OnlyIfWanted g first → ((n o : ℕ) → new n o ↔ (first n o ⊎ Has g.goals n)) → OnlyIfWanted g new
@@ -176,7 +170,7 @@ module _ (g : Graph) (is : IsGraph g) where
   all_open : (free : List ℕ) (groups : List (List ℕ)) → ((m : ℕ) → Has (joined groups) m → Has free m) → (n : ℕ) → Has (joined groups) n → InOpenGroup free groups n
   all_open free [] all n h = absurd h
   all_open free (group ∷ groups) all n h =
-      elim (has_cases group (joined groups) n h) [ inl here ↦ inl here | inr later ↦ inr (HasAll-from_Has free group (λ m t. all m (has_left group (joined groups) m t)), all_open free groups (λ m t. all m (has_right group (joined groups) m t)) n later) ]
+      elim (Has-cases group (joined groups) n h) [ inl here ↦ inl here | inr later ↦ inr (HasAll-from_Has free group (λ m t. all m (Has-left group (joined groups) m t)), all_open free groups (λ m t. all m (Has-right group (joined groups) m t)) n later) ]
 
   -- so all that is reached is wanted once they are done
   pub wanted_without_none : (o : ℕ) (free : List ℕ) → length g.nodes ≤ o → AreFree g o free → (n : ℕ) → Reached g n → Wanted g g.goals free n

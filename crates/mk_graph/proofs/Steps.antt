@@ -4,13 +4,13 @@ use Rattle.std.specs.declared.alloc.Global.{Global}
 use Rattle.std.proofs.lemmas.List.{reverse-append, drop_more, drop_all, get_or-map}
 use Rattle.std.proofs.lemmas.List.Elements.{All-push, All-pop}
 use Rattle.std.proofs.lemmas.List.Sums.{sum_by_push}
+use Rattle.mk_lemmas.proofs.Members.{Has-get_or}
 use Rattle.mk_graph.specs.declared.walk.Frame.{Frame}
 use Rattle.mk_graph.specs.declared.walk.Mark.{Mark}
 use Rattle.mk_graph.specs.declared.walk.Mark.TheVariants.{New, UnderWay, Finished}
 use Rattle.mk_graph.specs.Membership.{Has}
 use Rattle.mk_graph.specs.Walk.{WalkEnd, Through, Closes, closed_path, Walks}
 use Rattle.mk_graph.specs.Progress.{row, AreRows, IsMark, AreMarks}
-use Rattle.mk_graph.proofs.Members.{Has-get_or}
 use Rattle.mk_graph.proofs.Frames.{nodes_of, advanced, begun, left_of, Resumes, begins, finishes_frame, passes_over, closes_path, goes_down, marks_begin, marks_finish, weight, weight_of, weight-set, frames_weight}
 
 -- Frames, outermost first, marks and an order agree, and whatever end the rest of the walk has from there,

@@ -4,6 +4,9 @@ use Rattle.std.specs.declared.alloc.Global.{Global}
 use Rattle.std.specs.List.{list_all}
 use Rattle.std.proofs.lemmas.Bool.{false_from_ne_true}
 use Rattle.std.proofs.lemmas.List.{drop_more, drop_all, length-map}
+use Rattle.mk_lemmas.proofs.Members.{has-from_Has, has-from_not}
+use Rattle.mk_lemmas.proofs.Lists.{get_or-map_default}
+use Rattle.mk_graph.specs.BitRows.{lists}
 use Rattle.mk_graph.specs.Membership.{Has, has}
 use Rattle.mk_graph.specs.declared.node.Node.{Node}
 use Rattle.mk_graph.specs.Graph.{Graph, no_node, IsGraph}
@@ -12,10 +15,7 @@ use Rattle.mk_graph.specs.Walk.{Walks}
 use Rattle.mk_graph.specs.Progress.{row, AreRows, walk_end}
 use Rattle.mk_graph.specs.Schedules.{HasAll}
 use Rattle.mk_graph.specs.Without.{AreOpened, opened, until}
-use Rattle.mk_graph.proofs.Members.{has-from_Has, has-from_not}
-use Rattle.mk_graph.proofs.Loops.{lists}
 use Rattle.mk_graph.proofs.TurnPast.{kept, kept_in, kept_out, until_here, until_there, opens, stays_shut, all_stand, all_tested, opened_are_nodes}
-use Rattle.mk_graph.proofs.Building.{get_or-map_default}
 
 module _ (t : ℕ) (free order turns whole : List ℕ) (i : ℕ) (rest : turns ++ until t (kept free (drop i order)) ≡ whole) where
   module _ (low : i < length order) where

@@ -6,13 +6,12 @@ use Rattle.std.proofs.lemmas.List.{reverse-append}
 use Rattle.std.proofs.lemmas.List.Elements.{filter-append}
 use mathlib.Core.List.{reverse-cons}
 use mathlib.Core.Path.{fun_ext}
+use Rattle.mk_lemmas.proofs.Members.{Has-cases, Has-from_has, Has-from_reverse, Has-left, Has-right, has-from_Has}
 use Rattle.mk_graph.specs.Membership.{Has, has, IsWithin}
 use Rattle.mk_graph.specs.Graph.{Graph, node, prerequisites, IsGraph}
 use Rattle.mk_graph.specs.Walk.{Through, Closes, Walks, ends, passes, finishes}
 use Rattle.mk_graph.specs.Schedules.{HasAll, InOpenGroup, Wanted, goal, onward, CanStart, IsSchedule, Before, IsScheduleWithout}
 use Rattle.mk_graph.specs.Without.{AreFree, AreOpened, joined, opened, until}
-use Rattle.mk_graph.specs.Lists.{has_left, has_right, has_cases}
-use Rattle.mk_graph.proofs.Members.{Has-from_has, has-from_Has, Has-from_reverse}
 use Rattle.mk_graph.proofs.Parts.{HasAll-from_Has, Has-from_HasAll, Wanted-grows}
 use Rattle.mk_graph.proofs.Walks.{ordered_needs, keeps_order, keeps, takes, stays_under, through_closes, one_end}
 use Rattle.mk_graph.proofs.SerialOrder.{cut_height, cut_low, cut_falls, come_through}
@@ -55,36 +54,36 @@ open_at free done (group ∷ groups) front back n e all =
     ⊎_elim (λ yes_all. let cut = cut_cases group (opened free groups) front back n
     (sym (opens free group groups yes_all) ∙ e) in ⊎_elim (λ here. inl here)
     (λ later. let is_done : (k : ℕ) → Has group k → Has done k = λ k h. all k
-    (subst (λ (l : List ℕ). Has l k) (sym later.1) (has_left group later.0 k h))
+    (subst (λ (l : List ℕ). Has l k) (sym later.1) (Has-left group later.0 k h))
     (Has-from_HasAll free group (all_stand free group yes_all) k h) in inr (
       HasAll-from_Has done group is_done,
       open_at free done groups later.0 back n later.2
-          (λ k h. all k (subst (λ (l : List ℕ). Has l k) (sym later.1) (has_right group later.0 k h))),
+          (λ k h. all k (subst (λ (l : List ℕ). Has l k) (sym later.1) (Has-right group later.0 k h))),
     )) cut)
     (λ no_all. let at : group ≡ front ++ n ∷ back = sym (stays_shut free group groups no_all)
-    ∙ e in inl (subst (λ (l : List ℕ). Has l n) (sym at) (has_right front (n ∷ back) n (inl refl))))
+    ∙ e in inl (subst (λ (l : List ℕ). Has l n) (sym at) (Has-right front (n ∷ back) n (inl refl))))
     (cases_Bool (list_all (has free) group))
 
 -- it is one of the members of the groups
 opened_within : (free : List ℕ) (groups : List (List ℕ)) → IsWithin (opened free groups) (joined groups)
 opened_within free [] n h = h
 opened_within free (group ∷ groups) n h =
-    ⊎_elim (λ e. ⊎_elim (λ here. has_left group (joined groups) n here)
-    (λ there. has_right group (joined groups) n (opened_within free groups n there))
-    (has_cases group (opened free groups) n (subst (λ (l : List ℕ). Has l n) (opens free group groups e)
-    h))) (λ e. has_left group (joined groups) n (subst (λ (l : List ℕ). Has l n)
+    ⊎_elim (λ e. ⊎_elim (λ here. Has-left group (joined groups) n here)
+    (λ there. Has-right group (joined groups) n (opened_within free groups n there))
+    (Has-cases group (opened free groups) n (subst (λ (l : List ℕ). Has l n) (opens free group groups e)
+    h))) (λ e. Has-left group (joined groups) n (subst (λ (l : List ℕ). Has l n)
     (stays_shut free group groups e) h)) (cases_Bool (list_all (has free) group))
 
 -- where all members are free, all are there
 opened_whole : (free : List ℕ) (groups : List (List ℕ)) → ((n : ℕ) → Has (joined groups) n → Has free n) → IsWithin (joined groups) (opened free groups)
 opened_whole free [] all n h = h
 opened_whole free (group ∷ groups) all n h =
-    let e = all_tested free group (HasAll-from_Has free group (λ k in_group. all k (has_left group (joined groups) k in_group))) in
+    let e = all_tested free group (HasAll-from_Has free group (λ k in_group. all k (Has-left group (joined groups) k in_group))) in
     subst (λ (l : List ℕ). Has l n) (sym (opens free group groups e))
-    (⊎_elim (λ here. has_left group (opened free groups) n here)
-    (λ there. has_right group (opened free groups) n (opened_whole free groups
-    (λ k later. all k (has_right group (joined groups) k later)) n there))
-    (has_cases group (joined groups) n h))
+    (⊎_elim (λ here. Has-left group (opened free groups) n here)
+    (λ there. Has-right group (opened free groups) n (opened_whole free groups
+    (λ k later. all k (Has-right group (joined groups) k later)) n there))
+    (Has-cases group (joined groups) n h))
 
 -- the free ones of a list
 abbrev pub kept : (free ns : List ℕ) → List ℕ
@@ -183,7 +182,7 @@ module _ (g : Graph) (is : IsGraph g) (o : ℕ) (free : List ℕ) (are : AreFree
   -- a walk from the goals finishes free nodes in turn
   pub walk_turns : (final : List ℕ) → Walks needs [] [] g.goals (Through final) → AreTurns final
   walk_turns final w =
-      finishes_in_turn w tt (λ front back done n e within more. goal (subst (λ (l : List ℕ). Has l n) (sym e) (has_right front (n ∷ back) n (inl refl))))
+      finishes_in_turn w tt (λ front back done n e within more. goal (subst (λ (l : List ℕ). Has l n) (sym e) (Has-right front (n ∷ back) n (inl refl))))
 
   module _ (final : List ℕ) (w : Walks needs [] [] g.goals (Through final)) where
     -- what a finished node needs is finished
@@ -193,16 +192,16 @@ module _ (g : Graph) (is : IsGraph g) (o : ℕ) (free : List ℕ) (are : AreFree
     -- what stands in a group behind free ones stands among the opened, and is open once the finished free ones are done
     open_finished : (groups : List (List ℕ)) (n : ℕ) → InOpenGroup free groups n → IsWithin (opened free groups) final → Has (opened free groups) n × InOpenGroup (kept free final) groups n
     open_finished [] n stands within = absurd stands
-    open_finished (group ∷ groups) n (inl here) within = (has_left group (if list_all (has free) group then opened free groups else []) n here, inl here)
+    open_finished (group ∷ groups) n (inl here) within = (Has-left group (if list_all (has free) group then opened free groups else []) n here, inl here)
     open_finished (group ∷ groups) n (inr later) within =
         let e = all_tested free group later.0 in
         let into : IsWithin (group ++ opened free groups) final = λ k h. within k (subst (λ (l : List ℕ). Has l k) (sym (opens free group groups e)) h) in
-        let rest = open_finished groups n later.1 (λ k h. into k (has_right group (opened free groups) k h)) in (
+        let rest = open_finished groups n later.1 (λ k h. into k (Has-right group (opened free groups) k h)) in (
           subst (λ (l : List ℕ). Has l n) (sym (opens free group groups e))
-              (has_right group (opened free groups) n rest.0),
+              (Has-right group (opened free groups) n rest.0),
           inr (
             HasAll-from_Has (kept free final) group (λ k h. Has-kept free final k
-                (into k (has_left group (opened free groups) k h)) (Has-from_HasAll free group later.0 k h)),
+                (into k (Has-left group (opened free groups) k h)) (Has-from_HasAll free group later.0 k h)),
             rest.1,
           ),
         )
@@ -269,10 +268,10 @@ until_cut t (n ∷ ns) =
 
 -- it has no more than the list
 until_within : (t : ℕ) (ns : List ℕ) → IsWithin (until t ns) ns
-until_within t ns n h = ⊎_elim (λ whole. subst (λ (l : List ℕ). Has l n) whole.0 h) (λ cut. subst (λ (l : List ℕ). Has l n) (sym cut.1) (has_left (until t ns) (t ∷ cut.0) n h)) (until_cut t ns)
+until_within t ns n h = ⊎_elim (λ whole. subst (λ (l : List ℕ). Has l n) whole.0 h) (λ cut. subst (λ (l : List ℕ). Has l n) (sym cut.1) (Has-left (until t ns) (t ∷ cut.0) n h)) (until_cut t ns)
 
 -- the end of a turn list is one
-turns_end : (g : Graph) (goals front back : List ℕ) → IsSchedule g goals (front ++ back) → IsSchedule g goals back
+pub turns_end : (g : Graph) (goals front back : List ℕ) → IsSchedule g goals (front ++ back) → IsSchedule g goals back
 turns_end g goals [] back turns = turns
 turns_end g goals (n ∷ front) back turns = turns_end g goals front back turns.1
 

@@ -1,5 +1,6 @@
 -- What is wanted and whose turn may come, as more is done, and what stands in a turn list.
-use Rattle.std.proofs.Common.{◌≡◌, ℕ, List, [], ◌∷◌, true, inl, inr, refl, sym, subst}
+use Rattle.std.proofs.Common.{◌≡◌, ℕ, List, [], ◌∷◌, true, inl, inr, sym, subst}
+use Rattle.mk_graph.proofs.Parts.{HasAll-from_Has}
 use Rattle.mk_graph.specs.Membership.{Has, IsWithin}
 use Rattle.mk_graph.specs.Graph.{Graph, node, prerequisites}
 use Rattle.mk_graph.specs.Schedules.{HasAll, InOpenGroup, Wanted, goal, onward, CanStart, IsSchedule, IsPart, Before}
@@ -10,15 +11,10 @@ HasAll-has ns [] m all h = absurd h
 HasAll-has ns (k ∷ ms) m all (inl here) = subst (λ (n : ℕ). Has ns n) here all.0
 HasAll-has ns (k ∷ ms) m all (inr there) = HasAll-has ns ms m all.1 there
 
--- and the other way round
-pub HasAll-from : (ns ms : List ℕ) → IsWithin ms ns → HasAll ns ms
-HasAll-from ns [] h = tt
-HasAll-from ns (m ∷ ms) h = (h m (inl refl), HasAll-from ns ms (λ n there. h n (inr there)))
-
 module _ (done more : List ℕ) (grows : IsWithin done more) where
   -- what was all done is
   pub HasAll-grow : (ms : List ℕ) → HasAll done ms → HasAll more ms
-  HasAll-grow ms all = HasAll-from more ms (λ n h. grows n (HasAll-has done ms n all h))
+  HasAll-grow ms all = HasAll-from_Has more ms (λ n h. grows n (HasAll-has done ms n all h))
 
   -- an open group stays open
   pub InOpenGroup-grow : (groups : List (List ℕ)) (n : ℕ) → InOpenGroup done groups n → InOpenGroup more groups n

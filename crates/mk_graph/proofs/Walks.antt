@@ -1,9 +1,9 @@
 -- What a walk finishes, and that it has one end.
 use Rattle.std.proofs.Common.{◌≡◌, ℕ, eqb, List, [], ◌∷◌, ◌++◌, ◌⊎◌, inl, inr, refl, sym, subst}
 use Rattle.std.proofs.lemmas.Bool.{cond_both}
+use Rattle.mk_lemmas.proofs.Members.{Has-cases}
 use Rattle.mk_graph.specs.Membership.{Has, IsDistinct}
 use Rattle.mk_graph.specs.Walk.{WalkEnd, Through, Closes, path_from, Walks, ends, passes, closes, breaks, finishes}
-use Rattle.mk_graph.specs.Lists.{has_cases}
 
 module _ (needs : ℕ → List ℕ) where
   -- each node once, behind its prerequisites; the last one first
@@ -113,7 +113,7 @@ module _ (needs : ℕ → List ℕ) where
   path_from_holds P n (k ∷ under) h =
       cond_both (eqb k n) (k ∷ []) (path_from n under ++ k ∷ []) (λ (l : List ℕ). (m : ℕ) → Has l m → P m)
       (λ e m in_it. elim in_it [ inl here ↦ h m (inl here) | inr none ↦ absurd none ])
-      (λ e m in_it. elim (has_cases (path_from n under) (k ∷ []) m in_it) [
+      (λ e m in_it. elim (Has-cases (path_from n under) (k ∷ []) m in_it) [
         | inl before ↦ path_from_holds P n under (λ q u. h q (inr u)) m before
         | inr (inl last) ↦ h m (inl last)
         | inr (inr none) ↦ absurd none
@@ -123,7 +123,7 @@ module _ (needs : ℕ → List ℕ) where
   pub holds_closes : (P : ℕ → Type 0) → ((n p : ℕ) → P n → Has (needs n) p → P p) → {under finished todo path : List ℕ} → Walks needs under finished todo (Closes path) → ((n : ℕ) → Has under n → P n) → ((n : ℕ) → Has todo n → P n) → (n : ℕ) → Has path n → P n
   holds_closes P on (passes was w) u h n in_it = holds_closes P on w u (λ m t. h m (inr t)) n in_it
   holds_closes P on (closes {under} {n = m} there) u h n in_it =
-      elim (has_cases (path_from m under) (m ∷ []) n in_it) [ inl before ↦ path_from_holds P m under u n before | inr (inl last) ↦ u n (subst (λ k. Has under k) last there) | inr (inr none) ↦ absurd none ]
+      elim (Has-cases (path_from m under) (m ∷ []) n in_it) [ inl before ↦ path_from_holds P m under u n before | inr (inl last) ↦ u n (subst (λ k. Has under k) last there) | inr (inr none) ↦ absurd none ]
   holds_closes P on (breaks {n = m} new unfinished w) u h n in_it =
       let here : P m = h m (inl refl) in
       holds_closes P on w (λ k t. elim t [ inl e ↦ subst P e here | inr t' ↦ u k t' ]) (λ q need. on m q here need) n in_it

@@ -1,6 +1,5 @@
 pub mod Graph
 pub mod Membership
-pub mod Lists
 pub mod Serial
 pub mod Walk
 pub mod Build

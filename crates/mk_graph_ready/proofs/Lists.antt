@@ -1,31 +1,16 @@
 -- Lists: what stands in them, and where.
-use Rattle.std.proofs.Common.{◌≡◌, ℕ, zero, suc, ◌+◌, ◌<◌, List, [], ◌∷◌, ◌++◌, length, get_or, drop, take, inl, inr, ◌⊎◌, refl, sym, ap, subst, ◌∙◌, arith}
+use Rattle.std.proofs.Common.{◌≡◌, ℕ, zero, suc, ◌+◌, ◌<◌, List, [], ◌∷◌, ◌++◌, length, get_or, drop, take, inl, inr, ◌⊎◌, refl, sym, ap, subst, ◌∙◌, arith, append_assoc}
 use Rattle.std.proofs.lemmas.List.{drop_more, take_more}
+use Rattle.mk_lemmas.proofs.Members.{Has-cases, Has-get_or, Has-left, Has-right}
 use Rattle.mk_graph.specs.Membership.{Has, IsDistinct}
-use Rattle.mk_graph.specs.Lists.{has_left, has_right, has_cases}
 use Rattle.mk_graph.specs.Schedules.{HasAll}
 use Rattle.mk_graph.specs.Without.{joined}
 
 module _ {A : Type 0} where
-  -- lists are joined in any order
-  pub join_assoc : (xs ys zs : List A) → (xs ++ ys) ++ zs ≡ xs ++ (ys ++ zs)
-  join_assoc [] ys zs = refl
-  join_assoc (x ∷ xs) ys zs = ap (λ (l : List A). x ∷ l) (join_assoc xs ys zs)
-
-  pub join_nothing : (xs : List A) → xs ++ [] ≡ xs
-  join_nothing [] = refl
-  join_nothing (x ∷ xs) = ap (λ (l : List A). x ∷ l) (join_nothing xs)
-
   -- nothing stands in a list without elements
   pub is_empty : (xs : List A) → length xs ≡ 0 → xs ≡ []
   is_empty [] e = refl
   is_empty (x ∷ xs) e = absurd (omega arith)
-
--- what stands at a place stands in the list
-pub has_at : (xs : List ℕ) (k : ℕ) → k < length xs → Has xs (get_or xs k 0)
-has_at [] k h = absurd (omega arith)
-has_at (x ∷ xs) zero h = inl refl
-has_at (x ∷ xs) (suc k) h = inr (has_at xs k (omega arith))
 
 -- what stands in a list has a place
 pub place_of : (xs : List ℕ) (n : ℕ) → Has xs n → (k : ℕ) × (k < length xs) × (get_or xs k 0 ≡ n)
@@ -37,8 +22,8 @@ place_of (x ∷ xs) n (inr there) = let p = place_of xs n there in (suc p.0, ome
 pub one_place : (xs : List ℕ) → IsDistinct xs → (i j : ℕ) → i < length xs → j < length xs → get_or xs i 0 ≡ get_or xs j 0 → i ≡ j
 one_place [] d i j li lj e = absurd (omega arith)
 one_place (x ∷ xs) d zero zero li lj e = refl
-one_place (x ∷ xs) d zero (suc j) li lj e = absurd (d.0 (subst (λ k. Has xs k) (sym e) (has_at xs j (omega arith))))
-one_place (x ∷ xs) d (suc i) zero li lj e = absurd (d.0 (subst (λ k. Has xs k) e (has_at xs i (omega arith))))
+one_place (x ∷ xs) d zero (suc j) li lj e = absurd (d.0 (subst (λ k. Has xs k) (sym e) (Has-get_or xs j 0 (omega arith))))
+one_place (x ∷ xs) d (suc i) zero li lj e = absurd (d.0 (subst (λ k. Has xs k) e (Has-get_or xs i 0 (omega arith))))
 one_place (x ∷ xs) d (suc i) (suc j) li lj e = ap suc (one_place xs d.1 i j (omega arith) (omega arith) e)
 
 -- the rest of a list has an element more
@@ -70,19 +55,13 @@ all_more done more (n ∷ ns) h all = (h n all.0, all_more done more ns h all.1)
 -- the members of groups, and of more groups
 pub joined_both : (xs ys : List (List ℕ)) → joined (xs ++ ys) ≡ joined xs ++ joined ys
 joined_both [] ys = refl
-joined_both (x ∷ xs) ys = ap (λ (l : List ℕ). x ++ l) (joined_both xs ys) ∙ sym (join_assoc x (joined xs) (joined ys))
+joined_both (x ∷ xs) ys = ap (λ (l : List ℕ). x ++ l) (joined_both xs ys) ∙ sym (append_assoc x (joined xs) (joined ys))
 
 -- one more of the first numbers
 pub more_taken : (xs : List ℕ) (i n : ℕ) → i < length xs → Has (take (i + 1) xs) n → Has (take i xs) n ⊎ (get_or xs i 0 ≡ n)
 more_taken xs i n lt h =
-    elim (has_cases (take i xs) (get_or xs i 0 ∷ []) n (subst (λ (l : List ℕ). Has l n) (take_more xs i 0 lt) h)) [ inl before ↦ inl before | inr now ↦ elim now [ inl is ↦ inr is | inr none ↦ absurd none ] ]
+    elim (Has-cases (take i xs) (get_or xs i 0 ∷ []) n (subst (λ (l : List ℕ). Has l n) (take_more xs i 0 lt) h)) [ inl before ↦ inl before | inr now ↦ elim now [ inl is ↦ inr is | inr none ↦ absurd none ] ]
 
 pub taken_more : (xs : List ℕ) (i n : ℕ) → i < length xs → Has (take i xs) n ⊎ (get_or xs i 0 ≡ n) → Has (take (i + 1) xs) n
 taken_more xs i n lt h =
-    subst (λ (l : List ℕ). Has l n) (sym (take_more xs i 0 lt)) (elim h [ inl before ↦ has_left (take i xs) (get_or xs i 0 ∷ []) n before | inr is ↦ has_right (take i xs) (get_or xs i 0 ∷ []) n (inl is) ])
-
--- what stands at a place doesn't hang on what is answered elsewhere
-pub at_any : {A : Type 0} (xs : List A) (i : ℕ) (d e : A) → i < length xs → get_or xs i d ≡ get_or xs i e
-at_any [] i d e lt = absurd (omega arith)
-at_any (x ∷ xs) zero d e lt = refl
-at_any (x ∷ xs) (suc i) d e lt = at_any xs i d e (omega arith)
+    subst (λ (l : List ℕ). Has l n) (sym (take_more xs i 0 lt)) (elim h [ inl before ↦ Has-left (take i xs) (get_or xs i 0 ∷ []) n before | inr is ↦ Has-right (take i xs) (get_or xs i 0 ∷ []) n (inl is) ])

@@ -1,15 +1,15 @@
 -- Stages of nodes, and what is left of their groups.
-use Rattle.std.proofs.Common.{◌≡◌, ◌≢◌, ℕ, zero, suc, ◌+◌, ◌<◌, ◌≤◌, List, [], ◌∷◌, ◌++◌, length, get_or, set, take, inl, inr, ◌⊎◌, refl, sym, ap, subst, ◌∙◌, arith}
+use Rattle.std.proofs.Common.{◌≡◌, ◌≢◌, ℕ, zero, suc, ◌+◌, ◌<◌, ◌≤◌, List, [], ◌∷◌, ◌++◌, length, get_or, set, take, inl, inr, ◌⊎◌, refl, sym, ap, subst, ◌∙◌, arith, append-nil, append_assoc}
 use Rattle.std.proofs.lemmas.Bool.{cases_eq}
 use Rattle.std.proofs.lemmas.List.{get_or-set_same, get_or-set_other, length-set}
+use Rattle.mk_lemmas.proofs.Members.{Has-cases, Has-left, Has-right}
 use Rattle.mk_graph.specs.Membership.{Has}
 use Rattle.mk_graph.specs.Schedules.{HasAll, InOpenGroup}
 use Rattle.mk_graph.specs.Without.{joined}
 use Rattle.mk_graph_ready.specs.Rest.{Rest}
 use Rattle.mk_graph_ready.specs.RemainingGroups.{Skips, IsStopped, IsStoppedAt, Halts, Opens, IsLeft}
 use Rattle.mk_graph_ready.specs.Stages.{to_come, work, Wants, IsOpened, WantsOpened, Wakes}
-use Rattle.mk_graph.specs.Lists.{has_left, has_right, has_cases}
-use Rattle.mk_graph_ready.proofs.Lists.{join_assoc, join_nothing, all_has, has_all, all_joined, all_more, joined_both, more_taken, taken_more}
+use Rattle.mk_graph_ready.proofs.Lists.{all_has, has_all, all_joined, all_more, joined_both, more_taken, taken_more}
 
 -- one stage is another one
 pub work_set : (stages : List ℕ) (k v : ℕ) → k < length stages → work (set stages k v) + to_come (get_or stages k 0) ≡ work stages + to_come v
@@ -107,7 +107,7 @@ left_grows stages more done later groups rest wants does l = record {
 
 -- the members of open groups are those past and those left
 halted_members : (xs past skipped all left : List ℕ) → xs ≡ past ++ all → all ≡ skipped ++ left → xs ≡ (past ++ skipped) ++ left
-halted_members xs past skipped all left is split = is ∙ (ap (λ (l : List ℕ). past ++ l) split ∙ sym (join_assoc past skipped left))
+halted_members xs past skipped all left is split = is ∙ (ap (λ (l : List ℕ). past ++ l) split ∙ sym (append_assoc past skipped left))
 
 -- done members are passed over
 pub halts_left : (stages done : List ℕ) (groups : List (List ℕ)) (old new : Rest) → Halts done old new → IsLeft stages done groups old → IsLeft stages done groups new
@@ -123,14 +123,14 @@ halts_left stages done groups old new h l = record {
 -- where all of a group are done, all members of open groups are
 all_past : (stages done : List ℕ) (groups : List (List ℕ)) (rest : Rest) → Skips done rest.group [] → (l : IsLeft stages done groups rest) → HasAll done (joined l.before)
 all_past stages done groups rest s l =
-    subst (λ (ns : List ℕ). HasAll done ns) (sym (halted_members (joined l.before) l.past s.past rest.group [] l.members_are s.all_are ∙ join_nothing (l.past ++ s.past))) (all_joined done l.past s.past l.past_done s.past_done)
+    subst (λ (ns : List ℕ). HasAll done ns) (sym (halted_members (joined l.before) l.past s.past rest.group [] l.members_are s.all_are ∙ append-nil (l.past ++ s.past))) (all_joined done l.past s.past l.past_done s.past_done)
 
 -- the next group is open then
 in_open : (done : List ℕ) (before : List (List ℕ)) (group : List ℕ) (behind : List (List ℕ)) (n : ℕ) → HasAll done (joined before) → Has group n → InOpenGroup done (before ++ group ∷ behind) n
 in_open done [] group behind n all h = inl h
 in_open done (b ∷ before) group behind n all h =
     let some : (m : ℕ) → Has (b ++ joined before) m → Has done m = λ m k. all_has done (b ++ joined before) m all k in
-    inr (has_all done b (λ m k. some m (has_left b (joined before) m k)), in_open done before group behind n (has_all done (joined before) (λ m k. some m (has_right b (joined before) m k))) h)
+    inr (has_all done b (λ m k. some m (Has-left b (joined before) m k)), in_open done before group behind n (has_all done (joined before) (λ m k. some m (Has-right b (joined before) m k))) h)
 
 pub opened_now : (stages done : List ℕ) (groups : List (List ℕ)) (old new : Rest) (group : List ℕ) → Opens done old new group → IsLeft stages done groups old → (n : ℕ) → Has group n → InOpenGroup done groups n
 opened_now stages done groups old new group o l n h =
@@ -141,17 +141,17 @@ pub opens_left : (stages more done : List ℕ) (groups : List (List ℕ)) (old n
 opens_left stages more done groups old new group o w l = record {
   before = l.before ++ group ∷ [];
   past = l.past ++ o.skips.past;
-  groups_are = l.groups_are ∙ (ap (λ (b : List (List ℕ)). l.before ++ b) o.behind ∙ sym (join_assoc l.before (group ∷ []) new.behind));
+  groups_are = l.groups_are ∙ (ap (λ (b : List (List ℕ)). l.before ++ b) o.behind ∙ sym (append_assoc l.before (group ∷ []) new.behind));
   members_are = members ∙ (ap (λ (ns : List ℕ). ns ++ group) was ∙ ap (λ (ns : List ℕ). (l.past ++ o.skips.past) ++ ns) (sym o.group_is));
   past_done = all_joined done l.past o.skips.past l.past_done o.skips.past_done;
-  wanted = λ n h. elim (has_cases (joined l.before) group n (subst (λ (ns : List ℕ). Has ns n) members h)) [ inl had ↦ stays n (l.wanted n had) (w.each n) | inr new ↦ w.all n new ];
+  wanted = λ n h. elim (Has-cases (joined l.before) group n (subst (λ (ns : List ℕ). Has ns n) members h)) [ inl had ↦ stays n (l.wanted n had) (w.each n) | inr new ↦ w.all n new ];
 }
   where
     members : joined (l.before ++ group ∷ []) ≡ joined l.before ++ group
-    members = joined_both l.before (group ∷ []) ∙ ap (λ (ns : List ℕ). joined l.before ++ ns) (join_nothing group)
+    members = joined_both l.before (group ∷ []) ∙ ap (λ (ns : List ℕ). joined l.before ++ ns) (append-nil group)
 
     was : joined l.before ≡ l.past ++ o.skips.past
-    was = halted_members (joined l.before) l.past o.skips.past old.group [] l.members_are o.skips.all_are ∙ join_nothing (l.past ++ o.skips.past)
+    was = halted_members (joined l.before) l.past o.skips.past old.group [] l.members_are o.skips.all_are ∙ append-nil (l.past ++ o.skips.past)
 
     stays : (n : ℕ) → ¬ (get_or stages n 0 ≡ 0) → (get_or more n 0 ≡ get_or stages n 0) ⊎ ((get_or stages n 0 ≡ 0) × (get_or more n 0 ≡ 1) × Has group n) → ¬ (get_or more n 0 ≡ 0)
     stays n had (inl is) e = had (sym is ∙ e)
@@ -182,9 +182,9 @@ open_wanted stages done groups rest l stopped n stands =
   where
     within : (before behind : List (List ℕ)) → InOpenGroup done (before ++ behind) n → Has (joined before) n ⊎ (HasAll done (joined before) × InOpenGroup done behind n)
     within [] behind h = inr (tt, h)
-    within (b ∷ before) behind (inl here) = inl (has_left b (joined before) n here)
+    within (b ∷ before) behind (inl here) = inl (Has-left b (joined before) n here)
     within (b ∷ before) behind (inr later) = elim (within before behind later.1) [
-      | inl there ↦ inl (has_right b (joined before) n there)
+      | inl there ↦ inl (Has-right b (joined before) n there)
       | inr past ↦ inr (all_joined done b (joined before) later.0 past.0, past.1)
     ]
 
@@ -195,14 +195,14 @@ open_wanted stages done groups rest l stopped n stands =
     cases : Has (joined l.before) n ⊎ (HasAll done (joined l.before) × InOpenGroup done rest.behind n) → ¬ (get_or stages n 0 ≡ 0)
     cases (inl there) = l.wanted n there
     cases (inr past) =
-        absurd (none rest.group rest.behind stopped (λ m h. all_has done (joined l.before) m past.0 (subst (λ (ns : List ℕ). Has ns m) (sym l.members_are) (has_right l.past rest.group m h))) past.1)
+        absurd (none rest.group rest.behind stopped (λ m h. all_has done (joined l.before) m past.0 (subst (λ (ns : List ℕ). Has ns m) (sym l.members_are) (Has-right l.past rest.group m h))) past.1)
 
 -- where nothing is left, all prerequisites are done
 pub over_done : (stages done : List ℕ) (groups : List (List ℕ)) (rest : Rest) → IsLeft stages done groups rest → IsStopped done rest → rest.group ≡ [] → HasAll done (joined groups)
 over_done stages done groups rest l stopped over =
     let none : rest.behind ≡ [] = subst (λ (ns : List ℕ). IsStoppedAt done ns rest.behind) over stopped in
-    let all : joined groups ≡ joined l.before = ap (λ (gs : List (List ℕ)). joined gs) (l.groups_are ∙ (ap (λ (b : List (List ℕ)). l.before ++ b) none ∙ join_nothing l.before)) in
-    let past : joined l.before ≡ l.past = l.members_are ∙ (ap (λ (ns : List ℕ). l.past ++ ns) over ∙ join_nothing l.past) in
+    let all : joined groups ≡ joined l.before = ap (λ (gs : List (List ℕ)). joined gs) (l.groups_are ∙ (ap (λ (b : List (List ℕ)). l.before ++ b) none ∙ append-nil l.before)) in
+    let past : joined l.before ≡ l.past = l.members_are ∙ (ap (λ (ns : List ℕ). l.past ++ ns) over ∙ append-nil l.past) in
     subst (λ (ns : List ℕ). HasAll done ns) (sym (all ∙ past)) l.past_done
 
 -- where all prerequisites are done, nothing is left
@@ -212,7 +212,7 @@ done_over stages done groups rest l stopped all = at rest.group stopped (λ m h.
     member : (m : ℕ) → Has rest.group m → Has (joined groups) m
     member m h =
         let all_of : joined groups ≡ joined l.before ++ joined rest.behind = ap (λ (gs : List (List ℕ)). joined gs) l.groups_are ∙ joined_both l.before rest.behind in
-        subst (λ (ns : List ℕ). Has ns m) (sym all_of) (has_left (joined l.before) (joined rest.behind) m (subst (λ (ns : List ℕ). Has ns m) (sym l.members_are) (has_right l.past rest.group m h)))
+        subst (λ (ns : List ℕ). Has ns m) (sym all_of) (Has-left (joined l.before) (joined rest.behind) m (subst (λ (ns : List ℕ). Has ns m) (sym l.members_are) (Has-right l.past rest.group m h)))
 
     at : (group : List ℕ) → IsStoppedAt done group rest.behind → ((m : ℕ) → Has group m → Has done m) → group ≡ []
     at [] stop h = refl
@@ -222,12 +222,12 @@ done_over stages done groups rest l stopped all = at rest.group stopped (λ m h.
 pub left_member : (stages done : List ℕ) (groups : List (List ℕ)) (rest : Rest) → IsLeft stages done groups rest → (m : ℕ) → Has rest.group m → Has (joined groups) m
 left_member stages done groups rest l m h =
     let all_of : joined groups ≡ joined l.before ++ joined rest.behind = ap (λ (gs : List (List ℕ)). joined gs) l.groups_are ∙ joined_both l.before rest.behind in
-    subst (λ (ns : List ℕ). Has ns m) (sym all_of) (has_left (joined l.before) (joined rest.behind) m (subst (λ (ns : List ℕ). Has ns m) (sym l.members_are) (has_right l.past rest.group m h)))
+    subst (λ (ns : List ℕ). Has ns m) (sym all_of) (Has-left (joined l.before) (joined rest.behind) m (subst (λ (ns : List ℕ). Has ns m) (sym l.members_are) (Has-right l.past rest.group m h)))
 
 pub behind_member : (stages done : List ℕ) (groups : List (List ℕ)) (rest : Rest) → IsLeft stages done groups rest → (m : ℕ) → Has (joined rest.behind) m → Has (joined groups) m
 behind_member stages done groups rest l m h =
     let all_of : joined groups ≡ joined l.before ++ joined rest.behind = ap (λ (gs : List (List ℕ)). joined gs) l.groups_are ∙ joined_both l.before rest.behind in
-    subst (λ (ns : List ℕ). Has ns m) (sym all_of) (has_right (joined l.before) (joined rest.behind) m h)
+    subst (λ (ns : List ℕ). Has ns m) (sym all_of) (Has-right (joined l.before) (joined rest.behind) m h)
 
 -- a node is still stopped where the one that is done now isn't left of it
 pub still_stopped : (done later : List ℕ) (t : ℕ) (rest : Rest) → ((n : ℕ) → Has later n → (n ≡ t) ⊎ Has done n) → ¬ (Has rest.group t) → IsStopped done rest → IsStopped later rest

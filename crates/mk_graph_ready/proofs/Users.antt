@@ -1,20 +1,18 @@
 -- Rows of numbers, and places.
-use Rattle.std.proofs.Common.{◌≡◌, ◌≢◌, ℕ, zero, suc, ◌+◌, ◌<◌, List, [], ◌∷◌, ◌++◌, length, get_or, set, drop, map, replicate, Vec, inl, inr, ◌⊎◌, refl, sym, ap, subst, ◌∙◌, arith}
+use Rattle.std.proofs.Common.{◌≡◌, ◌≢◌, ℕ, zero, suc, ◌+◌, ◌<◌, List, [], ◌∷◌, ◌++◌, length, get_or, set, drop, replicate, Vec, inl, inr, ◌⊎◌, refl, sym, ap, subst, ◌∙◌, arith}
 use Rattle.std.specs.Prelude.{◌↔◌}
 use Rattle.std.specs.declared.alloc.Global.{Global}
 use Rattle.std.proofs.lemmas.Bool.{cases_eq}
-use Rattle.std.proofs.lemmas.List.{get_or-set_same, get_or-set_other}
+use Rattle.std.proofs.lemmas.List.{get_or-set_same, get_or-set_other, get_or_default}
+use Rattle.mk_lemmas.proofs.Members.{Has-cases, Has-left, Has-right}
+use Rattle.mk_graph.specs.BitRows.{lists}
 use Rattle.mk_graph.specs.Membership.{Has, IsDistinct}
 use Rattle.mk_graph.specs.Graph.{Graph, IsGraph}
 use Rattle.mk_graph.specs.Laws.{SerialReachesEachOnce}
 use Rattle.mk_graph.specs.Progress.{row}
 use Rattle.mk_graph.specs.Serial.{serial_order}
 use Rattle.mk_graph_ready.specs.Layout.{ArePlaces, AreUsers}
-use Rattle.mk_graph.specs.Lists.{has_left, has_right, has_cases}
-use Rattle.mk_graph_ready.proofs.Lists.{at_any, place_of, one_place, rest_is, rest_has}
-
-abbrev pub lists : List (Vec ℕ Global) → List (List ℕ)
-lists rows = map (λ (r : Vec ℕ Global). r.items) rows
+use Rattle.mk_graph_ready.proofs.Lists.{place_of, one_place, rest_is, rest_has}
 
 pub row_at : (rows : List (Vec ℕ Global)) (k : ℕ) (d : Vec ℕ Global) → k < length rows → row rows k ≡ (get_or rows k d).items
 row_at [] k d lt = absurd (omega arith)
@@ -51,8 +49,8 @@ pub adds : (was rows : List (Vec ℕ Global)) (numbers : List ℕ) (i node : ℕ
 adds was rows numbers i node v lt low items left n p =
     let k = get_or numbers i 0 in
     let same = row_same rows k v low in
-    let into : Has (row rows k) p ⊎ (p ≡ node) → Has (row (set rows k v) k) p = λ h. subst (λ (l : List ℕ). Has l p) (sym (same ∙ items)) (elim h [ inl had ↦ has_left (row rows k) (node ∷ []) p had | inr is ↦ has_right (row rows k) (node ∷ []) p (inl (sym is)) ]) in
-    let out : Has (row (set rows k v) k) p → Has (row rows k) p ⊎ (p ≡ node) = λ h. elim (has_cases (row rows k) (node ∷ []) p (subst (λ (l : List ℕ). Has l p) (same ∙ items) h)) [ inl had ↦ inl had | inr now ↦ elim now [ inl is ↦ inr (sym is) | inr none ↦ absurd none ] ] in (
+    let into : Has (row rows k) p ⊎ (p ≡ node) → Has (row (set rows k v) k) p = λ h. subst (λ (l : List ℕ). Has l p) (sym (same ∙ items)) (elim h [ inl had ↦ Has-left (row rows k) (node ∷ []) p had | inr is ↦ Has-right (row rows k) (node ∷ []) p (inl (sym is)) ]) in
+    let out : Has (row (set rows k v) k) p → Has (row rows k) p ⊎ (p ≡ node) = λ h. elim (Has-cases (row rows k) (node ∷ []) p (subst (λ (l : List ℕ). Has l p) (same ∙ items) h)) [ inl had ↦ inl had | inr now ↦ elim now [ inl is ↦ inr (sym is) | inr none ↦ absurd none ] ] in (
       λ h. elim ((left n p).0 h) [
         | inl had ↦ elim (cases_eq n k) [
           | inl is ↦ inl (subst (λ m. Has (row (set rows k v) m) p) (sym is) (into (inl (subst (λ m. Has (row rows m) p) is had))))
@@ -97,13 +95,13 @@ pub node_place : (g : Graph) → IsGraph g → SerialReachesEachOnce → (places
     → (n place : ℕ) → n < length g.nodes → place ≡ get_or places n place → (place < length (serial_order g)) × (get_or (serial_order g) place 0 ≡ n)
 node_place g is once places many are n place lt at =
     let there : Has (serial_order g) n = ((once g is.no_cycle).1 n).1 (is.sound.reached n lt) in
-    let same : get_or places n 0 ≡ place = at_any places n 0 place (rw many lt) ∙ sym at in
+    let same : get_or places n 0 ≡ place = get_or_default places n 0 place (rw many lt) ∙ sym at in
     subst (λ k. (k < length (serial_order g)) × (get_or (serial_order g) k 0 ≡ n)) same (place_is (serial_order g) places are n there)
 
 pub only_place : (g : Graph) (places : List ℕ) → length places ≡ length g.nodes → ArePlaces (serial_order g) places
     → (n place : ℕ) → n < length g.nodes → place ≡ get_or places n place → (i : ℕ) → i < length (serial_order g) → get_or (serial_order g) i 0 ≡ n → i ≡ place
 only_place g places many are n place lt at i low is =
-    sym (are i low) ∙ (ap (λ k. get_or places k 0) is ∙ (at_any places n 0 place (rw many lt) ∙ sym at))
+    sym (are i low) ∙ (ap (λ k. get_or places k 0) is ∙ (get_or_default places n 0 place (rw many lt) ∙ sym at))
 
 -- the row of a node
 pub users_are : (g : Graph) (rows : List (Vec ℕ Global)) → AreUsers g rows → (n : ℕ) (v : Vec ℕ Global) (numbers : List ℕ) → n < length g.nodes → v ≡ get_or rows n v → numbers ≡ v.items → numbers ≡ row rows n

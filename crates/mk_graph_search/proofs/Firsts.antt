@@ -1,13 +1,13 @@
 -- First ways, and the places of ways.
-use Rattle.std.proofs.Common.{◌≡◌, ℕ, ◌+◌, ◌<◌, ◌≤◌, Bool, true, false, List, [], ◌∷◌, ◌++◌, length, map, get_or, ◌⊎◌, inl, inr, refl, sym, ◌∙◌, ap, subst, arith}
+use Rattle.std.proofs.Common.{◌≡◌, ℕ, ◌+◌, ◌<◌, ◌≤◌, Bool, true, false, List, [], ◌∷◌, ◌++◌, length, map, get_or, ◌⊎◌, inl, inr, refl, sym, ◌∙◌, ap, subst, arith, append_assoc, map-append}
 use Rattle.std.proofs.lemmas.Bool.{false≢true}
 use Rattle.std.proofs.lemmas.List.{length-append}
+use Rattle.mk_lemmas.proofs.Members.{Has-cases, Has-from_map, Has-left, Has-map, Has-right}
 use Rattle.mk_graph.specs.Membership.{Has}
 use Rattle.mk_graph_search.specs.Ways.{end, IsWay, Precedes, IsFirstWay, IsFirstThere}
 use Rattle.mk_graph_search.specs.Places.{IsRising, IsBeginning, StandsAt}
 use Rattle.mk_graph_search.specs.Laws.{FirstIsOne, FirstIsShortest, OneWayAtAPlace, SaysNoBefore, FirstByPlaces, NoneByPlaces}
-use Rattle.mk_graph.specs.Lists.{has_left, has_right, has_cases, mapped_from, has_mapped}
-use Rattle.mk_graph_search.proofs.Lists.{cut_at, at_place, join_assoc, map_joined}
+use Rattle.mk_graph_search.proofs.Lists.{cut_at, at_place}
 use Rattle.mk_graph_search.proofs.Order.{before_none, before_once, before_later}
 use Rattle.mk_graph_search.proofs.Reading.{as_read}
 
@@ -24,36 +24,36 @@ module _ (succ : ℕ → List ℕ) (t : ℕ) where
   -- a way of a beginning, or of another list of which each way is first where it leads
   among : (ways : List (List ℕ)) → ((way : List ℕ) → Has ways way → IsFirstThere succ t way) → (other : List ℕ) → IsFirstThere succ t other → Has (map (end t) ways) (end t other) → Has ways other
   among ways first other f h =
-      let found = mapped_from (end t) ways (end t other) h in
+      let found = Has-from_map (end t) ways (end t other) h in
       subst (λ (w : List ℕ). Has ways w) (one_first_there found.0 other (first found.0 found.1) f found.2) found.1
 
   -- the first list in front of the second is rising
   pub rising_front : (ways others : List (List ℕ)) → IsRising succ t (ways ++ others) → IsRising succ t ways
   rising_front [] others r = tt
-  rising_front (w ∷ ways) others r = (λ other h. r.0 other (has_left ways others other h), rising_front ways others r.1)
+  rising_front (w ∷ ways) others r = (λ other h. r.0 other (Has-left ways others other h), rising_front ways others r.1)
 
   -- what stands in front precedes what stands behind
   pub rising_across : (ways others : List (List ℕ)) → IsRising succ t (ways ++ others) → (one other : List ℕ) → Has ways one → Has others other → Precedes succ t one other
   rising_across [] others r one other h k = absurd h
-  rising_across (w ∷ ways) others r one other (inl here) k = subst (λ (v : List ℕ). Precedes succ t v other) here (r.0 other (has_right ways others other k))
+  rising_across (w ∷ ways) others r one other (inl here) k = subst (λ (v : List ℕ). Precedes succ t v other) here (r.0 other (Has-right ways others other k))
   rising_across (w ∷ ways) others r one other (inr there) k = rising_across ways others r.1 one other there k
 
   -- one more that all others precede
   pub rising_pushed : (ways : List (List ℕ)) (other : List ℕ) → IsRising succ t ways → ((way : List ℕ) → Has ways way → Precedes succ t way other) → IsRising succ t (ways ++ other ∷ [])
   rising_pushed [] other r h = (λ v none. absurd none, tt)
   rising_pushed (w ∷ ways) other r h =
-      (λ v in_it. elim (has_cases ways (other ∷ []) v in_it) [ inl there ↦ r.0 v there | inr (inl last) ↦ subst (λ (x : List ℕ). Precedes succ t w x) last (h w (inl refl)) | inr (inr none) ↦ absurd none ], rising_pushed ways other r.1 (λ v in_it. h v (inr in_it)))
+      (λ v in_it. elim (Has-cases ways (other ∷ []) v in_it) [ inl there ↦ r.0 v there | inr (inl last) ↦ subst (λ (x : List ℕ). Precedes succ t w x) last (h w (inl refl)) | inr (inr none) ↦ absurd none ], rising_pushed ways other r.1 (λ v in_it. h v (inr in_it)))
 
   -- the front of a beginning is one
   pub beginning_front : (ways others : List (List ℕ)) → IsBeginning succ t (ways ++ others) → IsBeginning succ t ways
   beginning_front ways others b = record {
-    first = λ way h. b.first way (has_left ways others way h);
+    first = λ way h. b.first way (Has-left ways others way h);
     rising = rising_front ways others b.rising;
     others = λ other is. cases other is (b.others other is);
   }
     where
       later : (other found : List ℕ) → Has ways found ⊎ Has others found → end t found ≡ end t other → (found ≡ other) ⊎ Precedes succ t found other → Has (map (end t) ways) (end t other) ⊎ ((way : List ℕ) → Has ways way → Precedes succ t way other)
-      later other found (inl in_front) e no_later = inl (subst (λ (k : ℕ). Has (map (end t) ways) k) e (has_mapped (end t) ways found in_front))
+      later other found (inl in_front) e no_later = inl (subst (λ (k : ℕ). Has (map (end t) ways) k) e (Has-map (end t) ways found in_front))
       later other found (inr behind) e no_later = inr (λ way h. before_later succ t way found other (rising_across ways others b.rising way found h behind) no_later)
 
       swapped : (p q : List ℕ) → (q ≡ p) ⊎ Precedes succ t p q → (p ≡ q) ⊎ Precedes succ t p q
@@ -61,16 +61,16 @@ module _ (succ : ℕ → List ℕ) (t : ℕ) where
       swapped p q (inr h) = inr h
 
       cases : (other : List ℕ) → IsWay succ t other → Has (map (end t) (ways ++ others)) (end t other) ⊎ ((way : List ℕ) → Has (ways ++ others) way → Precedes succ t way other) → Has (map (end t) ways) (end t other) ⊎ ((way : List ℕ) → Has ways way → Precedes succ t way other)
-      cases other is (inr all) = inr (λ way h. all way (has_left ways others way h))
+      cases other is (inr all) = inr (λ way h. all way (Has-left ways others way h))
       cases other is (inl h) =
-          let found = mapped_from (end t) (ways ++ others) (end t other) h in
-          later other found.0 (has_cases ways others found.0 found.1) found.2 (swapped found.0 other ((b.first found.0 found.1).before other is (sym found.2)))
+          let found = Has-from_map (end t) (ways ++ others) (end t other) h in
+          later other found.0 (Has-cases ways others found.0 found.1) found.2 (swapped found.0 other ((b.first found.0 found.1).before other is (sym found.2)))
 
   -- a way of a beginning stands at a place before its length
   pub stands_in : (ways : List (List ℕ)) → IsBeginning succ t ways → (way : List ℕ) → Has ways way → (k : ℕ) × (k < length ways) × StandsAt succ t k way
   stands_in ways b way h =
       let cut = cut_at ways way h in
-      let again : ways ≡ (cut.0 ++ way ∷ []) ++ cut.1 = cut.2 ∙ sym (join_assoc cut.0 (way ∷ []) cut.1) in
+      let again : ways ≡ (cut.0 ++ way ∷ []) ++ cut.1 = cut.2 ∙ sym (append_assoc cut.0 (way ∷ []) cut.1) in
       let long : length ways ≡ length cut.0 + length (way ∷ cut.1) = ap length cut.2 ∙ length-append cut.0 (way ∷ cut.1) in
       (length cut.0, omega arith, record { preceding = cut.0; many = refl; beginning = beginning_front (cut.0 ++ way ∷ []) cut.1 (subst (λ (l : List (List ℕ)). IsBeginning succ t l) again b) })
 
@@ -149,7 +149,7 @@ first_is_shortest succ t test way other f is says =
 -- a way that leads where one of these leads, at the end of which the test says no
 said_no : (succ : ℕ → List ℕ) (t : ℕ) (test : ℕ → Bool) (k : ℕ) (ways : List (List ℕ)) → length ways ≤ k → SaysNoBefore succ t test k → IsBeginning succ t ways → (other : List ℕ) → Has (map (end t) ways) (end t other) → test (end t other) ≡ false
 said_no succ t test k ways few denies b other h =
-    let found = mapped_from (end t) ways (end t other) h in
+    let found = Has-from_map (end t) ways (end t other) h in
     let stands = stands_in succ t ways b found.0 found.1 in
     let less = stands.1 in
     ap test (sym found.2) ∙ denies stands.0 (omega arith) found.0 stands.2
@@ -163,7 +163,7 @@ first_by_places succ t test k way denies a says = record {
 }
   where
     at_end : Has (a.preceding ++ way ∷ []) way
-    at_end = has_right a.preceding (way ∷ []) way (inl refl)
+    at_end = Has-right a.preceding (way ∷ []) way (inl refl)
 
     here : (other : List ℕ) → IsWay succ t other → test (end t other) ≡ true → Has (map (end t) a.preceding) (end t other) ⊎ Has (end t way ∷ []) (end t other) → (other ≡ way) ⊎ Precedes succ t way other
     here other is ok (inl in_front) =
@@ -173,7 +173,7 @@ first_by_places succ t test k way denies a says = record {
 
     cases : (other : List ℕ) → IsWay succ t other → test (end t other) ≡ true → Has (map (end t) (a.preceding ++ way ∷ [])) (end t other) ⊎ ((v : List ℕ) → Has (a.preceding ++ way ∷ []) v → Precedes succ t v other) → (other ≡ way) ⊎ Precedes succ t way other
     cases other is ok (inl h) =
-        here other is ok (has_cases (map (end t) a.preceding) (end t way ∷ []) (end t other) (subst (λ (l : List ℕ). Has l (end t other)) (map_joined (end t) a.preceding (way ∷ [])) h))
+        here other is ok (Has-cases (map (end t) a.preceding) (end t way ∷ []) (end t other) (subst (λ (l : List ℕ). Has l (end t other)) (map-append (end t) a.preceding (way ∷ [])) h))
     cases other is ok (inr all) = inr (all way at_end)
 
 -- the test says no everywhere

@@ -1,15 +1,14 @@
 -- A search with its visits: what it keeps, and what its answers are.
-use Rattle.std.proofs.Common.{◌≡◌, ℕ, ◌+◌, ◌<◌, ◌≤◌, suc, zero, List, [], ◌∷◌, ◌++◌, length, get_or, reverse, ◌⊎◌, inl, inr, MatchOption, Option, Some, None, is_some, true, refl, sym, ◌∙◌, ap, subst, arith}
+use Rattle.std.proofs.Common.{◌≡◌, ℕ, ◌+◌, ◌<◌, ◌≤◌, suc, zero, List, [], ◌∷◌, ◌++◌, length, get_or, reverse, ◌⊎◌, inl, inr, MatchOption, Option, Some, None, is_some, true, refl, sym, ◌∙◌, ap, subst, arith, append-nil, append_assoc, map-append}
 use Rattle.std.proofs.lemmas.Bool.{false≢true, cases_lt}
-use Rattle.std.proofs.lemmas.List.{length-append, reverse-append}
+use Rattle.std.proofs.lemmas.List.{length-append, reverse-append, length-map}
+use Rattle.mk_lemmas.proofs.Members.{Has-from_map, Has-get_or, length-le_distinct}
 use Rattle.mk_graph.specs.Membership.{Has, IsDistinct}
 use Rattle.mk_graph_search.specs.declared.visits.Visit.{Visit}
 use Rattle.mk_graph_search.specs.Ways.{successors, end, IsWay}
 use Rattle.mk_graph_search.specs.Places.{EndsAt, GoesAt, HasAtMost, IsOut, IsOutBefore}
 use Rattle.mk_graph_search.specs.Progress.{IsUnderWay, nodes_of, visit_at, IsVisited, AreWaysOf, Stands}
-use Rattle.mk_graph.specs.Lists.{mapped_from}
-use Rattle.mk_graph_search.proofs.Lists.{apart_at, has_at, at_place, at_front, at_mapped, length_mapped, map_joined, join_none, join_assoc}
-use Rattle.mk_graph_search.proofs.Few.{few_below}
+use Rattle.mk_graph_search.proofs.Lists.{apart_at, at_place, at_front, at_mapped}
 use Rattle.mk_graph_search.proofs.Firsts.{one_at_a_place}
 use Rattle.mk_graph_search.proofs.Tables.{among}
 use Rattle.mk_graph_search.proofs.Steps.{begins, passes, finds, goes_on, has_at_most, is_out, stands_at}
@@ -38,7 +37,7 @@ module _ (succ : ℕ → List ℕ) (t : ℕ) where
 
   -- there are as many ways as visits
   pub as_many : (visits : List Visit) (ways : List (List ℕ)) → AreWaysOf t visits ways → length ways ≡ length visits
-  as_many visits ways a = sym (length_mapped (end t) ways) ∙ (ap length a.ends ∙ length_mapped (λ (visit : Visit). visit.node) visits)
+  as_many visits ways a = sym (length-map ways (end t)) ∙ (ap length a.ends ∙ length-map visits (λ (visit : Visit). visit.node))
 
   -- the way at a place ends at the node there
   pub end_at : (visits : List Visit) (ways : List (List ℕ)) → AreWaysOf t visits ways → (k : ℕ) → k < length visits → end t (get_or ways k []) ≡ (visit_at visits k).node
@@ -81,7 +80,7 @@ module _ (succ : ℕ → List ℕ) (t : ℕ) where
 
   -- a row that has been looked at whole
   row_whole : (row seen left : List ℕ) (looked : ℕ) → row ≡ seen ++ left → length seen ≡ looked → length row ≤ looked → row ≡ seen
-  row_whole row seen [] looked e so_far less = e ∙ join_none seen
+  row_whole row seen [] looked e so_far less = e ∙ append-nil seen
   row_whole row seen (n ∷ left) looked e so_far less =
       let long : length row ≡ length seen + length (n ∷ left) = ap length e ∙ length-append seen (n ∷ left) in
       absurd (omega arith)
@@ -90,7 +89,7 @@ module _ (succ : ℕ → List ℕ) (t : ℕ) where
   follow_more : (visits : List Visit) (ways : List (List ℕ)) (n at : ℕ) (way : List ℕ) → AreWaysOf t visits ways → at < length visits → get_or ways at [] ≡ way → AreWaysOf t (visits ++ record { node = n; from = at } ∷ []) (ways ++ (n ∷ way) ∷ [])
   follow_more visits ways n at way a less here =
       record {
-        ends = map_joined (end t) ways (child ∷ []) ∙ (ap (λ (l : List ℕ). l ++ n ∷ []) a.ends ∙ sym (map_joined (λ (visit : Visit). visit.node) visits (new ∷ [])));
+        ends = map-append (end t) ways (child ∷ []) ∙ (ap (λ (l : List ℕ). l ++ n ∷ []) a.ends ∙ sym (map-append (λ (visit : Visit). visit.node) visits (new ∷ [])));
         first = at_front ways (child ∷ []) 0 [] (let m = many in omega arith) ∙ a.first;
         earlier = λ k low high. elim (cases_lt k (length visits)) [ inl old ↦ subst (λ (v : Visit). v.from < k) (sym (old_visit k old)) (a.earlier k old high) | inr past ↦ subst (λ (v : Visit). v.from < k) (sym (new_visit k (last_place k low past))) (let e = last_place k low past in omega arith) ];
         further = λ k low high. elim (cases_lt k (length visits)) [ inl old ↦ old_further k old high | inr past ↦ new_further k (last_place k low past) ];
@@ -232,7 +231,7 @@ module _ (succ : ℕ → List ℕ) (t : ℕ) where
   pub out_before_visit : (visits : List Visit) (at looked node place : ℕ) → Stands succ t visits at looked → (place < length visits) × ((visit_at visits place).node ≡ node) → IsOutBefore succ t place node
   out_before_visit visits at looked node place s is =
       let less = is.0 in
-      let long = length_mapped (λ (visit : Visit). visit.node) visits in
+      let long = length-map visits (λ (visit : Visit). visit.node) in
       let named = λ (k : ℕ) (low : k < length visits). at_mapped (λ (visit : Visit). visit.node) visits k no_visit 0 low in
       let d : IsDistinct (nodes_of visits) = subst (λ (l : List ℕ). IsDistinct l) s.follow.ends s.under_way.apart in
       out_before visits at looked node place s (omega arith) (λ k low e. apart_at (nodes_of visits) k place d low (omega arith) (named k (omega arith) ∙ (e ∙ (sym is.1 ∙ sym (named place less)))))
@@ -245,13 +244,13 @@ module _ (succ : ℕ → List ℕ) (t : ℕ) where
   pub back_at_start : (visits : List Visit) (nodes : List ℕ) (at looked at_place place : ℕ) → Stands succ t visits at looked → place < length visits → LeadsBack t visits nodes at_place place → at_place ≡ 0 → GoesAt succ t place (reverse (nodes ++ t ∷ []))
   back_at_start visits nodes at looked at_place place s less back zero_now =
       let many = as_many visits s.ways s.follow in
-      let whole : nodes ≡ get_or s.ways place [] = sym (join_none nodes) ∙ (ap (λ (l : List ℕ). nodes ++ l) (sym (ap (λ (k : ℕ). get_or s.ways k []) zero_now ∙ s.follow.first)) ∙ back s.ways s.follow) in
+      let whole : nodes ≡ get_or s.ways place [] = sym (append-nil nodes) ∙ (ap (λ (l : List ℕ). nodes ++ l) (sym (ap (λ (k : ℕ). get_or s.ways k []) zero_now ∙ s.follow.first)) ∙ back s.ways s.follow) in
       record { way = get_or s.ways place []; stands = stands_at succ t s.ways s.done s.rest s.seen place s.under_way (omega arith); goes = ap (λ (l : List ℕ). reverse (l ++ t ∷ [])) whole ∙ reverse-append (get_or s.ways place []) (t ∷ []) }
 
   -- one step back
   pub back_one : (visits : List Visit) (nodes : List ℕ) (at place : ℕ) → at < length visits → 0 < at → LeadsBack t visits nodes at place → LeadsBack t visits (nodes ++ (visit_at visits at).node ∷ []) (visit_at visits at).from place
   back_one visits nodes at place less high back ways a =
-      join_assoc nodes ((visit_at visits at).node ∷ []) (get_or ways (visit_at visits at).from []) ∙ (ap (λ (l : List ℕ). nodes ++ l) (sym (a.further at less high)) ∙ back ways a)
+      append_assoc nodes ((visit_at visits at).node ∷ []) (get_or ways (visit_at visits at).from []) ∙ (ap (λ (l : List ℕ). nodes ++ l) (sym (a.further at less high)) ∙ back ways a)
 
 -- the sum of a list
 sum_of : List ℕ → ℕ
@@ -291,9 +290,9 @@ end_below rows t (n ∷ way) is = let less = successor_below rows (end t way) n 
 pub few_visits : (rows : List (List ℕ)) (t : ℕ) (visits : List Visit) (at looked : ℕ) → Stands (successors rows) t visits at looked → length visits ≤ room rows t
 few_visits rows t visits at looked s =
     let d : IsDistinct (nodes_of visits) = subst (λ (l : List ℕ). IsDistinct l) s.follow.ends s.under_way.apart in
-    let low : (n : ℕ) → Has (nodes_of visits) n → n < room rows t = λ n h. let found = mapped_from (end t) s.ways n (subst (λ (l : List ℕ). Has l n) (sym s.follow.ends) h) in subst (λ (k : ℕ). k < room rows t) found.2 (end_below rows t found.0 (s.under_way.are found.0 found.1)) in
-    let few = few_below (nodes_of visits) (room rows t) d low in
-    let long = length_mapped (λ (visit : Visit). visit.node) visits in
+    let low : (n : ℕ) → Has (nodes_of visits) n → n < room rows t = λ n h. let found = Has-from_map (end t) s.ways n (subst (λ (l : List ℕ). Has l n) (sym s.follow.ends) h) in subst (λ (k : ℕ). k < room rows t) found.2 (end_below rows t found.0 (s.under_way.are found.0 found.1)) in
+    let few = length-le_distinct (nodes_of visits) (room rows t) d low in
+    let long = length-map visits (λ (visit : Visit). visit.node) in
     omega arith
 
 -- earlier visits stay
@@ -321,10 +320,10 @@ looks_on rows row t first start visits new at looked o less visited =
 pub node_found : (visits : List Visit) (node : ℕ) (r : Option ℕ) → MatchOption r (¬ (Has (nodes_of visits) node)) (λ place. (place < length visits) × ((visit_at visits place).node ≡ node)) → is_some r ≡ true → Has (nodes_of visits) node
 node_found visits node None out e = absurd (false≢true e)
 node_found visits node (Some place) at e =
-    let long = length_mapped (λ (visit : Visit). visit.node) visits in
+    let long = length-map visits (λ (visit : Visit). visit.node) in
     let low = at.0 in
     let within : place < length (nodes_of visits) = omega arith in
-    subst (λ (k : ℕ). Has (nodes_of visits) k) (at_mapped (λ (visit : Visit). visit.node) visits place no_visit 0 at.0 ∙ at.1) (has_at (nodes_of visits) place 0 within)
+    subst (λ (k : ℕ). Has (nodes_of visits) k) (at_mapped (λ (visit : Visit). visit.node) visits place no_visit 0 at.0 ∙ at.1) (Has-get_or (nodes_of visits) place 0 within)
 
 -- the place of a node, once it is found or nothing is left to find
 pub place_answer : (succ : ℕ → List ℕ) (t : ℕ) (visits : List Visit) (at looked node : ℕ)

@@ -1,8 +1,8 @@
 -- What stands in joined and mapped lists, and at which place.
 use Rattle.std.proofs.Common.{◌≡◌, ℕ, ◌<◌, zero, suc, eqb, List, [], ◌∷◌, ◌++◌, length, map, get_or, ◌⊎◌, inl, inr, refl, sym, ◌∙◌, ap, subst, arith, eqb-true, eq-eqb}
 use Rattle.std.proofs.lemmas.Bool.{cases_Bool, cond-true, cond-false, false≢true, ne_eqb}
+use Rattle.mk_lemmas.proofs.Members.{Has-get_or, Has-map}
 use Rattle.mk_graph.specs.Membership.{Has, IsDistinct}
-use Rattle.mk_graph.specs.Lists.{has_cases, has_mapped}
 use Rattle.mk_graph_search.specs.Ways.{place}
 
 -- in two joined lists
@@ -38,65 +38,28 @@ module _ {A : Type 0} where
   at_front (x ∷ xs) ys zero d h = refl
   at_front (x ∷ xs) ys (suc k) d h = at_front xs ys k d (omega arith)
 
-  -- what stands at a place stands in the list
-  pub has_at : (xs : List A) (k : ℕ) (d : A) → k < length xs → Has xs (get_or xs k d)
-  has_at [] k d h = absurd (omega arith)
-  has_at (x ∷ xs) zero d h = inl refl
-  has_at (x ∷ xs) (suc k) d h = inr (has_at xs k d (omega arith))
-
-  -- lists are joined in any order
-  pub join_assoc : (xs ys zs : List A) → (xs ++ ys) ++ zs ≡ xs ++ (ys ++ zs)
-  join_assoc [] ys zs = refl
-  join_assoc (x ∷ xs) ys zs = ap (λ (l : List A). x ∷ l) (join_assoc xs ys zs)
-
-  -- nothing behind a list
-  pub join_none : (xs : List A) → xs ++ [] ≡ xs
-  join_none [] = refl
-  join_none (x ∷ xs) = ap (λ (l : List A). x ∷ l) (join_none xs)
-
 -- in a mapped list
 module _ {A B : Type 0} (f : A → B) where
-  -- joined lists
-  pub map_joined : (xs ys : List A) → map f (xs ++ ys) ≡ map f xs ++ map f ys
-  map_joined [] ys = refl
-  map_joined (x ∷ xs) ys = ap (λ (l : List B). f x ∷ l) (map_joined xs ys)
-
   -- a place of a mapped list
   pub at_mapped : (xs : List A) (k : ℕ) (d : A) (e : B) → k < length xs → get_or (map f xs) k e ≡ f (get_or xs k d)
   at_mapped [] k d e h = absurd (omega arith)
   at_mapped (x ∷ xs) zero d e h = refl
   at_mapped (x ∷ xs) (suc k) d e h = at_mapped xs k d e (omega arith)
 
-  -- it is as long
-  pub length_mapped : (xs : List A) → length (map f xs) ≡ length xs
-  length_mapped [] = refl
-  length_mapped (x ∷ xs) = ap suc (length_mapped xs)
-
   -- two elements that are taken to one stand at one place, where no two places are taken to one
   pub apart_from : (xs : List A) → IsDistinct (map f xs) → (x y : A) → Has xs x → Has xs y → f x ≡ f y → x ≡ y
   apart_from [] d x y h k e = absurd h
   apart_from (z ∷ xs) d x y (inl h) (inl k) e = sym h ∙ k
-  apart_from (z ∷ xs) d x y (inl h) (inr k) e = absurd (d.0 (subst (λ (b : B). Has (map f xs) b) (sym e ∙ sym (ap f h)) (has_mapped f xs y k)))
-  apart_from (z ∷ xs) d x y (inr h) (inl k) e = absurd (d.0 (subst (λ (b : B). Has (map f xs) b) (e ∙ sym (ap f k)) (has_mapped f xs x h)))
+  apart_from (z ∷ xs) d x y (inl h) (inr k) e = absurd (d.0 (subst (λ (b : B). Has (map f xs) b) (sym e ∙ sym (ap f h)) (Has-map f xs y k)))
+  apart_from (z ∷ xs) d x y (inr h) (inl k) e = absurd (d.0 (subst (λ (b : B). Has (map f xs) b) (e ∙ sym (ap f k)) (Has-map f xs x h)))
   apart_from (z ∷ xs) d x y (inr h) (inr k) e = apart_from xs d.1 x y h k e
-
--- one more element, that isn't there, keeps elements apart
-pub apart_pushed : (xs : List ℕ) (n : ℕ) → ¬ (Has xs n) → IsDistinct xs → IsDistinct (xs ++ n ∷ [])
-apart_pushed [] n out d = (λ h. h, tt)
-apart_pushed (x ∷ xs) n out d = (λ h. elim (has_cases xs (n ∷ []) x h) [ inl before ↦ d.0 before | inr (inl last) ↦ out (inl (sym last)) | inr (inr none) ↦ none ], apart_pushed xs n (λ h. out (inr h)) d.1)
 
 -- numbers at different places of a list without repeats differ
 pub apart_at : (ns : List ℕ) (k j : ℕ) → IsDistinct ns → k < j → j < length ns → ¬ (get_or ns k 0 ≡ get_or ns j 0)
 apart_at [] k j d less low e = absurd (omega arith)
 apart_at (n ∷ ns) k zero d less low e = absurd (omega arith)
-apart_at (n ∷ ns) zero (suc j) d less low e = d.0 (subst (λ (m : ℕ). Has ns m) (sym e) (has_at ns j 0 (omega arith)))
+apart_at (n ∷ ns) zero (suc j) d less low e = d.0 (subst (λ (m : ℕ). Has ns m) (sym e) (Has-get_or ns j 0 (omega arith)))
 apart_at (n ∷ ns) (suc k) (suc j) d less low e = apart_at ns k j d.1 (omega arith) (omega arith) e
-
--- a number stands in a list or doesn't
-pub has_or_not : (ns : List ℕ) (n : ℕ) → Has ns n ⊎ (¬ (Has ns n))
-has_or_not [] n = inr (λ h. h)
-has_or_not (m ∷ ms) n =
-    elim (cases_Bool (eqb m n)) [ inl e ↦ inl (inl (eqb-true m n e)) | inr ne ↦ elim (has_or_not ms n) [ inl h ↦ inl (inr h) | inr out ↦ inr (λ h. elim h [ inl here ↦ false≢true (sym ne ∙ eq-eqb m n here) | inr there ↦ out there ]) ] ]
 
 -- the place of the first element
 pub place_here : (m n : ℕ) (ms : List ℕ) → m ≡ n → place (m ∷ ms) n ≡ 0

@@ -1,11 +1,11 @@
 -- The steps of a search, over the ways that it has found.
-use Rattle.std.proofs.Common.{◌≡◌, ℕ, ◌<◌, ◌≤◌, List, [], ◌∷◌, ◌++◌, length, map, get_or, ◌⊎◌, inl, inr, refl, sym, ◌∙◌, ap, subst}
+use Rattle.std.proofs.Common.{◌≡◌, ℕ, ◌<◌, ◌≤◌, List, [], ◌∷◌, ◌++◌, length, map, get_or, ◌⊎◌, inl, inr, refl, sym, ◌∙◌, ap, subst, append-nil, append_assoc, map-append}
+use Rattle.mk_lemmas.proofs.Members.{Has-cases, Has-from_map, Has-left, Has-map, Has-right, IsDistinct-push, cases_Has}
 use Rattle.mk_graph.specs.Membership.{Has, IsDistinct}
 use Rattle.mk_graph_search.specs.Ways.{end, IsWay, place, Precedes}
 use Rattle.mk_graph_search.specs.Places.{IsRising, IsBeginning, StandsAt, HasAtMost, IsOut}
 use Rattle.mk_graph_search.specs.Progress.{IsMet, IsUnderWay}
-use Rattle.mk_graph.specs.Lists.{has_left, has_right, has_cases, mapped_from, has_mapped}
-use Rattle.mk_graph_search.proofs.Lists.{cut_at_place, head_is, join_assoc, join_none, map_joined, apart_from, apart_pushed, has_or_not, front_first}
+use Rattle.mk_graph_search.proofs.Lists.{cut_at_place, head_is, apart_from, front_first}
 use Rattle.mk_graph_search.proofs.Order.{before_later, no_later_trans, one_step_on}
 use Rattle.mk_graph_search.proofs.Firsts.{rising_across, rising_pushed, beginning_front}
 
@@ -16,7 +16,7 @@ module _ (succ : ℕ → List ℕ) (t : ℕ) where
 
   -- more ways
   pub met_more : (ways more : List (List ℕ)) (other : List ℕ) → IsMet succ t ways other → IsMet succ t (ways ++ more) other
-  met_more ways more other met = record { way = met.way; among = has_left ways more met.way met.among; leads = met.leads; no_later = met.no_later }
+  met_more ways more other met = record { way = met.way; among = Has-left ways more met.way met.among; leads = met.leads; no_later = met.no_later }
 
   -- a way that goes on from one no later than another's parent
   met_on : (ways : List (List ℕ)) (n : ℕ) (way other : List ℕ) → (way ≡ other) ⊎ Precedes succ t way other → IsMet succ t ways (n ∷ way) → IsMet succ t ways (n ∷ other)
@@ -73,22 +73,22 @@ module _ (succ : ℕ → List ℕ) (t : ℕ) where
   from_rest : (ways done rest : List (List ℕ)) (looked : List ℕ) → IsUnderWay succ t ways done rest looked → (way : List ℕ) → Has rest way → (n : ℕ) → IsMet succ t ways (n ∷ way) ⊎ AllBefore ways (n ∷ way)
   from_rest ways done [] looked u way h n = absurd h
   from_rest ways done (w ∷ later) looked u way (inl here) n =
-      subst (λ (v : List ℕ). IsMet succ t ways (n ∷ v) ⊎ AllBefore ways (n ∷ v)) here (elim (has_or_not looked n) [ inl seen ↦ inl (u.met_here w later refl n seen) | inr out ↦ inr (behind_here ways done later w looked u n out) ])
+      subst (λ (v : List ℕ). IsMet succ t ways (n ∷ v) ⊎ AllBefore ways (n ∷ v)) here (elim (cases_Has looked n) [ inl seen ↦ inl (u.met_here w later refl n seen) | inr out ↦ inr (behind_here ways done later w looked u n out) ])
   from_rest ways done (w ∷ later) looked u way (inr there) n = inr (behind_later ways done later w looked u way there n)
 
   -- the parent of a way is one of the ways
   parent_among : (ways done rest : List (List ℕ)) (looked : List ℕ) → IsUnderWay succ t ways done rest looked → (n : ℕ) (way : List ℕ) → Has ways (n ∷ way) → Has ways way
   parent_among ways done rest looked u n way h =
-      subst (λ (l : List (List ℕ)). Has l way) (sym u.split) (elim (u.parents n way h) [ inl in_done ↦ has_left done rest way in_done | inr here ↦ has_right done rest way (subst (λ (l : List (List ℕ)). Has l way) (sym here.1) (inl refl)) ])
+      subst (λ (l : List (List ℕ)). Has l way) (sym u.split) (elim (u.parents n way h) [ inl in_done ↦ Has-left done rest way in_done | inr here ↦ Has-right done rest way (subst (λ (l : List (List ℕ)). Has l way) (sym here.1) (inl refl)) ])
 
   -- Each way leads where one of these leads, no earlier than it, or comes behind all of these.
   pub met_or_behind : (ways done rest : List (List ℕ)) (looked : List ℕ) → IsUnderWay succ t ways done rest looked → (other : List ℕ) → IsWay succ t other → IsMet succ t ways other ⊎ AllBefore ways other
   met_or_behind ways done rest looked u other is =
-      met_or_later ways u.start (parent_among ways done rest looked u) (λ way h n in_row. elim (has_cases done rest way (subst (λ (l : List (List ℕ)). Has l way) u.split h)) [ inl in_done ↦ inl (u.met way in_done n in_row) | inr in_rest ↦ from_rest ways done rest looked u way in_rest n ]) other is
+      met_or_later ways u.start (parent_among ways done rest looked u) (λ way h n in_row. elim (Has-cases done rest way (subst (λ (l : List (List ℕ)). Has l way) u.split h)) [ inl in_done ↦ inl (u.met way in_done n in_row) | inr in_rest ↦ from_rest ways done rest looked u way in_rest n ]) other is
 
   -- where it leads
   met_end : (ways : List (List ℕ)) (other : List ℕ) → IsMet succ t ways other → Has (map (end t) ways) (end t other)
-  met_end ways other met = subst (λ (k : ℕ). Has (map (end t) ways) k) met.leads (has_mapped (end t) ways met.way met.among)
+  met_end ways other met = subst (λ (k : ℕ). Has (map (end t) ways) k) met.leads (Has-map (end t) ways met.way met.among)
 
   -- the ways are a beginning of the list of first ways
   pub is_beginning : (ways done rest : List (List ℕ)) (looked : List ℕ) → IsUnderWay succ t ways done rest looked → IsBeginning succ t ways
@@ -124,11 +124,11 @@ module _ (succ : ℕ → List ℕ) (t : ℕ) where
 
   -- the way to a successor is a way
   child_is : (ways done later : List (List ℕ)) (way looked left : List ℕ) (n : ℕ) → IsUnderWay succ t ways done (way ∷ later) looked → succ (end t way) ≡ looked ++ n ∷ left → IsWay succ t (n ∷ way)
-  child_is ways done later way looked left n u row = (subst (λ (l : List ℕ). Has l n) (sym row) (has_right looked (n ∷ left) n (inl refl)), u.are way (subst (λ (l : List (List ℕ)). Has l way) (sym u.split) (has_right done (way ∷ later) way (inl refl))))
+  child_is ways done later way looked left n u row = (subst (λ (l : List ℕ). Has l n) (sym row) (Has-right looked (n ∷ left) n (inl refl)), u.are way (subst (λ (l : List (List ℕ)). Has l way) (sym u.split) (Has-right done (way ∷ later) way (inl refl))))
 
   -- what is left of a row
   row_left : (way other looked left : List ℕ) (n : ℕ) → way ≡ other → succ (end t way) ≡ looked ++ n ∷ left → (rest : List ℕ) × (succ (end t other) ≡ (looked ++ n ∷ []) ++ rest)
-  row_left way other looked left n e row = (left, subst (λ (w : List ℕ). succ (end t w) ≡ (looked ++ n ∷ []) ++ left) e (row ∙ sym (join_assoc looked (n ∷ []) left)))
+  row_left way other looked left n e row = (left, subst (λ (w : List ℕ). succ (end t w) ≡ (looked ++ n ∷ []) ++ left) e (row ∙ sym (append_assoc looked (n ∷ []) left)))
 
   -- a successor that has been found is passed over
   pub passes : (ways done later : List (List ℕ)) (way looked left : List ℕ) (n : ℕ) → IsUnderWay succ t ways done (way ∷ later) looked → succ (end t way) ≡ looked ++ n ∷ left → Has (map (end t) ways) n → IsUnderWay succ t ways done (way ∷ later) (looked ++ n ∷ [])
@@ -138,10 +138,10 @@ module _ (succ : ℕ → List ℕ) (t : ℕ) where
     are = u.are;
     rising = u.rising;
     apart = u.apart;
-    parents = λ m parent h. elim (u.parents m parent h) [ inl in_done ↦ inl in_done | inr here ↦ inr (here.0, here.1, has_left looked (n ∷ []) m here.2) ];
+    parents = λ m parent h. elim (u.parents m parent h) [ inl in_done ↦ inl in_done | inr here ↦ inr (here.0, here.1, Has-left looked (n ∷ []) m here.2) ];
     met = u.met;
     met_here = λ other others e m h. subst (λ (w : List ℕ). IsMet succ t ways (m ∷ w))
-        (head_is way other later others e) (elim (has_cases looked (n ∷ []) m h) [
+        (head_is way other later others e) (elim (Has-cases looked (n ∷ []) m h) [
           | inl seen ↦ u.met_here way later refl m seen
           | inr (inl last) ↦ subst
               (λ (k : ℕ). IsMet succ t ways (k ∷ way)) last here
@@ -152,7 +152,7 @@ module _ (succ : ℕ → List ℕ) (t : ℕ) where
     where
       by : IsMet succ t ways (n ∷ way) ⊎ AllBefore ways (n ∷ way) → IsMet succ t ways (n ∷ way)
       by (inl met) = met
-      by (inr all) = let there = mapped_from (end t) ways n found in record { way = there.0; among = there.1; leads = there.2; no_later = inr (all there.0 there.1) }
+      by (inr all) = let there = Has-from_map (end t) ways n found in record { way = there.0; among = there.1; leads = there.2; no_later = inr (all there.0 there.1) }
 
       here : IsMet succ t ways (n ∷ way)
       here = by (met_or_behind ways done (way ∷ later) looked u (n ∷ way) (child_is ways done later way looked left n u row))
@@ -163,24 +163,24 @@ module _ (succ : ℕ → List ℕ) (t : ℕ) where
       → ¬ (Has (map (end t) ways) n) → IsUnderWay succ t (ways ++ (n ∷ way) ∷ []) done
       (way ∷ (later ++ (n ∷ way) ∷ [])) (looked ++ n ∷ [])
   finds ways done later way looked left n u row new = record {
-    split = ap (λ (l : List (List ℕ)). l ++ child ∷ []) u.split ∙ join_assoc done (way ∷ later) (child ∷ []);
-    start = has_left ways (child ∷ []) [] u.start;
-    are = λ other h. elim (has_cases ways (child ∷ []) other h) [ inl old ↦ u.are other old | inr (inl last) ↦ subst (λ (w : List ℕ). IsWay succ t w) last child_way | inr (inr none) ↦ absurd none ];
+    split = ap (λ (l : List (List ℕ)). l ++ child ∷ []) u.split ∙ append_assoc done (way ∷ later) (child ∷ []);
+    start = Has-left ways (child ∷ []) [] u.start;
+    are = λ other h. elim (Has-cases ways (child ∷ []) other h) [ inl old ↦ u.are other old | inr (inl last) ↦ subst (λ (w : List ℕ). IsWay succ t w) last child_way | inr (inr none) ↦ absurd none ];
     rising = rising_pushed succ t ways child u.rising (by (met_or_behind ways done (way ∷ later) looked u child child_way));
-    apart = subst (λ (l : List ℕ). IsDistinct l) (sym (map_joined (end t) ways (child ∷ []))) (apart_pushed (map (end t) ways) n new u.apart);
-    parents = λ m parent h. elim (has_cases ways (child ∷ []) (m ∷ parent) h) [
+    apart = subst (λ (l : List ℕ). IsDistinct l) (sym (map-append (end t) ways (child ∷ []))) (IsDistinct-push (map (end t) ways) n new u.apart);
+    parents = λ m parent h. elim (Has-cases ways (child ∷ []) (m ∷ parent) h) [
       | inl old ↦ old_parent m parent (u.parents m parent old)
       | inr (inl last) ↦ inr (
         later ++ child ∷ [],
         ap (λ (w : List ℕ). w ∷ (later ++ child ∷ []))
             (tail_of n m way parent last),
-        has_right looked (n ∷ []) m (inl (head_is n m way parent last)),
+        Has-right looked (n ∷ []) m (inl (head_is n m way parent last)),
       )
       | inr (inr none) ↦ absurd none
     ];
     met = λ other h m in_row. met_more ways (child ∷ []) (m ∷ other) (u.met other h m in_row);
     met_here = λ other others e m h. subst (λ (w : List ℕ). IsMet succ t (ways ++ child ∷ []) (m ∷ w))
-        (head_is way other (later ++ child ∷ []) others e) (elim (has_cases looked (n ∷ []) m h) [
+        (head_is way other (later ++ child ∷ []) others e) (elim (Has-cases looked (n ∷ []) m h) [
           | inl seen ↦ met_more ways (child ∷ []) (m ∷ way) (u.met_here way later refl m seen)
           | inr (inl last) ↦ subst (λ (k : ℕ). IsMet succ t (ways ++ child ∷ []) (k ∷ way)) last here
           | inr (inr none) ↦ absurd none
@@ -202,22 +202,22 @@ module _ (succ : ℕ → List ℕ) (t : ℕ) where
       tail_of m k p q e = cc
 
       here : IsMet succ t (ways ++ (n ∷ way) ∷ []) (n ∷ way)
-      here = record { way = n ∷ way; among = has_right ways ((n ∷ way) ∷ []) (n ∷ way) (inl refl); leads = refl; no_later = inl refl }
+      here = record { way = n ∷ way; among = Has-right ways ((n ∷ way) ∷ []) (n ∷ way) (inl refl); leads = refl; no_later = inl refl }
 
       old_parent : (m : ℕ) (parent : List ℕ) → Has done parent ⊎ ((others : List (List ℕ)) × (way ∷ later ≡ parent ∷ others) × Has looked m) → Has done parent ⊎ ((others : List (List ℕ)) × (way ∷ (later ++ (n ∷ way) ∷ []) ≡ parent ∷ others) × Has (looked ++ n ∷ []) m)
       old_parent m parent (inl in_done) = inl in_done
-      old_parent m parent (inr one) = inr (one.0 ++ (n ∷ way) ∷ [], ap (λ (l : List (List ℕ)). l ++ (n ∷ way) ∷ []) one.1, has_left looked (n ∷ []) m one.2)
+      old_parent m parent (inr one) = inr (one.0 ++ (n ∷ way) ∷ [], ap (λ (l : List (List ℕ)). l ++ (n ∷ way) ∷ []) one.1, Has-left looked (n ∷ []) m one.2)
 
   -- a way whose successors have all been looked at is done
   pub goes_on : (ways done later : List (List ℕ)) (way looked : List ℕ) → IsUnderWay succ t ways done (way ∷ later) looked → succ (end t way) ≡ looked → IsUnderWay succ t ways (done ++ way ∷ []) later []
   goes_on ways done later way looked u whole = record {
-    split = u.split ∙ sym (join_assoc done (way ∷ []) later);
+    split = u.split ∙ sym (append_assoc done (way ∷ []) later);
     start = u.start;
     are = u.are;
     rising = u.rising;
     apart = u.apart;
-    parents = λ m parent h. elim (u.parents m parent h) [ inl in_done ↦ inl (has_left done (way ∷ []) parent in_done) | inr here ↦ inl (has_right done (way ∷ []) parent (inl (head_is way parent later here.0 here.1))) ];
-    met = λ other h m in_row. elim (has_cases done (way ∷ []) other h) [
+    parents = λ m parent h. elim (u.parents m parent h) [ inl in_done ↦ inl (Has-left done (way ∷ []) parent in_done) | inr here ↦ inl (Has-right done (way ∷ []) parent (inl (head_is way parent later here.0 here.1))) ];
+    met = λ other h m in_row. elim (Has-cases done (way ∷ []) other h) [
       | inl in_done ↦ u.met other in_done m in_row
       | inr (inl last) ↦ subst
           (λ (w : List ℕ). IsMet succ t ways (m ∷ w)) last (u.met_here way later refl m
@@ -233,7 +233,7 @@ module _ (succ : ℕ → List ℕ) (t : ℕ) where
   all_met ways done looked u [] is = record { way = []; among = u.start; leads = refl; no_later = inl refl }
   all_met ways done looked u (n ∷ other) is =
       let met = all_met ways done looked u other is.1 in
-      let in_done : Has done met.way = subst (λ (l : List (List ℕ)). Has l met.way) (u.split ∙ join_none done) met.among in
+      let in_done : Has done met.way = subst (λ (l : List (List ℕ)). Has l met.way) (u.split ∙ append-nil done) met.among in
       met_on ways n met.way other met.no_later (u.met met.way in_done n (subst (λ (k : ℕ). Has (succ k) n) (sym met.leads) is.0))
 
   -- and there are no more than these
@@ -248,4 +248,4 @@ module _ (succ : ℕ → List ℕ) (t : ℕ) where
   pub stands_at : (ways done rest : List (List ℕ)) (looked : List ℕ) (k : ℕ) → IsUnderWay succ t ways done rest looked → k < length ways → StandsAt succ t k (get_or ways k [])
   stands_at ways done rest looked k u less =
       let cut = cut_at_place ways k [] less in
-      record { preceding = cut.0; many = cut.3; beginning = beginning_front succ t (cut.0 ++ get_or ways k [] ∷ []) cut.1 (subst (λ (l : List (List ℕ)). IsBeginning succ t l) (cut.2 ∙ sym (join_assoc cut.0 (get_or ways k [] ∷ []) cut.1)) (is_beginning ways done rest looked u)) }
+      record { preceding = cut.0; many = cut.3; beginning = beginning_front succ t (cut.0 ++ get_or ways k [] ∷ []) cut.1 (subst (λ (l : List (List ℕ)). IsBeginning succ t l) (cut.2 ∙ sym (append_assoc cut.0 (get_or ways k [] ∷ []) cut.1)) (is_beginning ways done rest looked u)) }

@@ -1,18 +1,12 @@
 -- Visits that are looked up in a table.
 use Rattle.std.proofs.Common.{◌≡◌, ℕ, ◌+◌, ◌<◌, ◌≤◌, true, false, eqb, List, [], ◌∷◌, ◌++◌, length, length-append, zero, suc, ◌⊎◌, below_more, inl, inr, Option, Some, None, is_some, MatchOption, cond, refl, sym, ◌∙◌, ap, arith, eqb-true, eq-eqb}
-use Rattle.std.specs.List.{list_any}
-use Rattle.std.proofs.lemmas.Bool.{false≢true, or_cases, cases_Bool, cases_lt, cond-true, cond-false}
+use Rattle.std.proofs.lemmas.Bool.{false≢true, cases_Bool, cases_lt, cond-true, cond-false}
 use Rattle.std.specs.Option.{unwrap_or}
 use Rattle.mk_graph.specs.Membership.{Has}
 use Rattle.mk_graph_search.specs.declared.visits.Visit.{Visit}
 use Rattle.mk_graph_search.specs.Progress.{nodes_of, IsVisited}
 use Rattle.mk_graph_search.specs.Visits.{node_at, AreNoted}
 use Rattle.mk_graph_search.proofs.Lists.{at_front}
-
--- a number that some element equals is one
-pub has_from_any : (ns : List ℕ) (n : ℕ) → list_any (eqb n) ns ≡ true → Has ns n
-has_from_any [] n e = absurd (false≢true e)
-has_from_any (m ∷ ms) n e = elim (or_cases (eqb n m) (list_any (eqb n) ms) e) [ inl here ↦ inl (sym (eqb-true n m here)) | inr there ↦ inr (has_from_any ms n there) ]
 
 -- the place of one more visit is noted
 pub noted_more : (visits : List Visit) (old new : ℕ → Option ℕ) (noted node : ℕ) → AreNoted visits old noted → noted < length visits → node ≡ node_at visits noted

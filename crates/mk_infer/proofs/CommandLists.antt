@@ -1,6 +1,7 @@
 -- Commands that are expanded one after another.
 use Rattle.std.proofs.Common.{◌≡◌, ℕ, ◌+◌, ◌<◌, ◌≤◌, Bool, true, false, ◌||◌, List, [], ◌∷◌, ◌++◌, length, get_or, drop, Option, Result, Ok, Err, inl, inr, refl, sym, ap, ◌∙◌, append-nil, append_assoc}
 use Rattle.std.proofs.lemmas.List.{drop_more, drop_all}
+use mathlib.Core.Bool.{or_assoc}
 use Rattle.mk_macros.specs.Expansion.{Expanded, expansion, text_and_variation}
 use Rattle.mk_macros.specs.Locals.{Recipe}
 use Rattle.mk_macros.specs.Table.{Macro}
@@ -20,10 +21,6 @@ behind lines varying (Err fault) = Err fault
 the_pair : Result (List ℕ × Bool) InferFault → List ℕ × Bool
 the_pair (Ok pair) = pair
 the_pair (Err fault) = ([], false)
-
-or_assoc : (a b c : Bool) → ((a || b) || c) ≡ (a || (b || c))
-or_assoc true b c = refl
-or_assoc false b c = refl
 
 module _ (macros : List Macro) (recipe : Option Recipe) where
   abbrev of_command : Command → Result (List ℕ × Bool) InferFault

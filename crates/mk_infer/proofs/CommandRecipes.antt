@@ -3,6 +3,7 @@ use Rattle.std.proofs.Common.{◌≡◌, ℕ, List, [], ◌∷◌, Option, Some,
 use Rattle.std.specs.Prelude.{slice_get}
 use Rattle.std.specs.Borrow.{Bor}
 use Rattle.std.specs.Option.{option_map, option_map_or}
+use Rattle.mk_lemmas.proofs.Texts.{texts}
 use Rattle.mk_macros.specs.Locals.{Recipe}
 use Rattle.mk_macros.specs.Table.{Macro}
 use Rattle.mk_read.specs.Reading.{Makefile}
@@ -11,7 +12,6 @@ use Rattle.mk_infer.specs.Commands.{commands, expanded, no_commands, recipe_for}
 use Rattle.mk_infer.specs.Inference.{chosen_commands, stem}
 use Rattle.mk_infer.specs.Selection.{needs}
 use Rattle.mk_infer.specs.There.{Exists}
-use Rattle.mk_infer.proofs.NameLists.{texts}
 
 -- the first of the names
 pub first_text : (names : List (Bor (List ℕ))) → option_map (λ (name : Bor (List ℕ)). name.now) (slice_get names 0) ≡ slice_get (texts names) 0

@@ -3,15 +3,16 @@ use Rattle.std.proofs.Common.{◌≡◌, ◌≢◌, ℕ, zero, suc, ◌+◌, ◌
 use Rattle.std.specs.Prelude.{find, nat_lt}
 use Rattle.std.specs.List.{list_all}
 use Rattle.std.specs.Str.{bytes_eq}
-use Rattle.std.proofs.lemmas.Bool.{cases_order, false_from_ne_true, lt-ltb, ltb-true, not-true}
+use Rattle.std.proofs.lemmas.Bool.{cases_order, false_from_ne_true, lt-ltb, ltb-true, not-true, and_parts}
 use Rattle.std.proofs.lemmas.List.{get_or-drop, length-drop}
 use Rattle.std.proofs.lemmas.Slice.Eq.{bytes_eq-Decides}
+use Rattle.mk_lemmas.proofs.Members.{find-none, list_all-Has}
+use Rattle.mk_lines.proofs.NameTests.{has_name-from_Has}
 use Rattle.mk_graph.specs.Membership.{Has}
 use Rattle.mk_read.specs.Names.{has_name}
 use Rattle.mk_read.specs.Special.{is_suffix, is_suffix_byte}
 use Rattle.mk_infer.specs.Inference.{ends_in}
-use Rattle.mk_infer.proofs.InferenceNames.{both_are, dotted, each_passes}
-use Rattle.mk_infer.proofs.Members.{has_name_Has}
+use Rattle.mk_infer.proofs.InferenceNames.{dotted}
 
 -- ---- the first of a list
 
@@ -30,11 +31,6 @@ find_one p e t (x ∷ xs) only h = at (p x) refl h (find_one p e t xs (λ y k. o
     at true u k ih = ap (λ (y : List ℕ). Some y) (only x (inl refl) u)
     at false u k ih = ih (others (bytes_eq e x) refl k u)
 
--- where none passes, none is found
-pub find_none : (p : List ℕ → Bool) (xs : List (List ℕ)) → ((x : List ℕ) → Has xs x → p x ≡ false) → find p xs ≡ None
-find_none p [] none = refl
-find_none p (x ∷ xs) none = ap (λ b. cond b (Some x) (find p xs)) (none x (inl refl)) ∙ find_none p xs (λ y k. none y (inr k))
-
 -- ---- dots
 
 -- a byte of the name is a dot, and none behind it is
@@ -51,11 +47,11 @@ one_last name k place p q = ⊎_elim (λ e. e) (λ o. ⊎_elim (λ lt. absurd (p
 pub no_dots : (rest : List ℕ) → list_all is_suffix_byte rest ≡ true → (i : ℕ) → i < length rest → get_or rest i 0 ≢ 46
 no_dots [] h i lt e = absurd (omega arith)
 no_dots (b ∷ rest) h zero lt e =
-    let free : not (b == 46) ≡ true = (both_are (not (b == 46)) (not (b == 47)) (both_are (is_suffix_byte b) (list_all is_suffix_byte rest) h).0).0 in
+    let free : not (b == 46) ≡ true = (and_parts (not (b == 46)) (not (b == 47)) (and_parts (is_suffix_byte b) (list_all is_suffix_byte rest) h).0).0 in
     let other : (b == 46) ≡ false = not-true (b == 46) free in
     let same : (b == 46) ≡ true = eq-eqb b 46 e in
     absurd cc
-no_dots (b ∷ rest) h (suc i) lt e = no_dots rest (both_are (is_suffix_byte b) (list_all is_suffix_byte rest) h).1 i (omega arith) e
+no_dots (b ∷ rest) h (suc i) lt e = no_dots rest (and_parts (is_suffix_byte b) (list_all is_suffix_byte rest) h).1 i (omega arith) e
 
 -- a suffix at the end of a name begins at the last dot
 pub begins : (name suffix : List ℕ) → is_suffix suffix ≡ true → length suffix < length name → drop (length name - length suffix) name ≡ suffix → IsLastDot name (length name - length suffix)
@@ -82,15 +78,15 @@ record Ends (name suffix : List ℕ) : Type 0 where
 
 ends : (name suffix : List ℕ) → ends_in name suffix ≡ true → Ends name suffix
 ends name suffix t =
-    let parts = both_are (nat_lt (length suffix) (length name)) (bytes_eq (drop (length name - length suffix) name) suffix) t in
+    let parts = and_parts (nat_lt (length suffix) (length name)) (bytes_eq (drop (length name - length suffix) name) suffix) t in
     record { less = ltb-true (length suffix) (length name) parts.0; same = (bytes_eq-Decides (drop (length name - length suffix) name) suffix).0 parts.1 }
 
 module _ (suffixes : List (List ℕ)) (all : list_all is_suffix suffixes ≡ true) (name : List ℕ) where
   -- a name without a dot has no known suffix
   pub without_dot : ((i : ℕ) → i < length name → get_or name i 0 ≢ 46) → find (ends_in name) suffixes ≡ None
-  without_dot none = find_none (ends_in name) suffixes (λ suffix there. false_from_ne_true _ (λ t.
+  without_dot none = find-none (ends_in name) suffixes (λ suffix there. false_from_ne_true _ (λ t.
       let parts = ends name suffix t in
-      let last = begins name suffix (each_passes is_suffix suffixes suffix all there) parts.less parts.same in
+      let last = begins name suffix (list_all-Has is_suffix suffixes suffix all there) parts.less parts.same in
       none (length name - length suffix) last.within last.dot))
 
   module _ (place : ℕ) (last : IsLastDot name place) where
@@ -99,7 +95,7 @@ module _ (suffixes : List (List ℕ)) (all : list_all is_suffix suffixes ≡ tru
     ending_is suffix there t =
         let parts = ends name suffix t in
         let less = parts.less in
-        let here : length name - length suffix ≡ place = one_last name (length name - length suffix) place (begins name suffix (each_passes is_suffix suffixes suffix all there) parts.less parts.same) last in
+        let here : length name - length suffix ≡ place = one_last name (length name - length suffix) place (begins name suffix (list_all-Has is_suffix suffixes suffix all there) parts.less parts.same) last in
         (sym parts.same ∙ ap (λ n. drop n name) here, omega arith)
 
     -- the name ends in what its last dot begins, with a rest before it
@@ -118,8 +114,8 @@ module _ (suffixes : List (List ℕ)) (all : list_all is_suffix suffixes ≡ tru
 
     -- where it is none
     pub unknown_there : (0 < place → has_name suffixes (drop place name) ≡ false) → find (ends_in name) suffixes ≡ None
-    unknown_there none = find_none (ends_in name) suffixes (λ suffix there. false_from_ne_true _ (λ t.
+    unknown_there none = find-none (ends_in name) suffixes (λ suffix there. false_from_ne_true _ (λ t.
         let is = ending_is suffix there t in
-        let known : has_name suffixes (drop place name) ≡ true = ap (has_name suffixes) (sym is.0) ∙ has_name_Has suffixes suffix there in
+        let known : has_name suffixes (drop place name) ≡ true = ap (has_name suffixes) (sym is.0) ∙ has_name-from_Has suffixes suffix there in
         let unknown = none is.1 in
         absurd cc))

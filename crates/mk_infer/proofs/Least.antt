@@ -5,11 +5,10 @@ use Rattle.std.specs.Option.{option_map}
 use Rattle.std.specs.Str.{bytes_eq}
 use Rattle.std.proofs.lemmas.Bool.{both_ways, false_from_ne_true}
 use Rattle.std.proofs.lemmas.Slice.Eq.{bytes_eq-Decides}
+use Rattle.mk_lemmas.proofs.Members.{Has-cases, find-none}
 use Rattle.mk_graph.specs.Membership.{Has}
-use Rattle.mk_graph.specs.Lists.{has_cases}
 use Rattle.mk_lines.specs.Names.{place_from}
 use Rattle.mk_infer.specs.Choosing.{Chosen, IsLeast, Placed}
-use Rattle.mk_infer.proofs.Members.{find_none}
 
 abbrev Name : Type 0
 Name = List ℕ
@@ -77,7 +76,7 @@ module _ (p : Name → Bool) where
 -- ---- one more is tried
 
 before_or : (tried : List Name) (name s : Name) → Has (tried ++ name ∷ []) s → Has tried s ⊎ (s ≡ name)
-before_or tried name s h = elim (has_cases tried (name ∷ []) s h) [ inl before ↦ inl before | inr (inl last) ↦ inr (sym last) | inr (inr none) ↦ absurd none ]
+before_or tried name s h = elim (Has-cases tried (name ∷ []) s h) [ inl before ↦ inl before | inr (inl last) ↦ inr (sym last) | inr (inr none) ↦ absurd none ]
 
 same_place : (suffixes : List Name) (name s : Name) (k n : ℕ) → s ≡ name → place_from 0 suffixes name ≡ Some k → place_from 0 suffixes s ≡ Some n → n ≡ k
 same_place suffixes name s k n e at is =
@@ -144,7 +143,7 @@ module _ (p : Name → Bool) (gives : Name → Chosen) (suffixes : List Name) wh
   -- where all that pass were tried, the first that passes is found
   pub is_found : (tried : List Name) (found : Option Placed) → ((s : Name) → Has suffixes s → p s ≡ true → Has tried s) → IsLeast p gives suffixes tried found → option_map (λ (placed : Placed). placed.chosen) found ≡ option_map gives (find p suffixes)
   is_found tried None covers h =
-      sym (ap (option_map gives) (find_none p suffixes (λ s there. false_from_ne_true _ (λ t. both_ways (p s) (h s (covers s there t) there) t))))
+      sym (ap (option_map gives) (find-none p suffixes (λ s there. false_from_ne_true _ (λ t. both_ways (p s) (h s (covers s there t) there) t))))
   is_found tried (Some placed) covers h =
       ap (λ (c : Chosen). Some c) h.0.given
       ∙ sym (ap (option_map gives) (first p suffixes h.0.suffix 0 placed.place h.0.passes h.0.stands (λ s t j is. h.1 s (covers s (has_place suffixes s 0 j is) t) t j is)))

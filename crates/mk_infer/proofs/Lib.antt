@@ -1,6 +1,5 @@
 pub mod ListTests
 pub mod NameSets
-pub mod NameLists
 pub mod Added
 pub mod Members
 pub mod TableLemmas

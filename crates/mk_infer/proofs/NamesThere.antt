@@ -1,6 +1,7 @@
 -- Names that are there, in a set.
 use Rattle.std.proofs.Common.{◌≡◌, ℕ, Bool, true, false, ◌||◌, cond, List, [], refl, sym, ap, ◌∙◌}
 use Rattle.std.specs.List.{list_all, list_any}
+use Rattle.mk_lemmas.proofs.Members.{list_all-Has}
 use Rattle.mk_graph.specs.Membership.{Has}
 use Rattle.mk_lines.specs.Names.{has_name}
 use Rattle.mk_read.specs.Reading.{Makefile}
@@ -9,7 +10,7 @@ use Rattle.mk_read.specs.State.{RuleRead}
 use Rattle.mk_infer.specs.Table.{targets_in}
 use Rattle.mk_infer.specs.Targets.{is_target}
 use Rattle.mk_infer.specs.There.{Exists, is_there}
-use Rattle.mk_infer.proofs.Members.{each_passes, target_listed}
+use Rattle.mk_infer.proofs.Members.{target_listed}
 
 -- a target is among all targets
 target_among : (m : Makefile) (name : List ℕ) → is_target m name ≡ true → has_name (targets_in m.rules) name ≡ true
@@ -36,4 +37,4 @@ has_there m e name one two three all first second third last there =
 
 -- a suffix of the list is one
 pub listed_suffix : (m : Makefile) (suffix : List ℕ) → list_all is_suffix m.suffixes ≡ true → Has m.suffixes suffix → is_suffix suffix ≡ true
-listed_suffix m suffix all there = each_passes is_suffix m.suffixes suffix all there
+listed_suffix m suffix all there = list_all-Has is_suffix m.suffixes suffix all there

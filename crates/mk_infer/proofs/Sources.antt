@@ -18,11 +18,13 @@ use Rattle.mk_read.specs.Special.{is_suffix}
 use Rattle.mk_read.specs.State.{RuleRead}
 use Rattle.mk_infer.specs.Inference.{commands_from, ending, ends_in}
 use Rattle.mk_infer.specs.Table.{AreParts, AreSources, HoldsDotted, IsCut, IsEnding, commanded_in, given, is_dotted, sources_by, targets_in}
-use Rattle.std.proofs.lemmas.Bool.{both_ways, false_from_ne_true}
-use Rattle.mk_infer.proofs.Added.{has_name_push, or_assoc}
-use Rattle.mk_infer.proofs.Members.{find_same, found_is}
-use Rattle.mk_infer.proofs.NameLists.{texts}
-use Rattle.mk_infer.proofs.InferenceNames.{Dotted, both_are, dotted, each_passes, found as found_any, same_tests}
+use Rattle.std.proofs.lemmas.Bool.{both_ways, false_from_ne_true, and_parts}
+use mathlib.Core.Bool.{or-false, or_assoc}
+use Rattle.mk_lemmas.proofs.Texts.{texts}
+use Rattle.mk_lemmas.proofs.Members.{find-Has, list_all-Has}
+use Rattle.mk_lines.proofs.NameTests.{has_name-push}
+use Rattle.mk_infer.proofs.Members.{find_same}
+use Rattle.mk_infer.proofs.InferenceNames.{Dotted, dotted, found as found_any, same_tests}
 use Rattle.mk_infer.proofs.LastDots.{IsLastDot, begins, no_dots, one_last}
 
 abbrev Name : Type 0
@@ -81,10 +83,6 @@ sources_more view backs name suffixes i d before after e h lt =
 
 -- ---- names that begin with a dot
 
-pub or_false : (a : Bool) → (a || false) ≡ a
-or_false true = refl
-or_false false = refl
-
 -- a name that doesn't begin with one is none of them
 not_dotted : (rest name : Name) → is_dotted name ≡ false → bytes_eq (46 ∷ rest) name ≡ false
 not_dotted rest name h = false_from_ne_true _ (λ t. both_ways (is_dotted name) h (ap is_dotted (sym ((bytes_eq-Decides (46 ∷ rest) name).0 t))))
@@ -95,7 +93,7 @@ skipped_more view old new names i d name is f h lt rest =
     let more : map view (take (i + 1) names) ≡ map view (take i names) ++ name ∷ [] =
     ap (map view) (take_more names i d lt) ∙ (map_push view (take i names) (get_or names i d) ∙ ap (λ (n : Name). map view (take i names) ++ n ∷ []) (sym is)) in
     let none : has_name (map view (take (i + 1) names)) (46 ∷ rest) ≡ has_name (map view (take i names)) (46 ∷ rest) =
-    ap (λ (ns : List Name). has_name ns (46 ∷ rest)) more ∙ (has_name_push (map view (take i names)) name (46 ∷ rest) ∙ (ap (λ b. has_name (map view (take i names)) (46 ∷ rest) || b) (not_dotted rest name f) ∙ or_false _)) in
+    ap (λ (ns : List Name). has_name ns (46 ∷ rest)) more ∙ (has_name-push (map view (take i names)) name (46 ∷ rest) ∙ (ap (λ b. has_name (map view (take i names)) (46 ∷ rest) || b) (not_dotted rest name f) ∙ or-false _)) in
     h rest ∙ ap (λ b. has_name old (46 ∷ rest) || b) (sym none)
 
 -- ---- names that are cut
@@ -149,12 +147,12 @@ one_back name front back suffix end old new whole cut h e =
     ∙ (list_any-append (bytes_eq end) (texts old) (cond (bytes_eq suffix front.now) (back.now ∷ []) []) ∙ ap (λ b. has_name (texts old) end || b) (one (bytes_eq suffix front.now) ∙ same_tests _ _ there here))
   where
     one : (b : Bool) → has_name (cond b (back.now ∷ []) []) end ≡ (b && bytes_eq end back.now)
-    one true = or_false (bytes_eq end back.now)
+    one true = or-false (bytes_eq end back.now)
     one false = refl
 
     there : (bytes_eq suffix front.now && bytes_eq end back.now) ≡ true → bytes_eq (suffix ++ end) name ≡ true
     there t =
-        let parts = both_are (bytes_eq suffix front.now) (bytes_eq end back.now) t in
+        let parts = and_parts (bytes_eq suffix front.now) (bytes_eq end back.now) t in
         (bytes_eq-Decides (suffix ++ end) name).1 (ap (λ (xs : Name). xs ++ end) ((bytes_eq-Decides suffix front.now).0 parts.0) ∙ (ap (λ (xs : Name). front.now ++ xs) ((bytes_eq-Decides end back.now).0 parts.1) ∙ whole))
 
     here : bytes_eq (suffix ++ end) name ≡ true → (bytes_eq suffix front.now && bytes_eq end back.now) ≡ true
@@ -170,7 +168,7 @@ back_more names i d front back suffix end old new whole cut h e so_far lt =
     let more : texts (take (i + 1) names) ≡ texts (take i names) ++ name ∷ [] =
     ap texts (take_more names i d lt) ∙ map_push (λ (t : Bor Name). t.now) (take i names) (get_or names i d) in
     one_back name front back suffix end old new whole cut h e
-    ∙ (ap (λ b. b || bytes_eq (suffix ++ end) name) so_far ∙ sym (ap (λ ns. has_name ns (suffix ++ end)) more ∙ has_name_push (texts (take i names)) name (suffix ++ end)))
+    ∙ (ap (λ b. b || bytes_eq (suffix ++ end) name) so_far ∙ sym (ap (λ ns. has_name ns (suffix ++ end)) more ∙ has_name-push (texts (take i names)) name (suffix ++ end)))
 
 -- one more name among those behind whose fronts something stands
 pub back_added : {A : Type 0} (view : A → Name) (names : List A) (i : ℕ) (d : A) (name whole : Name) (had before after : Bool) → name ≡ view (get_or names i d) → after ≡ (before || bytes_eq whole name)
@@ -179,7 +177,7 @@ back_added view names i d name whole had before after is e so_far lt =
     let more : map view (take (i + 1) names) ≡ map view (take i names) ++ name ∷ [] =
     ap (map view) (take_more names i d lt) ∙ (map_push view (take i names) (get_or names i d) ∙ ap (λ (n : Name). map view (take i names) ++ n ∷ []) (sym is)) in
     e ∙ (ap (λ b. b || bytes_eq whole name) so_far ∙ (or_assoc had (has_name (map view (take i names)) whole) (bytes_eq whole name)
-    ∙ ap (λ b. had || b) (sym (ap (λ ns. has_name ns whole) more ∙ has_name_push (map view (take i names)) name whole))))
+    ∙ ap (λ b. had || b) (sym (ap (λ ns. has_name ns whole) more ∙ has_name-push (map view (take i names)) name whole))))
 
 -- a name that isn't cut has no suffix behind some bytes
 pub not_behind : (name front back suffix end : Name) → IsCut name front back → back ≡ [] → 0 < length suffix → is_suffix end ≡ true → bytes_eq (suffix ++ end) name ≡ false
@@ -210,7 +208,7 @@ module _ (name : Name) where
 
   -- what gives commands has some
   gives_has : (rule : RuleRead) → gives_commands name rule ≡ true → has_commands name rule ≡ true
-  gives_has rule t = (both_are (not rule.default) (has_some rule.commands && has_name rule.targets name) t).1
+  gives_has rule t = (and_parts (not rule.default) (has_some rule.commands && has_name rule.targets name) t).1
 
   commands_some : (rules : List RuleRead) → has_some (commands_of rules name) ≡ list_any (has_commands name) rules
   commands_some rules = by (find (gives_commands name) rules) (find (has_commands name) rules) refl refl
@@ -220,12 +218,12 @@ module _ (name : Name) where
 
       by : (own any : Option RuleRead) → find (gives_commands name) rules ≡ own → find (has_commands name) rules ≡ any → has_some (commands_in own any) ≡ list_any (has_commands name) rules
       by (Some rule) any is its =
-          let r = found_is (gives_commands name) rules rule is in
+          let r = find-Has (gives_commands name) rules rule is in
           let t = gives_has rule r.1 in
-          (both_are (has_some rule.commands) (has_name rule.targets name) t).0 ∙ sym (listed rule r.0 t)
+          (and_parts (has_some rule.commands) (has_name rule.targets name) t).0 ∙ sym (listed rule r.0 t)
       by None (Some rule) is its =
-          let r = found_is (has_commands name) rules rule its in
-          (both_are (has_some rule.commands) (has_name rule.targets name) r.1).0 ∙ sym (listed rule r.0 r.1)
+          let r = find-Has (has_commands name) rules rule its in
+          (and_parts (has_some rule.commands) (has_name rule.targets name) r.1).0 ∙ sym (listed rule r.0 r.1)
       by None None is its = sym (sym (some_found rules) ∙ ap has_some its)
 
 -- what a name ends in is a suffix, or nothing
@@ -234,13 +232,13 @@ ends_well m all name = by (find (ends_in name) m.suffixes) refl
   where
     by : (known : Option Name) → find (ends_in name) m.suffixes ≡ known → IsEnding (option_map_or (λ suffix. suffix) known [])
     by None is = inl refl
-    by (Some suffix) is = inr (each_passes is_suffix m.suffixes suffix all (found_is (ends_in name) m.suffixes suffix is).0)
+    by (Some suffix) is = inr (list_all-Has is_suffix m.suffixes suffix all (find-Has (ends_in name) m.suffixes suffix is).0)
 
 module _ (m : Makefile) (all : list_all is_suffix m.suffixes ≡ true) (commanded : List Name) (held : HoldsDotted [] (commanded_in m.rules) commanded)
     (backs : Name → List Name) (cut : (suffix end : Name) → AreParts suffix end → has_name (backs suffix) end ≡ has_name commanded (suffix ++ end)) where
   has_rule : (name suffix : Name) → Has m.suffixes suffix → has_name (backs suffix) (ending m name) ≡ has_some (commands_from m name suffix)
   has_rule name suffix there =
-      let is = each_passes is_suffix m.suffixes suffix all there in
+      let is = list_all-Has is_suffix m.suffixes suffix all there in
       let d = dotted suffix is in
       let end = ending m name in
       let known : has_name commanded (suffix ++ end) ≡ has_name (commanded_in m.rules) (suffix ++ end) =

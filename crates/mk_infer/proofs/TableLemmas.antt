@@ -8,10 +8,12 @@ use Rattle.std.proofs.lemmas.List.Elements.{filter_map-append, filter_more}
 use Rattle.std.proofs.lemmas.List.Folds.{list_any-append}
 use Rattle.std.proofs.lemmas.Option.{slice_get-get_or}
 use Rattle.std.proofs.lemmas.Slice.Eq.{bytes_eq-Decides}
+use mathlib.Core.Bool.{or_assoc}
+use Rattle.mk_lines.proofs.NameTests.{has_name-insert, has_name-push}
 use Rattle.mk_read.specs.Names.{has_name}
 use Rattle.mk_read.specs.State.{RuleRead}
 use Rattle.mk_infer.specs.Table.{lines_at, targets_in}
-use Rattle.mk_infer.proofs.Added.{after_insert, one_added, has_name_push, or_assoc}
+use Rattle.mk_infer.proofs.Added.{one_added}
 
 -- a target more is seen
 pub seen_more : {A : Type 0} (view : A → List ℕ) (seen new : List (List ℕ)) (targets : List A) (i : ℕ) (d : A) (x name : List ℕ) → new ≡ cond (has_name seen x) seen (seen ++ x ∷ []) → x ≡ view (get_or targets i d)
@@ -27,7 +29,7 @@ noted_same seen new x name places old place added a f e h =
     h ∙ ap (λ s. cond (has_name s name) (old ++ place ∷ []) old) (sym same)
 
 -- a new one has the place
-at_name : (seen : List (List ℕ)) (x name : List ℕ) (old : List ℕ) (place : ℕ) (before : List ℕ) → has_name seen x ≡ false → before ≡ cond (has_name seen name) (old ++ place ∷ []) old → (b : Bool) → bytes_eq name x ≡ b
+pub at_name : (seen : List (List ℕ)) (x name : List ℕ) (old : List ℕ) (place : ℕ) (before : List ℕ) → has_name seen x ≡ false → before ≡ cond (has_name seen name) (old ++ place ∷ []) old → (b : Bool) → bytes_eq name x ≡ b
     → cond b (before ++ place ∷ []) before ≡ cond (has_name seen name || b) (old ++ place ∷ []) old
 at_name seen x name old place before new h true t =
     let unseen : has_name seen name ≡ false = ap (has_name seen) ((bytes_eq-Decides name x).0 t) ∙ new in
@@ -43,13 +45,13 @@ pub noted_more : (seen new : List (List ℕ)) (x name : List ℕ) (before after 
 noted_more seen new x name before after old place added a t e h k =
     let unseen : has_name seen x ≡ false = not-true (has_name seen x) (sym a ∙ t) in
     let same : new ≡ seen ++ x ∷ [] = e ∙ ap (λ b. cond b seen (seen ++ x ∷ [])) unseen in
-    k ∙ (at_name seen x name old place before unseen h (bytes_eq name x) refl ∙ ap (λ b. cond b (old ++ place ∷ []) old) (sym (ap (λ s. has_name s name) same ∙ has_name_push seen x name)))
+    k ∙ (at_name seen x name old place before unseen h (bytes_eq name x) refl ∙ ap (λ b. cond b (old ++ place ∷ []) old) (sym (ap (λ s. has_name s name) same ∙ has_name-push seen x name)))
 
 -- a target more has rule lines
 pub target_more : (seen new : List (List ℕ)) (x name : List ℕ) (before after had : Bool) → new ≡ cond (has_name seen x) seen (seen ++ x ∷ []) → before ≡ (had || has_name seen name) → after ≡ (before || bytes_eq name x)
     → after ≡ (had || has_name new name)
 target_more seen new x name before after had e h k =
-    k ∙ (ap (λ b. b || bytes_eq name x) h ∙ (or_assoc had (has_name seen name) (bytes_eq name x) ∙ ap (λ b. had || b) (sym (ap (λ s. has_name s name) e ∙ after_insert seen x name (has_name seen x) refl))))
+    k ∙ (ap (λ b. b || bytes_eq name x) h ∙ (or_assoc had (has_name seen name) (bytes_eq name x) ∙ ap (λ b. had || b) (sym (ap (λ s. has_name s name) e ∙ has_name-insert seen x name (has_name seen x) refl))))
 
 -- one that was seen has them
 pub target_same : (seen new : List (List ℕ)) (x name : List ℕ) (before had added : Bool) → added ≡ not (has_name seen x) → added ≡ false → new ≡ cond (has_name seen x) seen (seen ++ x ∷ [])

@@ -2,6 +2,7 @@
 use Rattle.std.proofs.Common.{◌≡◌, ℕ, zero, suc, ◌+◌, ◌≤◌, List, [], ◌∷◌, ◌++◌, map, length, Option, Some, None, Result, Ok, Err, inl, inr, refl, sym, subst, arith}
 use Rattle.std.proofs.lemmas.Bool.{both_ways, cases_Bool, cases_lt}
 use Rattle.std.proofs.lemmas.List.{length-append}
+use Rattle.mk_lines.proofs.NameTests.{Has-from_has_name, has_name-from_Has}
 use Rattle.mk_graph.specs.Build.{WalksAll}
 use Rattle.mk_graph.specs.Graph.{Graph, node}
 use Rattle.mk_graph.specs.Laws.{WalkHasAnEnd}
@@ -20,7 +21,7 @@ use Rattle.mk_infer.specs.Walk.{Meets}
 use Rattle.mk_infer_laws.proofs.Inferable.{covered}
 use Rattle.mk_infer_laws.proofs.Soundness.{is_sound}
 use Rattle.mk_infer_laws.proofs.Stacks.{Stack, ends, known, new, to_tree}
-use Rattle.mk_infer_laws.proofs.Walking.{Covers, Has_name, falls, has_name_Has}
+use Rattle.mk_infer_laws.proofs.Walking.{Covers, falls}
 
 abbrev Name : Type 0
 Name = List ℕ
@@ -33,12 +34,12 @@ module _ (needs : Name → List Name) where
     comes_to_an_end zero met (name ∷ todo) le = absurd (omega arith)
     comes_to_an_end (suc fuel) met (name ∷ todo) le =
         elim (cases_Bool (has_name met name)) [
-          | inl t ↦ let r = comes_to_an_end fuel met todo (omega arith) in (r.0, known (Has_name met name t) r.1)
+          | inl t ↦ let r = comes_to_an_end fuel met todo (omega arith) in (r.0, known (Has-from_has_name met name t) r.1)
           | inr f ↦ (
               let off = falls needs names covers met name f in
               let long = length-append (needs name) todo in
               let r = comes_to_an_end fuel (met ++ name ∷ []) (needs name ++ todo) (omega arith) in
-              (r.0, new (λ h. both_ways (has_name met name) f (has_name_Has met name h)) r.1))
+              (r.0, new (λ h. both_ways (has_name met name) f (has_name-from_Has met name h)) r.1))
         ]
 
 -- a new name leaves less to do

@@ -1,4 +1,3 @@
-pub mod Added
 pub mod Stacks
 pub mod Walks
 pub mod Walking

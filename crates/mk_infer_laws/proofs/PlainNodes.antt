@@ -5,10 +5,11 @@ use Rattle.std.specs.List.{list_all, list_any}
 use Rattle.std.specs.Option.{option_map}
 use Rattle.std.specs.Str.{bytes_eq}
 use Rattle.std.proofs.lemmas.Bool.{and_parts, and_from, or_cases}
+use Rattle.mk_lemmas.proofs.Members.{Has-cases, Has-from_filter, Has-from_flat_map, find-Has, list_all-Has}
+use Rattle.mk_lines.proofs.NameTests.{Has-from_has_name}
 use Rattle.mk_graph.specs.declared.node.Node.{Node}
 use Rattle.mk_graph.specs.Graph.{Graph}
 use Rattle.mk_graph.specs.Membership.{Has}
-use Rattle.mk_graph.specs.Lists.{has_cases, joined_from}
 use Rattle.mk_lines.specs.Paths.{is_plain_path}
 use Rattle.mk_read.specs.Names.{has_name, is_bracket, is_make_name, is_reserved, once}
 use Rattle.mk_read.specs.Needs.{is_wait, words_of}
@@ -26,9 +27,7 @@ use Rattle.mk_infer.specs.Selection.{BuiltUnless, graph_of, lacking, needs, node
 use Rattle.mk_infer.specs.Steps.{◌>>=◌}
 use Rattle.mk_infer.specs.Targets.{is_target, prerequisites_of}
 use Rattle.mk_infer.specs.There.{Exists, is_there}
-use Rattle.mk_infer_laws.proofs.Inferable.{found_is}
 use Rattle.mk_infer_laws.proofs.Stacks.{of_tree}
-use Rattle.mk_infer_laws.proofs.Walking.{Has_name}
 use Rattle.mk_infer_laws.proofs.Walks.{goes_along}
 
 abbrev IsPlain : List ℕ → Type 0
@@ -36,24 +35,8 @@ IsPlain name = is_plain_path name ≡ true
 
 -- ---- lists
 
--- what all pass, each passes
-told : {A : Type 0} (p : A → Bool) (xs : List A) (x : A) → list_all p xs ≡ true → Has xs x → p x ≡ true
-told p [] x all h = absurd h
-told p (y ∷ xs) x all (inl e) = subst (λ z. p z ≡ true) e (and_parts (p y) (list_all p xs) all).0
-told p (y ∷ xs) x all (inr h) = told p xs x (and_parts (p y) (list_all p xs) all).1 h
-
 among_plain : (names : List (List ℕ)) (name : List ℕ) → list_all is_plain_path names ≡ true → has_name names name ≡ true → IsPlain name
-among_plain names name all h = told is_plain_path names name all (Has_name names name h)
-
--- what stands in fewer stands in all
-fewer : {A : Type 0} (p : A → Bool) (xs : List A) (x : A) → Has (filter p xs) x → Has xs x
-fewer p [] x h = absurd h
-fewer p (y ∷ xs) x h = at (p y) (fewer p xs x) h
-  where
-    at : (b : Bool) → (Has (filter p xs) x → Has xs x) → Has (cond b (y ∷ filter p xs) (filter p xs)) x → Has (y ∷ xs) x
-    at true deeper (inl e) = inl e
-    at true deeper (inr k) = inr (deeper k)
-    at false deeper k = inr (deeper k)
+among_plain names name all h = list_all-Has is_plain_path names name all (Has-from_has_name names name h)
 
 kept_plain : (test : List ℕ → Bool) (names : List (List ℕ)) → list_all is_plain_path names ≡ true → list_all is_plain_path (filter test names) ≡ true
 kept_plain test [] all = refl
@@ -84,16 +67,16 @@ rule_plain rule h =
     let first = and_parts _ (list_all is_make_name rule.targets && (list_all is_make_name rule.words && not (list_any is_special rule.targets))) h in
     let second = and_parts (list_all is_make_name rule.targets) (list_all is_make_name rule.words && not (list_any is_special rule.targets)) first.1 in
     let third = and_parts (list_all is_make_name rule.words) (not (list_any is_special rule.targets)) second.1 in
-    ((λ name k. make_plain name (told is_make_name rule.targets name second.0 k)), (λ word k. make_plain word (told is_make_name rule.words word third.0 k)))
+    ((λ name k. make_plain name (list_all-Has is_make_name rule.targets name second.0 k)), (λ word k. make_plain word (list_all-Has is_make_name rule.words word third.0 k)))
 
 module _ (rules : List RuleRead) (named : list_all is_well_named rules ≡ true) where
   of_rule : (rule : RuleRead) → Has rules rule → ((name : List ℕ) → Has rule.targets name → IsPlain name) × ((word : List ℕ) → Has rule.words word → IsPlain word)
-  of_rule rule h = rule_plain rule (told is_well_named rules rule named h)
+  of_rule rule h = rule_plain rule (list_all-Has is_well_named rules rule named h)
 
 some_rule : (rules : List RuleRead) (name : List ℕ) → list_any (λ (rule : RuleRead). has_name rule.targets name) rules ≡ true → (rule : RuleRead) × Has rules rule × Has rule.targets name
 some_rule [] name h = absurd cc
 some_rule (rule ∷ rules) name h =
-    ⊎_elim (λ k. (rule, inl refl, Has_name rule.targets name k)) (λ k. let r = some_rule rules name k in (r.0, inr r.1, r.2)) (or_cases (has_name rule.targets name) (list_any (λ (other : RuleRead). has_name other.targets name) rules) h)
+    ⊎_elim (λ k. (rule, inl refl, Has-from_has_name rule.targets name k)) (λ k. let r = some_rule rules name k in (r.0, inr r.1, r.2)) (or_cases (has_name rule.targets name) (list_any (λ (other : RuleRead). has_name other.targets name) rules) h)
 
 -- ---- goals
 
@@ -122,9 +105,9 @@ goals_plain number (word ∷ rest) names e =
 
 target_plain : (m : Makefile) (target : List ℕ) → list_all is_well_named m.rules ≡ true → first_target m ≡ Some target → IsPlain target
 target_plain m target named e =
-    let found = found_is (is_plain_target m.suffixes) (own_targets m.rules) target e in
-    let rule = joined_from (λ (rule : RuleRead). rule.targets) (filter (λ (rule : RuleRead). not rule.default) m.rules) target found.0 in
-    (of_rule m.rules named rule.0 (fewer (λ (rule : RuleRead). not rule.default) m.rules rule.0 rule.1)).0 target rule.2
+    let found = find-Has (is_plain_target m.suffixes) (own_targets m.rules) target e in
+    let rule = Has-from_flat_map (λ (rule : RuleRead). rule.targets) (filter (λ (rule : RuleRead). not rule.default) m.rules) target found.0 in
+    (of_rule m.rules named rule.0 ((Has-from_filter (λ (rule : RuleRead). not rule.default) m.rules rule.0 rule.1).0)).0 target rule.2
 
 given_plain : (m : Makefile) (words goals : List (List ℕ)) → list_all is_well_named m.rules ≡ true → list_all is_plain_path words ≡ true → given_or_first words m ≡ Ok goals → list_all is_plain_path goals ≡ true
 given_plain m [] goals named all e = at (first_target m) (λ target is. target_plain m target named is) e
@@ -168,7 +151,7 @@ module _ (m : Makefile) (e : Exists) (plain : HavePlainNames m e) where
     where
       at : (b : Bool) → cond b (find (fits m e name) m.suffixes) None ≡ Some suffix → IsPlain (stem m name ++ suffix)
       at true k =
-          let found = found_is (fits m e name) m.suffixes suffix k in
+          let found = find-Has (fits m e name) m.suffixes suffix k in
           there_plain (stem m name ++ suffix) (and_parts (has_some (commands_from m name suffix)) (is_there m e (stem m name ++ suffix)) found.1).1
       at false k = absurd cc
 
@@ -182,16 +165,16 @@ module _ (m : Makefile) (e : Exists) (plain : HavePlainNames m e) where
       at (Some suffix) of (inr k) = absurd k
 
   words_plain : (name word : List ℕ) → Has (prerequisites_of m name) word → IsPlain word
-  words_plain name word h = at (is_inference_name m.suffixes name) (fewer (λ w. not (is_wait w)) _ word h)
+  words_plain name word h = at (is_inference_name m.suffixes name) ((Has-from_filter (λ w. not (is_wait w)) _ word h).0)
     where
       at : (b : Bool) → Has (words_of (cond b [] m.rules) name) word → IsPlain word
       at true k = absurd k
       at false k =
-          let r = joined_from (λ (rule : RuleRead). rule.words) (filter (λ (rule : RuleRead). has_name rule.targets name) m.rules) word k in
-          (of_rule m.rules plain.rules r.0 (fewer (λ (rule : RuleRead). has_name rule.targets name) m.rules r.0 r.1)).1 word r.2
+          let r = Has-from_flat_map (λ (rule : RuleRead). rule.words) (filter (λ (rule : RuleRead). has_name rule.targets name) m.rules) word k in
+          (of_rule m.rules plain.rules r.0 ((Has-from_filter (λ (rule : RuleRead). has_name rule.targets name) m.rules r.0 r.1).0)).1 word r.2
 
   needs_plain : (name word : List ℕ) → Has (needs m e name) word → IsPlain word
-  needs_plain name word h = ⊎_elim (choice_plain name word) (words_plain name word) (has_cases (option_to_list (choice m e name)) (prerequisites_of m name) word h)
+  needs_plain name word h = ⊎_elim (choice_plain name word) (words_plain name word) (Has-cases (option_to_list (choice m e name)) (prerequisites_of m name) word h)
 
   all_plain : (all names : List (List ℕ)) → ((name : List ℕ) → Has names name → IsPlain name) → list_all (λ (n : Node). is_plain_path n.name) (map (node_of m e all) names) ≡ true
   all_plain all [] h = refl
@@ -200,7 +183,7 @@ module _ (m : Makefile) (e : Exists) (plain : HavePlainNames m e) where
 pub nodes_have_plain_names : NodesHavePlainNames
 nodes_have_plain_names m e goals g plain named selected =
     let all = selected.0 in
-    let each = goes_along (needs m e) IsPlain (λ n w h k needed. needs_plain m e plain n w needed) (of_tree selected.1) (λ n h. absurd h) (λ n h. told is_plain_path goals n named h) in
+    let each = goes_along (needs m e) IsPlain (λ n w h k needed. needs_plain m e plain n w needed) (of_tree selected.1) (λ n h. absurd h) (λ n h. list_all-Has is_plain_path goals n named h) in
     subst (λ (h : Graph). list_all (λ (n : Node). is_plain_path n.name) h.nodes ≡ true) (at (lacking m e all) selected.2) (all_plain m e plain all all each)
   where
     at : (o : Option (List ℕ)) → BuiltUnless o (graph_of m e goals selected.0) (Ok g) → graph_of m e goals selected.0 ≡ g

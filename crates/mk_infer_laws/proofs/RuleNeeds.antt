@@ -1,10 +1,11 @@
 -- The rule lines of a name, looked up by its name.
-use Rattle.std.proofs.Common.{◌≡◌, ℕ, ◌+◌, Bool, true, false, not, ◌||◌, cond, List, [], ◌∷◌, ◌++◌, map, refl, sym, ap, ◌∙◌}
+use Rattle.std.proofs.Common.{◌≡◌, ℕ, Bool, true, false, not, cond, List, [], ◌∷◌, ◌++◌, map, refl, sym, ap, ◌∙◌}
 use Rattle.std.specs.Prelude.{filter}
 use Rattle.std.specs.List.{flat_map}
 use Rattle.std.proofs.lemmas.List.{map-append}
 use Rattle.std.proofs.lemmas.List.Folds.{list_any-append}
 use Rattle.std.specs.Str.{bytes_eq}
+use Rattle.std.proofs.lemmas.Bool.{or_parts}
 use Rattle.mk_read.specs.Laws.{joined}
 use Rattle.mk_read.specs.Names.{has_name}
 use Rattle.mk_read.specs.Needs.{words_of, is_wait}
@@ -16,15 +17,11 @@ use Rattle.mk_infer.specs.Selection.{in_node_numbers}
 use Rattle.mk_infer.specs.Targets.{prerequisites_of}
 use Rattle.mk_infer.specs.Table.{targets_in}
 
-neither : (a b : Bool) → (a || b) ≡ false → (a ≡ false) × (b ≡ false)
-neither true b h = absurd cc
-neither false b h = (refl, h)
-
 -- a name that is no target has no words
 no_words : (rules : List RuleRead) (name : List ℕ) → has_name (targets_in rules) name ≡ false → words_of rules name ≡ []
 no_words [] name h = refl
 no_words (rule ∷ rules) name h =
-    let parts = neither (has_name rule.targets name) (has_name (targets_in rules) name) (sym (list_any-append (λ (other : List ℕ). bytes_eq name other) rule.targets (targets_in rules)) ∙ h) in
+    let parts = or_parts (has_name rule.targets name) (has_name (targets_in rules) name) (sym (list_any-append (λ (other : List ℕ). bytes_eq name other) rule.targets (targets_in rules)) ∙ h) in
     rw parts.0 (no_words rules name parts.1)
 
 -- nor prerequisites

@@ -7,10 +7,10 @@ use Rattle.std.proofs.Math.Numerals.{one-add}
 use Rattle.std.proofs.lemmas.Bool.{cases_lt, both_ways, false_from_ne_true}
 use Rattle.std.proofs.lemmas.List.{get_or-map, get_or_past, length-map}
 use Rattle.std.proofs.lemmas.Slice.Eq.{bytes_eq-Decides}
+use Rattle.mk_lemmas.proofs.Members.{Has-from_map, Has-get_or, Has-map}
 use Rattle.mk_graph.specs.declared.node.Node.{Node}
 use Rattle.mk_graph.specs.Graph.{IsSound, Reached, goal, onward, node, no_node, prerequisites}
 use Rattle.mk_graph.specs.Membership.{Has, IsDistinct}
-use Rattle.mk_graph.specs.Lists.{has_mapped, mapped_from}
 use Rattle.mk_lines.specs.Names.{number_of}
 use Rattle.mk_read.specs.Laws.{GroupsKeepTheirWords, joined}
 use Rattle.mk_read.specs.Needs.{groups}
@@ -26,13 +26,6 @@ use Rattle.mk_infer_laws.proofs.RuleNeeds.{flat_numbered}
 
 abbrev Name : Type 0
 Name = List ℕ
-
--- ---- membership
-
-pub Has_get_or : {A : Type 0} (xs : List A) (i : ℕ) (d : A) → i < length xs → Has xs (get_or xs i d)
-Has_get_or [] i d lt = absurd (omega arith)
-Has_get_or (x ∷ xs) zero d lt = inl refl
-Has_get_or (x ∷ xs) (suc i) d lt = inr (Has_get_or xs i d (omega arith))
 
 -- ---- places of names
 
@@ -62,7 +55,7 @@ number_get [] i d distinct lt = absurd (omega arith)
 number_get (other ∷ names) zero d distinct lt = ap (λ b. cond (not b) (1 + number_of names other) 0) ((bytes_eq-Decides other other).1 refl)
 number_get (other ∷ names) (suc i) d distinct lt =
     let there : i < length names = omega arith in
-    let differs : bytes_eq (get_or names i d) other ≡ false = false_from_ne_true _ (λ t. distinct.0 (subst (Has names) ((bytes_eq-Decides (get_or names i d) other).0 t) (Has_get_or names i d there))) in
+    let differs : bytes_eq (get_or names i d) other ≡ false = false_from_ne_true _ (λ t. distinct.0 (subst (Has names) ((bytes_eq-Decides (get_or names i d) other).0 t) (Has-get_or names i d there))) in
     ap (λ b. cond (not b) (1 + number_of names (get_or names i d)) 0) differs ∙ (ap (λ n. 1 + n) (number_get names i d distinct.1 there) ∙ one-add i)
 
 -- ---- the graph
@@ -104,7 +97,7 @@ module _ (keeps : GroupsKeepTheirWords) (m : Makefile) (e : Exists) (goals all :
   edge name word h k =
       let at : prerequisites (graph_of m e goals all) (number_of all name) ≡ map (number_of all) (needs m e name) =
       prerequisites_are (number_of all name) (number_below all name h) ∙ ap (λ n. map (number_of all) (needs m e n)) (get_number all name [] h) in
-      subst (λ (ns : List ℕ). Has ns (number_of all word)) (sym at) (has_mapped (number_of all) (needs m e name) word k)
+      subst (λ (ns : List ℕ). Has ns (number_of all word)) (sym at) (Has-map (number_of all) (needs m e name) word k)
 
   -- the maker owes nothing more
   pub is_sound : Meets (needs m e) [] goals all → IsSound (graph_of m e goals all)
@@ -113,18 +106,18 @@ module _ (keeps : GroupsKeepTheirWords) (m : Makefile) (e : Exists) (goals all :
       let distinct : IsDistinct all = stay_distinct needing (of_tree w) tt in
       let closed : (n : Name) → Has all n → (x : Name) → Has (needing n) x → Has all x = stay_closed needing (of_tree w) (λ n h. absurd h) in
       let reach : (a : Name) → Has all a → Reached (graph_of m e goals all) (number_of all a) =
-      goes_along needing (λ a. Reached (graph_of m e goals all) (number_of all a)) (λ n x h r k. onward r (edge n x h k)) (of_tree w) (λ x h. absurd h) (λ t h. goal (has_mapped (number_of all) goals t h)) in
+      goes_along needing (λ a. Reached (graph_of m e goals all) (number_of all a)) (λ n x h r k. onward r (edge n x h k)) (of_tree w) (λ x h. absurd h) (λ t h. goal (Has-map (number_of all) goals t h)) in
       record {
         names = subst IsDistinct (sym (names_of_nodes m e all all)) distinct;
-        goals = λ n h. let k = mapped_from (number_of all) goals n h in
+        goals = λ n h. let k = Has-from_map (number_of all) goals n h in
             let lt = number_below all k.0 (gets_met needing (of_tree w) k.0 k.1) in
             let same = k.2 in omega (arith, count);
         edges = λ n p h. ⊎_elim
-            (λ lt. let k = mapped_from (number_of all) (needing (get_or all n [])) p (subst (λ (ns : List ℕ). Has ns p) (prerequisites_are n lt) h) in
-            let below = number_below all k.0 (closed (get_or all n []) (Has_get_or all n [] lt) k.0 k.1) in
+            (λ lt. let k = Has-from_map (number_of all) (needing (get_or all n [])) p (subst (λ (ns : List ℕ). Has ns p) (prerequisites_are n lt) h) in
+            let below = number_below all k.0 (closed (get_or all n []) (Has-get_or all n [] lt) k.0 k.1) in
             let same = k.2 in
             let fits : p < length (map (node_of m e all) all) = omega (arith, count) in fits)
             (λ le. absurd (none_past n p le h)) (cases_lt n (length all));
         reached = λ n lt. let low : n < length all = omega (arith, count) in
-            subst (Reached (graph_of m e goals all)) (number_get all n [] distinct low) (reach (get_or all n []) (Has_get_or all n [] low));
+            subst (Reached (graph_of m e goals all)) (number_get all n [] distinct low) (reach (get_or all n []) (Has-get_or all n [] low));
       }

@@ -3,12 +3,12 @@ use Rattle.std.proofs.Common.{◌≡◌, ℕ, suc, ◌+◌, ◌<◌, ◌≤◌, 
 use Rattle.std.specs.Prelude.{find}
 use Rattle.std.proofs.lemmas.Bool.{cases_lt}
 use Rattle.std.proofs.lemmas.List.{length-append, length-map, take_all}
+use Rattle.mk_lemmas.proofs.Members.{Has-cases, Has-from_map, Has-get_or, Has-left, Has-right}
 use Rattle.mk_graph.specs.declared.node.Node.{Node}
 use Rattle.mk_graph.specs.Build.{WalksAll}
 use Rattle.mk_graph.specs.Graph.{Graph, HasPath, one, then, node, prerequisites}
 use Rattle.mk_graph.specs.Laws.{ClosesOnlyCycles, ComesThroughWithoutCycles, WalkHasAnEnd}
 use Rattle.mk_graph.specs.Membership.{Has, IsDistinct, IsWithin}
-use Rattle.mk_graph.specs.Lists.{has_left, has_right, has_cases, mapped_from}
 use Rattle.mk_graph.specs.Walk.{WalkEnd, Through, Closes}
 use Rattle.mk_read.specs.Laws.{GroupsKeepTheirWords, joined}
 use Rattle.mk_read.specs.Reading.{Makefile}
@@ -19,7 +19,7 @@ use Rattle.mk_infer.specs.Selection.{BuiltUnless, Selects, graph_of, groups_of, 
 use Rattle.mk_infer.specs.There.{Exists}
 use Rattle.mk_infer.specs.Walk.{Meets}
 use Rattle.mk_infer_laws.proofs.Ending.{walk_exists}
-use Rattle.mk_infer_laws.proofs.Soundness.{Has_get_or, edge, get_number, grouped, is_sound, node_is, none_past, number_below, prerequisites_are}
+use Rattle.mk_infer_laws.proofs.Soundness.{edge, get_number, grouped, is_sound, node_is, none_past, number_below, prerequisites_are}
 use Rattle.mk_infer_laws.proofs.Stacks.{of_tree}
 use Rattle.mk_infer_laws.proofs.Walks.{meets_what_is_reached, stay_closed}
 use Rattle.mk_infer_laws.proofs.Writes.{part_chooses, same_choice, same_commands, take_Has, writes_change_nothing}
@@ -46,7 +46,7 @@ no_more (x ∷ xs) ys distinct within =
     omega arith
   where
     other : (front back : List Name) (y : Name) → ¬ (x ≡ y) → Has (front ++ x ∷ back) y → Has (front ++ back) y
-    other front back y differs h = ⊎_elim (λ k. has_left front back y k) (λ k. ⊎_elim (λ e. absurd (differs e)) (λ k2. has_right front back y k2) k) (has_cases front (x ∷ back) y h)
+    other front back y differs h = ⊎_elim (λ k. Has-left front back y k) (λ k. ⊎_elim (λ e. absurd (differs e)) (λ k2. Has-right front back y k2) k) (Has-cases front (x ∷ back) y h)
 
 module _ (p : Name → Bool) where
   none_passes : (xs : List Name) (x : Name) → find p xs ≡ None → Has xs x → p x ≡ false
@@ -99,14 +99,14 @@ module _ (keeps : GroupsKeepTheirWords) (m : Makefile) (e : Exists) (goals all :
   node_at n lt = node_is keeps m e goals all n (omega (arith, count))
 
   met_at : (n : ℕ) → n < length whole.nodes → Has all (get_or all n [])
-  met_at n lt = Has_get_or all n [] (omega (arith, count))
+  met_at n lt = Has-get_or all n [] (omega (arith, count))
 
   -- the groups of a node by names
   named_back : (gs : List (List Name)) → ((word : Name) → Has (joined gs) word → Has all word) → map (map (λ p. (node whole p).name)) (in_node_numbers all gs) ≡ gs
   named_back [] within = refl
   named_back (group ∷ gs) within =
-      ap (λ (ws : List Name). ws ∷ map (map (λ p. (node whole p).name)) (in_node_numbers all gs)) (names_back group (λ word h. within word (has_left group (joined gs) word h)))
-      ∙ ap (λ (hs : List (List Name)). group ∷ hs) (named_back gs (λ word h. within word (has_right group (joined gs) word h)))
+      ap (λ (ws : List Name). ws ∷ map (map (λ p. (node whole p).name)) (in_node_numbers all gs)) (names_back group (λ word h. within word (Has-left group (joined gs) word h)))
+      ∙ ap (λ (hs : List (List Name)). group ∷ hs) (named_back gs (λ word h. within word (Has-right group (joined gs) word h)))
     where
       names_back : (words : List Name) → ((word : Name) → Has words word → Has all word) → map (λ p. (node whole p).name) (map (number_of all) words) ≡ words
       names_back [] met = refl
@@ -194,8 +194,8 @@ module _ (an_end : WalkHasAnEnd) (closes : ClosesOnlyCycles) (comes : ComesThrou
       by (inr le) = absurd (none_past keeps m e some met n p le h)
       by (inl lt) =
           let name = get_or met n [] in
-          let there : Has met name = Has_get_or met n [] lt in
-          let k = mapped_from (number_of met) (needs m e name) p (subst (λ (ns : List ℕ). Has ns p) (prerequisites_are keeps m e some met n lt) h) in
+          let there : Has met name = Has-get_or met n [] lt in
+          let k = Has-from_map (number_of met) (needs m e name) p (subst (λ (ns : List ℕ). Has ns p) (prerequisites_are keeps m e some met n lt) h) in
           let word : Has met k.0 = closed keeps m e some met going name k.0 there k.1 in
           let at : get_or met p [] ≡ k.0 = ap (λ (i : ℕ). get_or met i []) (sym k.2) ∙ get_number met k.0 [] word in
           subst (λ (w : Name). Has (prerequisites large (moved n)) (number_of all w)) (sym at) (edge keeps m e goals all name k.0 (met_within name there) k.1)

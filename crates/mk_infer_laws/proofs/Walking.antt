@@ -3,10 +3,10 @@ use Rattle.std.proofs.Common.{◌≡◌, ℕ, ◌+◌, ◌≤◌, Bool, true, fa
 use Rattle.std.specs.Str.{bytes_eq}
 use Rattle.std.proofs.lemmas.Bool.{cases_Bool}
 use Rattle.std.proofs.lemmas.Slice.Eq.{bytes_eq-Decides}
-use Rattle.mk_graph.specs.Membership.{Has}
+use Rattle.mk_lemmas.proofs.Texts.{bytes_eq-sym}
+use Rattle.mk_lines.proofs.NameTests.{has_name-push}
 use Rattle.mk_lines.specs.Names.{has_name}
 use Rattle.mk_infer.specs.Ends.{weight}
-use Rattle.mk_infer_laws.proofs.Added.{bytes_eq_sym, has_name_push}
 
 lighter : (a c : Bool) (n : ℕ) → cond (a || c) 0 n ≤ cond a 0 n
 lighter true c n = omega arith
@@ -19,7 +19,7 @@ unfolding weight
 weight_below needs met name [] = omega arith
 weight_below needs met name (other ∷ names) =
     let n = length (needs other) in
-    let first : cond (has_name (met ++ name ∷ []) other) 0 n ≤ cond (has_name met other) 0 n = subst (λ (b : Bool). cond b 0 n ≤ cond (has_name met other) 0 n) (sym (has_name_push met name other)) (lighter (has_name met other) (bytes_eq other name) n) in
+    let first : cond (has_name (met ++ name ∷ []) other) 0 n ≤ cond (has_name met other) 0 n = subst (λ (b : Bool). cond b 0 n ≤ cond (has_name met other) 0 n) (sym (has_name-push met name other)) (lighter (has_name met other) (bytes_eq other name) n) in
     omega (arith, weight_below needs met name names)
 
 -- a new name takes its own words off
@@ -35,11 +35,11 @@ weight_falls needs met name (other ∷ names) h k = by_first (bytes_eq name othe
         let alike : length (needs name) ≡ length (needs other) = ap (λ (n : List ℕ). length (needs n)) same in
         let unmet : has_name met other ≡ false = ap (has_name met) (sym same) ∙ h in
         let before : cond (has_name met other) 0 (length (needs other)) ≡ length (needs other) = rw unmet refl in
-        let after : cond (has_name (met ++ name ∷ []) other) 0 (length (needs other)) ≡ 0 = rw (has_name_push met name other, unmet, ← bytes_eq_sym name other, t) refl in
+        let after : cond (has_name (met ++ name ∷ []) other) 0 (length (needs other)) ≡ 0 = rw (has_name-push met name other, unmet, ← bytes_eq-sym name other, t) refl in
         omega (arith, weight_below needs met name names)
     by_first false f there ih =
         let n = length (needs other) in
-        let first : cond (has_name (met ++ name ∷ []) other) 0 n ≤ cond (has_name met other) 0 n = subst (λ (b : Bool). cond b 0 n ≤ cond (has_name met other) 0 n) (sym (has_name_push met name other)) (lighter (has_name met other) (bytes_eq other name) n) in
+        let first : cond (has_name (met ++ name ∷ []) other) 0 n ≤ cond (has_name met other) 0 n = subst (λ (b : Bool). cond b 0 n ≤ cond (has_name met other) 0 n) (sym (has_name-push met name other)) (lighter (has_name met other) (bytes_eq other name) n) in
         omega (arith, ih there)
 
 -- the names outside of these have no words
@@ -56,22 +56,3 @@ falls needs names covers met name h =
           let none : length (needs name) ≡ 0 = ap length (covers name f) in
           omega (arith, weight_below needs met name names))
     ]
-
--- a name that is met stands among the met ones
-pub Has_name : (names : List (List ℕ)) (name : List ℕ) → has_name names name ≡ true → Has names name
-Has_name [] name h = absurd cc
-Has_name (other ∷ names) name h = by_first (bytes_eq name other) refl h (Has_name names name)
-  where
-    by_first : (b : Bool) → bytes_eq name other ≡ b → (b || has_name names name) ≡ true → (has_name names name ≡ true → Has names name) → Has (other ∷ names) name
-    by_first true t k deeper = inl (sym ((bytes_eq-Decides name other).0 t))
-    by_first false f k deeper = inr (deeper k)
-
--- and the other way
-pub has_name_Has : (names : List (List ℕ)) (name : List ℕ) → Has names name → has_name names name ≡ true
-has_name_Has [] name h = absurd h
-has_name_Has (other ∷ names) name (inl e) = ap (λ b. b || has_name names name) ((bytes_eq-Decides name other).1 (sym e))
-has_name_Has (other ∷ names) name (inr h) = ap (λ b. bytes_eq name other || b) (has_name_Has names name h) ∙ or_true (bytes_eq name other)
-  where
-    or_true : (b : Bool) → (b || true) ≡ true
-    or_true true = refl
-    or_true false = refl

@@ -1,20 +1,13 @@
 -- What a walk of names meets.
 use Rattle.std.proofs.Common.{◌≡◌, ℕ, List, [], ◌∷◌, ◌++◌, inl, inr, ◌⊎◌, refl, sym, subst, ⊎_elim}
+use Rattle.mk_lemmas.proofs.Members.{Has-cases, Has-left, Has-right, IsDistinct-push}
 use Rattle.mk_graph.specs.Membership.{Has, IsDistinct}
-use Rattle.mk_graph.specs.Lists.{has_left, has_right, has_cases}
 use Rattle.mk_infer.specs.Laws.{Reaches, goal, onward, MeetsWhatIsReached, WalkIsOne}
 use Rattle.mk_infer.specs.Walk.{Meets}
 use Rattle.mk_infer_laws.proofs.Stacks.{Stack, ends, known, new, of_tree, to_tree}
 
 abbrev Name : Type 0
 Name = List ℕ
-
--- ---- membership
-
-push_distinct : {A : Type 0} (xs : List A) (x : A) → IsDistinct xs → ¬ (Has xs x) → IsDistinct (xs ++ x ∷ [])
-push_distinct [] x d fresh = (λ h. h, tt)
-push_distinct (y ∷ xs) x d fresh =
-    (λ h. ⊎_elim d.0 (λ k. ⊎_elim (λ e. fresh (inl (sym e))) (λ k2. k2) k) (has_cases xs (x ∷ []) y h), push_distinct xs x d.1 (λ h. fresh (inr h)))
 
 -- ---- what the walk meets
 
@@ -23,21 +16,21 @@ module _ (needs : Name → List Name) where
   stays_met : {met todo all : List Name} → Stack needs met todo all → (name : Name) → Has met name → Has all name
   stays_met ends name h = h
   stays_met (known k m) name h = stays_met m name h
-  stays_met {met} (new {name = other} u m) name h = stays_met m name (has_left met (other ∷ []) name h)
+  stays_met {met} (new {name = other} u m) name h = stays_met m name (Has-left met (other ∷ []) name h)
 
   -- what is to do is met
   pub gets_met : {met todo all : List Name} → Stack needs met todo all → (name : Name) → Has todo name → Has all name
   gets_met ends name h = absurd h
   gets_met (known k m) name (inl e) = subst (Has _) e (stays_met m _ k)
   gets_met (known k m) name (inr h) = gets_met m name h
-  gets_met {met} (new {name = other} u m) name (inl e) = stays_met m name (has_right met (other ∷ []) name (inl e))
-  gets_met (new {todo} {name = other} u m) name (inr h) = gets_met m name (has_right (needs other) todo name h)
+  gets_met {met} (new {name = other} u m) name (inl e) = stays_met m name (Has-right met (other ∷ []) name (inl e))
+  gets_met (new {todo} {name = other} u m) name (inr h) = gets_met m name (Has-right (needs other) todo name h)
 
   -- each name is met once
   pub stay_distinct : {met todo all : List Name} → Stack needs met todo all → IsDistinct met → IsDistinct all
   stay_distinct ends d = d
   stay_distinct (known k m) d = stay_distinct m d
-  stay_distinct {met} (new {name} u m) d = stay_distinct m (push_distinct met name d u)
+  stay_distinct {met} (new {name} u m) d = stay_distinct m (IsDistinct-push met name u d)
 
   -- a fact that goes from a name to what it needs
   pub goes_along : {met todo all : List Name} (P : Name → Type 0) → ((n w : Name) → Has all n → P n → Has (needs n) w → P w) → Stack needs met todo all
@@ -46,8 +39,8 @@ module _ (needs : Name → List Name) where
   goes_along P step (known k m) of_met of_todo a h = goes_along P step m of_met (λ t k2. of_todo t (inr k2)) a h
   goes_along {met} P step (new {todo} {name} u m) of_met of_todo a h =
       goes_along P step m
-      (λ x k. ⊎_elim (of_met x) (λ k2. ⊎_elim (λ e. subst P e (of_todo name (inl refl))) (λ k3. absurd k3) k2) (has_cases met (name ∷ []) x k))
-      (λ t k. ⊎_elim (λ k2. step name t (stays_met m name (has_right met (name ∷ []) name (inl refl))) (of_todo name (inl refl)) k2) (λ k2. of_todo t (inr k2)) (has_cases (needs name) todo t k))
+      (λ x k. ⊎_elim (of_met x) (λ k2. ⊎_elim (λ e. subst P e (of_todo name (inl refl))) (λ k3. absurd k3) k2) (Has-cases met (name ∷ []) x k))
+      (λ t k. ⊎_elim (λ k2. step name t (stays_met m name (Has-right met (name ∷ []) name (inl refl))) (of_todo name (inl refl)) k2) (λ k2. of_todo t (inr k2)) (Has-cases (needs name) todo t k))
       a h
 
   -- what is needed by what is met is met
@@ -57,9 +50,9 @@ module _ (needs : Name → List Name) where
       stay_closed m (λ n2 h2 w2 k2. ⊎_elim inl (λ x. ⊎_elim (λ e. inl (subst (Has met) e there)) inr x) (closed n2 h2 w2 k2)) n h w k
   stay_closed {met} (new {todo} {name} u m) closed n h w k =
       stay_closed m (λ n2 h2 w2 k2. ⊎_elim
-      (λ old. ⊎_elim (λ x. inl (has_left met (name ∷ []) w2 x)) (λ x. ⊎_elim (λ e. inl (has_right met (name ∷ []) w2 (inl e))) (λ y. inr (has_right (needs name) todo w2 y)) x) (closed n2 old w2 k2))
-      (λ now. ⊎_elim (λ e. inr (has_left (needs name) todo w2 (subst (λ (z : Name). Has (needs z) w2) (sym e) k2))) (λ z. absurd z) now)
-      (has_cases met (name ∷ []) n2 h2)) n h w k
+      (λ old. ⊎_elim (λ x. inl (Has-left met (name ∷ []) w2 x)) (λ x. ⊎_elim (λ e. inl (Has-right met (name ∷ []) w2 (inl e))) (λ y. inr (Has-right (needs name) todo w2 y)) x) (closed n2 old w2 k2))
+      (λ now. ⊎_elim (λ e. inr (Has-left (needs name) todo w2 (subst (λ (z : Name). Has (needs z) w2) (sym e) k2))) (λ z. absurd z) now)
+      (Has-cases met (name ∷ []) n2 h2)) n h w k
 
   -- walks of the same names meet the same
   meets_one : {met todo one other : List Name} → Stack needs met todo one → Stack needs met todo other → one ≡ other
@@ -74,7 +67,7 @@ module _ (needs : Name → List Name) where
   carried other ends same = ends
   carried other (known k m) same = known k (carried other m same)
   carried other {met} (new {todo} {all} {name} u m) same =
-      new u (subst (λ (ns : List Name). Stack other (met ++ name ∷ []) (ns ++ todo) all) (same name (stays_met m name (has_right met (name ∷ []) name (inl refl)))) (carried other m same))
+      new u (subst (λ (ns : List Name). Stack other (met ++ name ∷ []) (ns ++ todo) all) (same name (stays_met m name (Has-right met (name ∷ []) name (inl refl)))) (carried other m same))
 
 -- ---- laws
 

@@ -2,9 +2,8 @@
 use Rattle.std.proofs.Common.{◌≡◌, ℕ, zero, suc, Bool, true, false, not, ◌&&◌, ◌||◌, cond, List, [], ◌∷◌, ◌++◌, map, take, Option, Some, None, Result, Ok, Err, inl, inr, refl, sym, ap, subst, ◌∙◌}
 use Rattle.std.specs.Prelude.{find, slice_get, option_to_list}
 use Rattle.std.specs.Option.{option_map, option_map_or}
-use Rattle.std.specs.Str.{bytes_eq}
 use Rattle.std.proofs.lemmas.List.{append_cancel_left}
-use Rattle.std.proofs.lemmas.Slice.Eq.{bytes_eq-Decides}
+use Rattle.mk_lines.proofs.NameTests.{Has-from_has_name, has_name-from_Has}
 use Rattle.mk_graph.specs.declared.node.Node.{Node}
 use Rattle.mk_graph.specs.Graph.{Graph}
 use Rattle.mk_graph.specs.Membership.{Has}
@@ -30,10 +29,6 @@ Name = List ℕ
 
 -- ---- tests
 
-or_true : (b : Bool) → (b || true) ≡ true
-or_true true = refl
-or_true false = refl
-
 -- a test that holds keeps holding in a sum and in a product of tests
 or_more : (a : Bool) {x y : Bool} → (x ≡ true → y ≡ true) → (a || x) ≡ true → (a || y) ≡ true
 or_more true f t = refl
@@ -42,20 +37,6 @@ or_more false f t = f t
 and_more : (a : Bool) {x y : Bool} → (x ≡ true → y ≡ true) → (a && x) ≡ true → (a && y) ≡ true
 and_more true f t = f t
 and_more false f t = t
-
--- names that are found stand in the list
-has_name_Has : (names : List Name) (name : Name) → has_name names name ≡ true → Has names name
-has_name_Has [] name t = absurd cc
-has_name_Has (other ∷ names) name t = by_first (bytes_eq name other) refl t (has_name_Has names name)
-  where
-    by_first : (b : Bool) → bytes_eq name other ≡ b → (b || has_name names name) ≡ true → (has_name names name ≡ true → Has names name) → Has (other ∷ names) name
-    by_first true e u ih = inl (sym ((bytes_eq-Decides name other).0 e))
-    by_first false e u ih = inr (ih u)
-
-Has_has_name : (names : List Name) (name : Name) → Has names name → has_name names name ≡ true
-Has_has_name [] name h = absurd h
-Has_has_name (other ∷ names) name (inl e) = ap (λ b. b || has_name names name) ((bytes_eq-Decides name other).1 (sym e))
-Has_has_name (other ∷ names) name (inr h) = ap (λ b. bytes_eq name other || b) (Has_has_name names name h) ∙ or_true (bytes_eq name other)
 
 -- ---- the first that passes
 
@@ -134,7 +115,7 @@ module _ {A : Type 0} where
 module _ (m : Makefile) (e : Exists) where
   -- what is there stays there with more names
   there_more : (few many : List Name) → ((name : Name) → Has few name → Has many name) → (name : Name) → is_there m (with_more e few) name ≡ true → is_there m (with_more e many) name ≡ true
-  there_more few many within name = or_more (has_name e.sources name) (or_more (has_name e.texts name) (or_more (is_target m name) (λ t. Has_has_name many name (within name (has_name_Has few name t)))))
+  there_more few many within name = or_more (has_name e.sources name) (or_more (has_name e.texts name) (or_more (is_target m name) (λ t. has_name-from_Has many name (within name (Has-from_has_name few name t)))))
 
   fits_more : (few many : List Name) → ((name : Name) → Has few name → Has many name) → (name suffix : Name) → fits m (with_more e few) name suffix ≡ true → fits m (with_more e many) name suffix ≡ true
   fits_more few many within name suffix = and_more (has_some (commands_from m name suffix)) (there_more few many within (stem m name ++ suffix))

@@ -3,11 +3,11 @@ use Rattle.std.proofs.Common.{◌≡◌, ℕ, ◌+◌, ◌<◌, ◌≤◌, true,
 use Rattle.std.specs.Prelude.{filter}
 use Rattle.std.specs.Borrow.{Bor}
 use Rattle.std.proofs.lemmas.List.{drop_more, drop_all}
+use Rattle.mk_lemmas.proofs.Texts.{texts}
 use Rattle.mk_read.specs.Needs.{is_wait, in_first, has_words, cut, groups}
 use Rattle.mk_lines.specs.Names.{number_of}
 use Rattle.mk_infer.specs.Selection.{in_node_numbers}
 use Rattle.mk_infer_select.specs.Walked.{has_numbers}
-use Rattle.mk_infer_select.proofs.NameLists.{texts}
 
 -- numbers at the front of the first group
 abbrev pub onto : List ℕ → List (List ℕ) → List (List ℕ)

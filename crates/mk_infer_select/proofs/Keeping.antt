@@ -6,6 +6,8 @@ use Rattle.std.specs.Prelude.{find}
 use Rattle.std.specs.List.{list_any}
 use Rattle.std.proofs.Math.Seq.{take-append_seam}
 use Rattle.std.proofs.lemmas.List.{length-append, take_all}
+use mathlib.Core.Bool.{and-false, or-true}
+use Rattle.mk_lemmas.proofs.Texts.{texts}
 use Rattle.mk_graph.specs.declared.node.Node.{Node}
 use Rattle.mk_lines.specs.Names.{has_name}
 use Rattle.mk_read.specs.Needs.{commands_in, commands_of, has_commands}
@@ -19,7 +21,6 @@ use Rattle.mk_infer.specs.Walk.{Meets}
 use Rattle.mk_infer.specs.Selection.{is_lacking, lacking, needs, node_of}
 use Rattle.mk_infer_select.specs.Walked.{IsWalked, VisitedName, lacks, met_of, node_with}
 use Rattle.mk_infer.specs.There.{Exists, is_given}
-use Rattle.mk_infer_select.proofs.NameLists.{texts}
 use Rattle.mk_infer_select.proofs.Walking.{Continues, goes_deeper, reverse_last, stays_front, unmet, walk_end}
 
 abbrev Name : Type 0
@@ -67,17 +68,9 @@ module _ (m : Makefile) (e : Exists) (goals : List (Bor Name)) (met : List Name)
 
 -- ---- what is made of it
 
-and_false : (b : Bool) → (b && false) ≡ false
-and_false true = refl
-and_false false = refl
-
 and_assoc : (a b c : Bool) → (a && (b && c)) ≡ ((a && b) && c)
 and_assoc true b c = refl
 and_assoc false b c = refl
-
-or_true : (b : Bool) → (b || true) ≡ true
-or_true true = refl
-or_true false = refl
 
 among : (a b c d : Bool) → (b || c) ≡ true → (a || (b || (c || d))) ≡ true
 among true b c d h = refl
@@ -96,7 +89,7 @@ module _ (rules : List RuleRead) (name : Name) where
     where
       at : (b : Bool) → p rule ≡ (q rule && b) → (b || list_any named rs) ≡ false → (list_any named rs ≡ false → find p rs ≡ None) → cond (p rule) (Some rule) (find p rs) ≡ None
       at true h k ih = absurd cc
-      at false h k ih = ap (λ b. cond b (Some rule) (find p rs)) (h ∙ and_false (q rule)) ∙ ih k
+      at false h k ih = ap (λ b. cond b (Some rule) (find p rs)) (h ∙ and-false (q rule)) ∙ ih k
 
   -- a name with commands is a target
   commanded : has_some (commands_of rules name) ≡ true → list_any named rules ≡ true
@@ -118,7 +111,7 @@ module _ (m : Makefile) (e : Exists) (name : Name) where
     where
       by : (suffix : Option Name) → has_some (commands_by m name suffix) ≡ true → (is_target m name || has_some (option_map (λ s. stem m name ++ s) suffix)) ≡ true
       by None h = ap (λ b. b || false) (commanded (rules_for m name) name h)
-      by (Some s) h = or_true (is_target m name)
+      by (Some s) h = or-true (is_target m name)
 
   -- so it lacks nothing
   lacks_nothing_more : lacks m e (met_of m e name) ≡ is_lacking m e name

@@ -1,4 +1,3 @@
-pub mod NameLists
 pub mod WithFront
 pub mod Once
 pub mod GoalLists

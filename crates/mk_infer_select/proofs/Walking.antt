@@ -1,10 +1,10 @@
 -- The walk of names by one list of names to do: what is met from here is met in all.
-use Rattle.std.proofs.Common.{◌≡◌, ℕ, ◌+◌, ◌<◌, Bool, true, false, ◌||◌, List, [], ◌∷◌, ◌++◌, reverse, length, inl, inr, refl, sym, ap, subst, ◌∙◌, append_assoc, append-nil, arith}
+use Rattle.std.proofs.Common.{◌≡◌, ℕ, ◌+◌, ◌<◌, true, false, List, [], ◌∷◌, ◌++◌, reverse, length, sym, ap, subst, ◌∙◌, append_assoc, append-nil, arith}
 use Rattle.std.specs.Borrow.{Bor}
-use Rattle.std.specs.Str.{bytes_eq}
 use Rattle.std.proofs.lemmas.Bool.{both_ways}
-use Rattle.std.proofs.lemmas.Slice.Eq.{bytes_eq-Decides}
 use Rattle.std.proofs.lemmas.List.{map-append, reverse-append, reverse-reverse, length-map, length-reverse}
+use Rattle.mk_lemmas.proofs.Texts.{texts}
+use Rattle.mk_lines.proofs.NameTests.{Has-from_has_name, has_name-from_Has}
 use Rattle.mk_graph.specs.Membership.{Has}
 use Rattle.mk_lines.specs.Names.{has_name}
 use Rattle.mk_read.specs.Reading.{Makefile}
@@ -13,28 +13,6 @@ use Rattle.mk_infer.specs.Laws.{NewNamesLeaveLess}
 use Rattle.mk_infer.specs.Selection.{needs}
 use Rattle.mk_infer.specs.There.{Exists}
 use Rattle.mk_infer.specs.Walk.{Meets, ends, known, new}
-use Rattle.mk_infer_select.proofs.NameLists.{texts}
-
--- ---- names that are met
-
--- a name that is found stands in the list
-Has_name : (names : List (List ℕ)) (name : List ℕ) → has_name names name ≡ true → Has names name
-Has_name [] name h = absurd cc
-Has_name (other ∷ names) name h = by_first (bytes_eq name other) refl h (Has_name names name)
-  where
-    by_first : (b : Bool) → bytes_eq name other ≡ b → (b || has_name names name) ≡ true → (has_name names name ≡ true → Has names name) → Has (other ∷ names) name
-    by_first true t k deeper = inl (sym ((bytes_eq-Decides name other).0 t))
-    by_first false f k deeper = inr (deeper k)
-
--- and the other way
-has_name_Has : (names : List (List ℕ)) (name : List ℕ) → Has names name → has_name names name ≡ true
-has_name_Has [] name h = absurd h
-has_name_Has (other ∷ names) name (inl e) = ap (λ b. b || has_name names name) ((bytes_eq-Decides name other).1 (sym e))
-has_name_Has (other ∷ names) name (inr h) = ap (λ b. bytes_eq name other || b) (has_name_Has names name h) ∙ or_true (bytes_eq name other)
-  where
-    or_true : (b : Bool) → (b || true) ≡ true
-    or_true true = refl
-    or_true false = refl
 
 -- ---- a walk by one list
 
@@ -75,12 +53,12 @@ reverse_last todo rest name e = ap (λ ns. texts (reverse ns)) e ∙ ap texts (r
 
 -- a name that isn't found isn't met
 pub unmet : (met : List (List ℕ)) (name : List ℕ) → has_name met name ≡ false → ¬ (Has met name)
-unmet met name h there = both_ways (has_name met name) h (has_name_Has met name there)
+unmet met name h there = both_ways (has_name met name) h (has_name-from_Has met name there)
 
 -- a name that is met already
 pub walk_known : (needs : List ℕ → List (List ℕ)) (met after goals : List (List ℕ)) (todo rest : List (Bor (List ℕ))) (name : Bor (List ℕ)) → todo ≡ rest ++ name ∷ [] → has_name met name.now ≡ true → after ≡ met → Continues needs met todo goals → Continues needs after rest goals
 walk_known needs met after goals todo rest name e h same k = λ all m.
-    k all (subst (λ (ns : List (List ℕ)). Meets needs met ns all) (sym (reverse_last todo rest name e)) (known (Has_name met name.now h) (subst (λ (ms : List (List ℕ)). Meets needs ms (texts (reverse rest)) all) same m)))
+    k all (subst (λ (ns : List (List ℕ)). Meets needs met ns all) (sym (reverse_last todo rest name e)) (known (Has-from_has_name met name.now h) (subst (λ (ms : List (List ℕ)). Meets needs ms (texts (reverse rest)) all) same m)))
 
 -- what is to do behind a new name
 left_behind : (needs : List ℕ → List (List ℕ)) (rest words more : List (Bor (List ℕ))) (name : List ℕ) → texts words ≡ needs name → more ≡ rest ++ reverse words → texts (reverse more) ≡ needs name ++ texts (reverse rest)

@@ -3,3 +3,4 @@ pub mod Converted
 pub mod Turns
 pub mod OtherKinds
 pub mod Put
+pub mod Arrays

@@ -16,12 +16,12 @@ abbrev pub front_there : List (List ℕ) → List ℕ → ℕ → Bool
 front_there prefixes name n = nat_le n (length name) && has_name prefixes (take n name)
 
 -- a front, and what is behind it
-front_told : (name prefix : List ℕ) → begins_with prefix name ≡ true → (rest : List ℕ) × (name ≡ prefix ++ rest)
+pub front_told : (name prefix : List ℕ) → begins_with prefix name ≡ true → (rest : List ℕ) × (name ≡ prefix ++ rest)
 front_told name prefix e =
     let front : take (length prefix) name ≡ prefix = (bytes_eq-Decides (take (length prefix) name) prefix).0 e in
     (drop (length prefix) name, sym (ap (λ f. f ++ drop (length prefix) name) (sym front) ∙ take-append-drop (length prefix) name))
 
-front_tells : (name prefix rest : List ℕ) → name ≡ prefix ++ rest → begins_with prefix name ≡ true
+pub front_tells : (name prefix rest : List ℕ) → name ≡ prefix ++ rest → begins_with prefix name ≡ true
 front_tells name prefix rest e = (bytes_eq-Decides (take (length prefix) name) prefix).1 (ap (take (length prefix)) e ∙ take-append_seam prefix rest)
 
 -- the prefix with which a name begins

@@ -24,3 +24,5 @@ pub mod Texts
 pub mod Fronts
 pub mod NoReference
 pub mod NameSets
+pub mod NameTests
+pub mod Once

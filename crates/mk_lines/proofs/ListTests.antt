@@ -1,19 +1,12 @@
 -- Tests over lists.
-use Rattle.std.proofs.Common.{◌≡◌, ℕ, zero, suc, ◌+◌, ◌-◌, ◌<◌, ◌≤◌, Bool, true, false, not, ◌||◌, cond, ltb, List, [], ◌∷◌, map, length, get_or, take, drop, Some, None, refl, sym, ap, ◌∙◌, arith, zero-le}
-use Rattle.std.specs.Prelude.{position}
-use Rattle.std.specs.List.{list_any, position_or_len, before_first, after_first}
-use Rattle.std.proofs.lemmas.Bool.{or_left, or_right, false_from_ne_true, ltb-false}
-use Rattle.std.proofs.lemmas.Option.{cond_some}
+use Rattle.std.proofs.Common.{◌≡◌, ℕ, zero, suc, ◌+◌, ◌-◌, ◌<◌, Bool, true, false, List, [], ◌∷◌, length, get_or, take, drop, sym, ap, ◌∙◌, arith, zero-le}
+use Rattle.std.specs.List.{list_any, before_first, after_first}
+use Rattle.std.proofs.lemmas.Bool.{or_left, or_right, false_from_ne_true}
 use Rattle.std.proofs.lemmas.List.{take_rest}
 use Rattle.std.proofs.lemmas.List.Folds.{list_any_none}
 use Rattle.std.proofs.lemmas.List.Elements.{All-from_get_or}
 use Rattle.bstr.specs.Find.{Nowhere, NoneBefore, Passes}
 use Rattle.mk_lines.proofs.FirstByte.{found_at}
-
--- a test over what f gives
-pub list_any_map : {A B : Type 0} (p : B → Bool) (f : A → B) (xs : List A) → list_any p (map f xs) ≡ list_any (λ x. p (f x)) xs
-list_any_map p f [] = refl
-list_any_map p f (x ∷ xs) = ap (λ b. p (f x) || b) (list_any_map p f xs)
 
 -- an element that passes is found
 pub list_any_at : (p : ℕ → Bool) (xs : List ℕ) (i : ℕ) → i < length xs → p (get_or xs i 0) ≡ true → list_any p xs ≡ true
@@ -30,23 +23,3 @@ pub round_found : (p : ℕ → Bool) (xs : List ℕ) (i : ℕ) → NoneBefore (P
 round_found p xs i h =
     let at = found_at p xs i h in
     (list_any_at p xs i h.0.high h.1, ap (λ n. take n xs) (sym at), take_rest xs (i + 1) ∙ ap (λ n. drop (n + 1) xs) (sym at))
-
--- where position finds an element, and where it finds none
-pub position_some : {A : Type 0} (p : A → Bool) (xs : List A) (i : ℕ) → position p xs ≡ Some i → position_or_len p xs ≡ i
-position_some p xs i e = (cond_some (ltb (position_or_len p xs) (length xs)) (position_or_len p xs) i e).1
-
-pub position_none : {A : Type 0} (p : A → Bool) (xs : List A) → position p xs ≡ None → length xs ≤ position_or_len p xs
-position_none p xs e = none_at (ltb (position_or_len p xs) (length xs)) refl e
-  where
-    none_at : (b : Bool) → ltb (position_or_len p xs) (length xs) ≡ b → cond b (Some (position_or_len p xs)) None ≡ None → length xs ≤ position_or_len p xs
-    none_at true t e = absurd cc
-    none_at false t e = ltb-false _ _ t
-
--- a place lies within the list, or at its end
-pub position_within : {A : Type 0} (p : A → Bool) (xs : List A) → position_or_len p xs ≤ length xs
-position_within p [] = omega arith
-position_within p (x ∷ xs) = at (not (p x)) (position_within p xs)
-  where
-    at : (b : Bool) → position_or_len p xs ≤ length xs → cond b (1 + position_or_len p xs) 0 ≤ suc (length xs)
-    at true h = omega arith
-    at false h = omega arith

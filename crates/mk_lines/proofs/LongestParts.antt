@@ -3,11 +3,12 @@ use Rattle.std.proofs.Common.{◌≡◌, ℕ, zero, suc, ◌+◌, ◌-◌, ◌<�
 use Rattle.std.specs.List.{slice_split, onto_first, list_any, Contains}
 use Rattle.std.proofs.lemmas.Bool.{ltb-true, ltb-false, lt-ltb}
 use Rattle.std.proofs.lemmas.List.{get_or-take, get_or-drop, length-take, length-drop}
+use Rattle.mk_lemmas.proofs.Bools.{or-false_left, or-false_right}
+use Rattle.mk_lines.proofs.WordSpans.{span_at}
 use Rattle.mk_lines.specs.declared.spans.Span.{Span}
 use Rattle.mk_lines.specs.Bytes.{is_blank}
 use Rattle.mk_lines.specs.Words.{has_bytes, spans_from, word_spans, IsWordAt}
 use Rattle.mk_lines.specs.Laws.{WordsAreLongestParts}
-use Rattle.mk_lines.proofs.NoComment.{neither_left, neither_right}
 
 clash : (b : Bool) → b ≡ true → b ≡ false → ⊥
 clash b t f = cc
@@ -25,8 +26,8 @@ Clean text low high = (j : ℕ) → low ≤ j → j < high → is_blank (get_or 
 
 none_at : (p : ℕ → Bool) (xs : List ℕ) (k : ℕ) → list_any p xs ≡ false → k < length xs → p (get_or xs k 0) ≡ false
 none_at p [] k e lt = absurd (omega arith)
-none_at p (x ∷ xs) zero e lt = neither_left (p x) (list_any p xs) e
-none_at p (x ∷ xs) (suc k) e lt = none_at p xs k (neither_right (p x) (list_any p xs) e) (omega arith)
+none_at p (x ∷ xs) zero e lt = or-false_left (p x) (list_any p xs) e
+none_at p (x ∷ xs) (suc k) e lt = none_at p xs k (or-false_right (p x) (list_any p xs) e) (omega arith)
 
 none_from : (p : ℕ → Bool) (xs : List ℕ) → ((k : ℕ) → k < length xs → p (get_or xs k 0) ≡ false) → list_any p xs ≡ false
 none_from p [] h = refl
@@ -133,10 +134,6 @@ contains_in : (spans : List Span) (span : Span) → In span spans → Contains s
 contains_in [] span h = absurd h
 contains_in (other ∷ spans) span (inl e) = (0, omega arith, e)
 contains_in (other ∷ spans) span (inr h) = contains_more spans other span (contains_in spans span h)
-
--- where a part stands
-abbrev span_at : ℕ → List ℕ → Span
-span_at at part = record { start = at; end = at + length part }
 
 abbrev Edge : List ℕ → ℕ → Type 0
 Edge text at = (at ≡ 0) ⊎ (is_blank (get_or text (at - 1) 0) ≡ true)

@@ -1,8 +1,9 @@
 -- The search outside references, without the search's state.
 use Rattle.std.proofs.Common.{◌≡◌, ℕ, zero, suc, ◌+◌, ◌<◌, Bool, true, false, ◌&&◌, ◌||◌, cond, eqb, List, [], ◌∷◌, ◌++◌, length, drop, Option, None, Some, refl, sym, ap, ◌∙◌, subst, arith, append_assoc}
 use Rattle.std.specs.Option.{option_map}
-use Rattle.std.proofs.lemmas.Bool.{eqb-true, ne_eqb}
+use Rattle.std.proofs.lemmas.Bool.{eqb-true, ne_eqb, or_from}
 use Rattle.std.proofs.lemmas.List.{length-append}
+use Rattle.mk_lemmas.proofs.Bools.{or-false_left, or-false_right}
 use Rattle.mk_lines.specs.Bytes.{is_byte}
 use Rattle.mk_lines.specs.References.{ReferenceState, closes, behind, behind_dollar, next_place, first_from, first_outside, pairs_with_dollar, DollarIsSingle, HasNoneOutside, Nothing, Byte, Dollars, Dollar, Round, Curly, FirstOutside}
 use Rattle.mk_lines.specs.Laws.{SearchFindsFirstOutside}
@@ -41,20 +42,12 @@ drawn_dollar b d = or_first (eqb b 36) (eqb b 40 || eqb b 123) d
     or_first true y e = absurd cc
     or_first false y e = refl
 
-or_second : (x y : Bool) → (x || y) ≡ false → y ≡ false
-or_second true y e = absurd cc
-or_second false y e = e
-
-or_left : (x y : Bool) → (x || y) ≡ false → x ≡ false
-or_left true y e = absurd cc
-or_left false y e = refl
-
 behind_alone : (ends : List ℕ) (b : ℕ) → pairs_with_dollar b ≡ false → behind_dollar ends b ≡ behind ends b
 behind_alone ends b d =
-    let rest = or_second (eqb b 36) (eqb b 40 || eqb b 123) d in
+    let rest = or-false_right (eqb b 36) (eqb b 40 || eqb b 123) d in
     ap (λ t. cond t (place ends false) (cond (eqb b 40) (place (41 ∷ ends) false) (cond (eqb b 123) (place (125 ∷ ends) false) (behind ends b)))) (drawn_dollar b d)
-    ∙ (ap (λ t. cond t (place (41 ∷ ends) false) (cond (eqb b 123) (place (125 ∷ ends) false) (behind ends b))) (or_left (eqb b 40) (eqb b 123) rest)
-    ∙ ap (λ t. cond t (place (125 ∷ ends) false) (behind ends b)) (or_second (eqb b 40) (eqb b 123) rest))
+    ∙ (ap (λ t. cond t (place (41 ∷ ends) false) (cond (eqb b 123) (place (125 ∷ ends) false) (behind ends b))) (or-false_left (eqb b 40) (eqb b 123) rest)
+    ∙ ap (λ t. cond t (place (125 ∷ ends) false) (behind ends b)) (or-false_right (eqb b 40) (eqb b 123) rest))
 
 dollar_alone : (wanted : ℕ → Bool) (ends text : List ℕ) → DollarIsSingle text → first_from wanted (place ends true) text ≡ first_from wanted (place ends false) text
 unfolding first_from
@@ -254,9 +247,6 @@ after_other : (n : ℕ) → Parses n → (w wanted : ℕ → Bool) (ends : List 
 after_other n go w wanted ends fit d text m a lt e =
     parsed_dollar w wanted ends text d (suc m) m a refl (go w wanted ends fit (d ∷ text) m lt (sym (dollar_alone wanted ends (d ∷ text) a) ∙ e))
 
-or_false : (x y : Bool) → x ≡ false → y ≡ false → (x || y) ≡ false
-or_false x y e f = ap (λ z. z || y) e ∙ f
-
 after_dollar : (two round curly : Bool) (n : ℕ) → Parses n → (w wanted : ℕ → Bool) (ends : List ℕ)
     → Fit w wanted ends → (d : ℕ) (text : List ℕ) (m : ℕ) → eqb d 36 ≡ two → eqb d 40 ≡ round → eqb d 123
     ≡ curly → length (d ∷ text) < n → first_from wanted (place ends true) (d ∷ text) ≡ Some m
@@ -268,7 +258,7 @@ after_dollar false true curly n go w wanted ends fit d text m a b c lt =
 after_dollar false false true n go w wanted ends fit d text m a b c lt =
     subst (λ x. first_from wanted (place ends true) (x ∷ text) ≡ Some m → Parsed w wanted ends (36 ∷ x ∷ text) (suc m)) (sym (eqb-true d 123 c)) (after_curly n go w wanted ends fit text m (omega arith))
 after_dollar false false false n go w wanted ends fit d text m a b c lt =
-    after_other n go w wanted ends fit d text m (or_false (eqb d 36) (eqb d 40 || eqb d 123) a (or_false (eqb d 40) (eqb d 123) b c)) lt
+    after_other n go w wanted ends fit d text m (or_from (eqb d 36) (eqb d 40 || eqb d 123) a (or_from (eqb d 40) (eqb d 123) b c)) lt
 
 dollar_on : (n : ℕ) → Parses n → (w wanted : ℕ → Bool) (ends : List ℕ) → Fit w wanted ends → (text : List ℕ) (m : ℕ) → length text < n → first_from wanted (place ends true) text ≡ Some m → Parsed w wanted ends (36 ∷ text) (suc m)
 dollar_on n go w wanted ends fit [] m lt e = absurd (let f : None ≡ Some m = sym (found_nil wanted (place ends true)) ∙ e in cc)

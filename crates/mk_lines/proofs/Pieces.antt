@@ -27,10 +27,10 @@ pub some_piece : (text : List ℕ) → 0 < length (pieces text)
 some_piece text = omega (arith, length-slice_split (is_byte 10) text)
 
 -- blanks that lead a text
-trimmed_blank : (b : ℕ) (text : List ℕ) → is_blank b ≡ true → trimmed (b ∷ text) ≡ trimmed text
+pub trimmed_blank : (b : ℕ) (text : List ℕ) → is_blank b ≡ true → trimmed (b ∷ text) ≡ trimmed text
 trimmed_blank b text e = ap (λ t. drop (cond t (1 + prefix_len is_blank text) 0) (b ∷ text)) e ∙ ap (λ n. drop n (b ∷ text)) (let s : 1 + prefix_len is_blank text ≡ suc (prefix_len is_blank text) = omega arith in s)
 
-trimmed_other : (b : ℕ) (text : List ℕ) → is_blank b ≡ false → trimmed (b ∷ text) ≡ b ∷ text
+pub trimmed_other : (b : ℕ) (text : List ℕ) → is_blank b ≡ false → trimmed (b ∷ text) ≡ b ∷ text
 trimmed_other b text e = ap (λ t. drop (cond t (1 + prefix_len is_blank text) 0) (b ∷ text)) e
 
 newline_is_no_blank : (b : ℕ) → is_blank b ≡ true → is_byte 10 b ≡ false

@@ -1,12 +1,12 @@
 -- Places of names.
-use Rattle.std.proofs.Common.{◌-◌, ◌≡◌, ℕ, suc, ◌+◌, ◌<◌, ◌≤◌, Bool, true, false, ◌||◌, cond, List, [], ◌∷◌, ◌++◌, length, Option, Some, None, refl, sym, ap, ◌∙◌, arith, inl, inr, true≢false, map, get_or, take, String, Global, string_bytes, length-take-le}
-use Rattle.std.proofs.lemmas.Bool.{cases_Bool, false_from_ne_true, both_ways}
+use Rattle.std.proofs.Common.{◌-◌, ◌≡◌, ℕ, suc, ◌+◌, ◌<◌, ◌≤◌, Bool, true, false, ◌||◌, cond, List, [], ◌∷◌, ◌++◌, length, Option, Some, None, refl, sym, ap, ◌∙◌, arith, true≢false, map, get_or, take, String, Global, string_bytes, length-take-le}
 use Rattle.std.proofs.lemmas.Slice.Eq.{bytes_eq-Decides}
 use Rattle.std.proofs.lemmas.List.{take_more, map_push, length-map}
 use Rattle.std.specs.Prelude.{is_some, IfSome}
 use Rattle.std.specs.Str.{bytes_eq}
 use Rattle.std.specs.HashMap.{HashMap, get_by_text}
 use Rattle.std.specs.Map.{lookup}
+use Rattle.mk_lemmas.proofs.Texts.{bytes_eq-sym}
 use Rattle.mk_lines.specs.Names.{has_name, place_from, else_last}
 use Rattle.mk_lines.specs.Places.{place_in}
 
@@ -35,7 +35,7 @@ place_within n [] name = tt
 place_within n (other ∷ names) name = below_or (bytes_eq name other) n _ _ (omega arith) (widened (place_from (n + 1) names name) (n + 1 + length names) (n + suc (length names)) (omega arith) (place_within (n + 1) names name))
 
 -- one more at the end has a place there, unless it had one before
-else_or : (b : Bool) (n m : ℕ) (o new : Option ℕ) (last : Bool) → new ≡ else_last o last m → cond b (Some n) new ≡ else_last (cond b (Some n) o) last m
+pub else_or : (b : Bool) (n m : ℕ) (o new : Option ℕ) (last : Bool) → new ≡ else_last o last m → cond b (Some n) new ≡ else_last (cond b (Some n) o) last m
 else_or true n m o new last e = refl
 else_or false n m o new last e = e
 
@@ -45,14 +45,6 @@ place_push n [] more name = ap (λ m. cond (bytes_eq name more) (Some m) None) (
 place_push n (other ∷ names) more name =
     let at : n + 1 + length names ≡ n + suc (length names) = omega arith in
     else_or (bytes_eq name other) n _ _ _ _ (place_push (n + 1) names more name ∙ ap (else_last (place_from (n + 1) names name) (bytes_eq name more)) at)
-
--- equal either way
-pub bytes_eq_sym : (a b : List ℕ) → bytes_eq a b ≡ bytes_eq b a
-bytes_eq_sym a b =
-    elim (cases_Bool (bytes_eq a b)) [
-      | inl t ↦ t ∙ sym ((bytes_eq-Decides b a).1 (sym ((bytes_eq-Decides a b).0 t)))
-      | inr f ↦ f ∙ sym (false_from_ne_true _ (λ t. both_ways _ f ((bytes_eq-Decides a b).1 (sym ((bytes_eq-Decides b a).0 t)))))
-    ]
 
 -- a name that has a place keeps it
 kept : (o : Option ℕ) (b : Bool) (n : ℕ) → (b ≡ true → is_some o ≡ true) → o ≡ else_last o b n
@@ -72,7 +64,7 @@ pub keeps_place : (place : List ℕ → Option ℕ) (name q : List ℕ) (n : ℕ
 keeps_place place name q n h = kept (place q) (bytes_eq q name) n (λ t. ap (λ x. is_some (place x)) ((bytes_eq-Decides q name).0 t) ∙ h)
 
 pub gets_place : (place : List ℕ → Option ℕ) (name q : List ℕ) (n : ℕ) → is_some (place name) ≡ false → cond (bytes_eq name q) (Some n) (place q) ≡ else_last (place q) (bytes_eq q name) n
-gets_place place name q n h = ap (λ b. cond b (Some n) (place q)) (bytes_eq_sym name q) ∙ placed (place q) (bytes_eq q name) n (λ t. ap (λ x. is_some (place x)) ((bytes_eq-Decides q name).0 t) ∙ h)
+gets_place place name q n h = ap (λ b. cond b (Some n) (place q)) (bytes_eq-sym name q) ∙ placed (place q) (bytes_eq q name) n (λ t. ap (λ x. is_some (place x)) ((bytes_eq-Decides q name).0 t) ∙ h)
 
 -- one more of the names is noted
 pub next_place : (before after : Option ℕ) (names : List (String Global)) (i : ℕ) (d : String Global) (name q : List ℕ) → name ≡ string_bytes (get_or names i d) → after ≡ else_last before (bytes_eq q name) i

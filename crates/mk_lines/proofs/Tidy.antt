@@ -1,8 +1,9 @@
 -- Paths that pass the fast test have the shape of a path.
-use Rattle.std.proofs.Common.{◌≡◌, ℕ, Bool, true, false, not, ◌&&◌, ◌||◌, ◌==◌, cond, List, [], ◌∷◌, ◌-◌, ◌<◌, ◌≤◌, length, get_or, take, drop, refl, sym, ap, ◌∙◌, true≢false, arith}
+use Rattle.std.proofs.Common.{◌≡◌, ℕ, Bool, true, false, not, ◌&&◌, ◌||◌, ◌==◌, cond, List, [], ◌∷◌, ◌<◌, ◌≤◌, length, get_or, drop, refl, sym, ap, ◌∙◌, true≢false, arith}
 use Rattle.std.specs.List.{slice_split, onto_first, list_all}
-use Rattle.std.proofs.lemmas.Bool.{ne_eqb, lt-ltb}
+use Rattle.std.proofs.lemmas.Bool.{ne_eqb, lt-ltb, and_parts, not-true, or_parts}
 use Rattle.std.proofs.lemmas.List.{drop_all, take_rest}
+use Rattle.mk_lines.proofs.Hashes.{behind_first}
 use Rattle.mk_lines.specs.Bytes.{is_byte}
 use Rattle.mk_lines.specs.Paths.{is_visible, is_proper, are_components}
 use Rattle.mk_lines.proofs.Components.{absolute}
@@ -16,24 +17,12 @@ abbrev pub tidy_from : ℕ → List ℕ → Bool
 tidy_from before [] = not (before == 47)
 tidy_from before (b ∷ bs) = follows before b && tidy_from b bs
 
-both_true : (a b : Bool) → (a && b) ≡ true → (a ≡ true) × (b ≡ true)
-both_true true b e = (refl, e)
-both_true false b e = absurd (true≢false (sym e))
-
-none_true : (b : Bool) → not b ≡ true → b ≡ false
-none_true true e = absurd (true≢false (sym e))
-none_true false e = refl
-
-neither : (a b : Bool) → (a || b) ≡ false → (a ≡ false) × (b ≡ false)
-neither true b e = absurd (true≢false e)
-neither false b e = (refl, e)
-
 -- the bytes are visible
 seen : (before : ℕ) (bs : List ℕ) → tidy_from before bs ≡ true → list_all is_visible bs ≡ true
 seen before [] e = refl
 seen before (b ∷ bs) e =
-    let h = both_true (follows before b) (tidy_from b bs) e in
-    let v = both_true (is_visible b) _ h.0 in
+    let h = and_parts (follows before b) (tidy_from b bs) e in
+    let v = and_parts (is_visible b) _ h.0 in
     rw v.0 (seen b bs h.1)
 
 -- all parts but the first are proper
@@ -69,15 +58,15 @@ next_part b bs false at h = rest_onto b (parts bs) ∙ h.1 at
 -- the first byte of a part behind a slash
 first_part : (before b : ℕ) (bs : List ℕ) → (before == 47) ≡ true → not (before == 47 && (b == 47 || b == 46)) ≡ true → Behind b bs → list_all is_proper (parts (b ∷ bs)) ≡ true
 first_part before b bs at turns h =
-    let n = neither (b == 47) (b == 46) (none_true _ (sym (ap (λ t. not (t && (b == 47 || b == 46))) at) ∙ turns)) in
+    let n = or_parts (b == 47) (b == 46) (not-true _ (sym (ap (λ t. not (t && (b == 47 || b == 46))) at) ∙ turns)) in
     let split : parts (b ∷ bs) ≡ onto_first b (parts bs) = rw n.0 refl in
     ap (list_all is_proper) split ∙ proper_onto b (parts bs) n.1 (h.1 n.0)
 
 behind : (before : ℕ) (bs : List ℕ) → tidy_from before bs ≡ true → Behind before bs
 behind before [] e = (λ at. absurd (true≢false (sym e ∙ ap not at)), λ at. refl)
 behind before (b ∷ bs) e =
-    let h = both_true (follows before b) (tidy_from b bs) e in
-    let v = both_true (is_visible b) _ h.0 in
+    let h = and_parts (follows before b) (tidy_from b bs) e in
+    let v = and_parts (is_visible b) _ h.0 in
     let left : Behind b bs = behind b bs h.1 in
     (λ at. first_part before b bs at v.1 left, λ at. next_part b bs (b == 47) refl left)
 
@@ -97,11 +86,8 @@ whole b bs false at dot e =
 -- a name whose bytes have all been looked at
 of_bytes : (b : ℕ) (bs : List ℕ) → (is_visible b && not (b == 46)) ≡ true → tidy_from b bs ≡ true → (list_all is_visible (b ∷ bs) ≡ true) × (are_components (parts (b ∷ bs)) ≡ true)
 of_bytes b bs first e =
-    let h = both_true (is_visible b) (not (b == 46)) first in
-    (rw h.0 (seen b bs e), whole b bs (b == 47) refl (none_true (b == 46) h.1) e)
-
-abbrev pub behind_first : List ℕ → List ℕ
-behind_first name = take (length name - 1) (drop 1 name)
+    let h = and_parts (is_visible b) (not (b == 46)) first in
+    (rw h.0 (seen b bs e), whole b bs (b == 47) refl (not-true (b == 46) h.1) e)
 
 -- a first byte that passes the test
 first_is : (b : ℕ) → 32 < b → ¬ (b ≡ 127) → ¬ (b ≡ 46) → (is_visible b && not (b == 46)) ≡ true

@@ -1,7 +1,7 @@
 -- The lines of two texts in sequence.
 use Rattle.std.proofs.Common.{◌≡◌, ℕ, ◌+◌, ◌<◌, ◌%◌, Bool, true, false, not, cond, eqb, List, [], ◌∷◌, ◌++◌, length, drop, map, filter, reverse, refl, sym, ap, ◌∙◌, arith, append_assoc, append-nil}
 use Rattle.std.specs.List.{onto_first, prefix_len}
-use Rattle.std.proofs.lemmas.Bool.{eqb-true}
+use Rattle.std.proofs.lemmas.Bool.{eqb-true, not-true}
 use Rattle.std.proofs.lemmas.List.{reverse-append, map-append}
 use Rattle.std.proofs.lemmas.List.Elements.{filter-append}
 use Rattle.mk_lines.specs.Bytes.{is_byte, is_blank_alone}
@@ -83,15 +83,11 @@ runs_case : (t : Bool) (part : List ℕ) (rs ss : List (List (List ℕ))) → 0 
 runs_case true part rs ss lt = goes_append part rs ss lt
 runs_case false part rs ss lt = refl
 
-not_false : (t : Bool) → not t ≡ true → t ≡ false
-not_false true e = absurd cc
-not_false false e = refl
-
 runs_append : (xs ys : List (List ℕ)) → ends xs ≡ true → runs (xs ++ ys) ≡ runs xs ++ runs ys
 unfolding runs
 runs_append [] ys e = refl
 runs_append (part ∷ []) ys e =
-    ap (λ t. cond t (with_piece_in_front part (runs ys)) ((part ∷ []) ∷ runs ys)) (not_false (escapes part) e) ∙ sym (ap (λ t. cond t (with_piece_in_front part []) ((part ∷ []) ∷ []) ++ runs ys) (not_false (escapes part) e))
+    ap (λ t. cond t (with_piece_in_front part (runs ys)) ((part ∷ []) ∷ runs ys)) (not-true (escapes part) e) ∙ sym (ap (λ t. cond t (with_piece_in_front part []) ((part ∷ []) ∷ []) ++ runs ys) (not-true (escapes part) e))
 runs_append (part ∷ next ∷ xs) ys e =
     ap (λ rs. cond (escapes part) (with_piece_in_front part rs) ((part ∷ []) ∷ rs)) (runs_append (next ∷ xs) ys e) ∙ runs_case (escapes part) part (runs (next ∷ xs)) (runs ys) (some_run next xs)
 

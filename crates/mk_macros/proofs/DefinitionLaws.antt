@@ -6,6 +6,7 @@ use Rattle.mk_lines.specs.Bytes.{is_byte, trimmed}
 use Rattle.mk_macros.specs.Substitution.{ends_with, without_end}
 use Rattle.std.proofs.lemmas.Bool.{le-ltb}
 use Rattle.std.proofs.lemmas.Slice.Eq.{bytes_eq-Decides}
+use Rattle.mk_macros.proofs.OtherMacros.{Keeps, keeps_step, keeps_stored}
 use Rattle.mk_macros.specs.declared.fault.MacroFault.{MacroFault}
 use Rattle.mk_macros.specs.declared.fault.MacroFault.TheVariants.{BadMacroName, ValueTooLong}
 use Rattle.mk_macros.specs.declared.op.Op.{Op}
@@ -16,34 +17,6 @@ use Rattle.mk_macros.specs.Expansion.{Expanded, expansion}
 use Rattle.mk_macros.specs.Steps.{◌>>=◌}
 use Rattle.mk_macros.specs.Definitions.{stored, appended, with_more, if_unset, set, is_fixed, defined, operator_of, operand_set, with_operand, without_blanks}
 use Rattle.mk_macros.specs.Laws.{after_definitions, OperandsWin, AppendingToNothing, AppendingToDelayed, AppendingToImmediate, OperandsFix, IsFixed, operand_name}
-
--- what a name means stays
-abbrev Keeps : List Macro → List ℕ → Result (List Macro) MacroFault → Type 0
-Keeps table name result = (after : List Macro) → result ≡ Ok after → macro_named after name ≡ macro_named table name
-
--- another macro leaves it
-other_macro : (table : List Macro) (macro : Macro) (name : List ℕ) → bytes_eq name macro.name ≡ false → macro_named (with_macro table macro) name ≡ macro_named table name
-unfolding with_macro
-other_macro [] macro name other = ap (λ b. cond b (Some macro) None) other
-other_macro (first ∷ table) macro name other = at (is_called macro.name first) refl (other_macro table macro name other)
-  where
-    at : (b : Bool) → is_called macro.name first ≡ b → macro_named (with_macro table macro) name ≡ macro_named table name
-        → macro_named (cond b (macro ∷ table) (first ∷ with_macro table macro)) name ≡ macro_named (first ∷ table) name
-    at true t ih =
-        let same : macro.name ≡ first.name = (bytes_eq-Decides macro.name first.name).0 t in
-        ap (λ b. cond b (Some macro) (macro_named table name)) other ∙ ap (λ b. cond b (Some first) (macro_named table name)) (sym (ap (bytes_eq name) (sym same) ∙ other))
-    at false f ih = ap (λ (o : Option Macro). cond (is_called name first) (Some first) o) ih
-
-keeps_stored : (table : List Macro) (macro : Macro) (name : List ℕ) → bytes_eq name macro.name ≡ false → Keeps table name (stored table macro)
-keeps_stored table macro name other = at (ltb 1048576 (length macro.text))
-  where
-    at : (b : Bool) → Keeps table name (cond b (Err ValueTooLong) (Ok (with_macro table macro)))
-    at true after e = absurd cc
-    at false after e = let same : with_macro table macro ≡ after = cc in ap (λ (ms : List Macro). macro_named ms name) (sym same) ∙ other_macro table macro name other
-
-keeps_step : {A : Type 0} (table : List Macro) (name : List ℕ) (r : Result A MacroFault) (f : A → Result (List Macro) MacroFault) → ((x : A) → Keeps table name (f x)) → Keeps table name (r >>= f)
-keeps_step table name (Ok x) f keeps = keeps x
-keeps_step table name (Err fault) f keeps = λ after e. absurd cc
 
 keeps_same : (table : List Macro) (name : List ℕ) → Keeps table name (Ok table)
 keeps_same table name after e = let same : table ≡ after = cc in ap (λ (ms : List Macro). macro_named ms name) (sym same)

@@ -1,5 +1,5 @@
 -- Names without repetition, each at its first place.
-use Rattle.std.proofs.Common.{◌≡◌, ℕ, ◌+◌, ◌<◌, ◌≤◌, Bool, true, false, not, ◌&&◌, ◌||◌, cond, List, [], ◌∷◌, ◌++◌, map, length, get_or, drop, refl, sym, ap, ◌∙◌, append_assoc, append-nil}
+use Rattle.std.proofs.Common.{◌≡◌, ℕ, ◌+◌, ◌<◌, ◌≤◌, Bool, true, false, not, ◌&&◌, ◌||◌, cond, List, [], ◌∷◌, ◌++◌, length, get_or, drop, refl, sym, ap, ◌∙◌, append_assoc, append-nil}
 use Rattle.std.specs.Prelude.{filter}
 use Rattle.std.specs.List.{list_any}
 use Rattle.std.specs.Borrow.{Bor}
@@ -8,24 +8,13 @@ use Rattle.std.proofs.lemmas.List.{drop_more, drop_all, map_push}
 use Rattle.std.proofs.lemmas.List.Folds.{list_any-append}
 use Rattle.std.proofs.lemmas.List.Elements.{filter_agree}
 use Rattle.std.proofs.lemmas.Slice.Eq.{bytes_eq-Decides}
+use Rattle.mk_lemmas.proofs.Texts.{texts}
+use Rattle.mk_lemmas.proofs.Lists.{filter-filter}
 use Rattle.mk_macros.specs.Locals.{distinct}
-
--- what names of the code spell
-abbrev pub texts : List (Bor (List ℕ)) → List (List ℕ)
-texts names = map (λ (name : Bor (List ℕ)). name.now) names
 
 -- the name is among the names
 abbrev has : List (List ℕ) → List ℕ → Bool
 has names name = list_any (λ other. bytes_eq name other) names
-
--- two filters are one
-filter_filter : {A : Type 0} (p q : A → Bool) (xs : List A) → filter p (filter q xs) ≡ filter (λ x. q x && p x) xs
-filter_filter p q [] = refl
-filter_filter {A} p q (x ∷ xs) = at (q x) (filter_filter p q xs)
-  where
-    at : (b : Bool) → filter p (filter q xs) ≡ filter (λ y. q y && p y) xs → filter p (cond b (x ∷ filter q xs) (filter q xs)) ≡ cond (b && p x) (x ∷ filter (λ y. q y && p y) xs) (filter (λ y. q y && p y) xs)
-    at true e = ap (λ (ys : List A). cond (p x) (x ∷ ys) ys) e
-    at false e = e
 
 -- a name that is there isn't new
 there : (set : List (List ℕ)) (x y : List ℕ) → has set x ≡ true → (b : Bool) → bytes_eq y x ≡ b → (not b && not (has set y)) ≡ not (has set y)
@@ -51,10 +40,10 @@ one_into : (set : List (List ℕ)) (x : List ℕ) (rest : List (List ℕ)) (b : 
 unfolding distinct
 one_into set x rest true h =
     let skipped : filter (λ name. not (has set name)) (distinct (x ∷ rest)) ≡ filter (λ name. not (has set name)) (filter (λ other. not (bytes_eq other x)) (distinct rest)) = rw h refl in
-    ap (λ ns. set ++ ns) (skipped ∙ (filter_filter (λ name. not (has set name)) (λ other. not (bytes_eq other x)) (distinct rest) ∙ filter_agree _ (λ name. not (has set name)) (λ y. there set x y h (bytes_eq y x) refl) (distinct rest)))
+    ap (λ ns. set ++ ns) (skipped ∙ (filter-filter (λ name. not (has set name)) (λ other. not (bytes_eq other x)) (distinct rest) ∙ filter_agree _ (λ name. not (has set name)) (λ y. there set x y h (bytes_eq y x) refl) (distinct rest)))
 one_into set x rest false h =
     let kept : filter (λ name. not (has set name)) (distinct (x ∷ rest)) ≡ x ∷ filter (λ name. not (has set name)) (filter (λ other. not (bytes_eq other x)) (distinct rest)) = rw h refl in
-    ap (λ ns. set ++ ns) (kept ∙ ap (λ ns. x ∷ ns) (filter_filter (λ name. not (has set name)) (λ other. not (bytes_eq other x)) (distinct rest) ∙ filter_agree _ (λ name. not (has (set ++ x ∷ []) name)) (λ y. new_beside set x y) (distinct rest)))
+    ap (λ ns. set ++ ns) (kept ∙ ap (λ ns. x ∷ ns) (filter-filter (λ name. not (has set name)) (λ other. not (bytes_eq other x)) (distinct rest) ∙ filter_agree _ (λ name. not (has (set ++ x ∷ []) name)) (λ y. new_beside set x y) (distinct rest)))
     ∙ sym (append_assoc set (x ∷ []) (filter (λ name. not (has (set ++ x ∷ []) name)) (distinct rest)))
 
 has_texts : (keys : List (Bor (List ℕ))) (name : List ℕ) → list_any (λ (other : Bor (List ℕ)). bytes_eq name other.now) keys ≡ has (texts keys) name

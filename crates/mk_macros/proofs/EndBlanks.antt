@@ -1,7 +1,7 @@
 -- The blanks at the end of a text.
-use Rattle.std.proofs.Common.{◌≡◌, ℕ, suc, ◌+◌, ◌<◌, true, false, cond, List, [], ◌∷◌, length, get_or, take, drop, reverse, sym, ap, ◌∙◌, arith}
-use Rattle.std.specs.List.{prefix_len}
+use Rattle.std.proofs.Common.{◌≡◌, ℕ, ◌+◌, ◌<◌, true, false, List, [], ◌∷◌, length, get_or, take, reverse, sym, ap, ◌∙◌, arith}
 use Rattle.std.proofs.lemmas.List.{take_more, take_all, reverse-append, reverse-reverse}
+use Rattle.mk_lines.proofs.Pieces.{trimmed_blank, trimmed_other}
 use Rattle.mk_lines.specs.Bytes.{is_blank, trimmed}
 
 -- the text without the blanks at its end
@@ -12,14 +12,6 @@ ended text = reverse (trimmed (reverse text))
 turned : (text : List ℕ) (before : ℕ) (d : ℕ) → before < length text → reverse (take (before + 1) text) ≡ get_or text before d ∷ reverse (take before text)
 turned text before d lt = ap reverse (take_more text before d lt) ∙ reverse-append (take before text) (get_or text before d ∷ [])
 
-trimmed_blank : (b : ℕ) (text : List ℕ) → is_blank b ≡ true → trimmed (b ∷ text) ≡ trimmed text
-trimmed_blank b text h =
-    let one : 1 + prefix_len is_blank text ≡ suc (prefix_len is_blank text) = omega arith in
-    ap (λ c. drop (cond c (1 + prefix_len is_blank text) 0) (b ∷ text)) h ∙ ap (λ n. drop n (b ∷ text)) one
-
-trimmed_not : (b : ℕ) (text : List ℕ) → is_blank b ≡ false → trimmed (b ∷ text) ≡ b ∷ text
-trimmed_not b text h = ap (λ c. drop (cond c (1 + prefix_len is_blank text) 0) (b ∷ text)) h
-
 -- a blank at the end
 pub ended_blank : (text : List ℕ) (end before d : ℕ) → end ≡ before + 1 → before < length text → is_blank (get_or text before d) ≡ true → ended (take before text) ≡ ended (take end text)
 ended_blank text end before d e lt h = sym (ap (λ n. ended (take n text)) e ∙ (ap (λ (t : List ℕ). reverse (trimmed t)) (turned text before d lt) ∙ ap reverse (trimmed_blank (get_or text before d) (reverse (take before text)) h)))
@@ -28,7 +20,7 @@ ended_blank text end before d e lt h = sym (ap (λ n. ended (take n text)) e ∙
 pub ended_not : (text : List ℕ) (end before d : ℕ) → end ≡ before + 1 → before < length text → is_blank (get_or text before d) ≡ false → take end text ≡ ended (take end text)
 ended_not text end before d e lt h =
     let at : take (before + 1) text ≡ ended (take (before + 1) text) =
-    sym (ap (λ (t : List ℕ). reverse (trimmed t)) (turned text before d lt) ∙ (ap reverse (trimmed_not (get_or text before d) (reverse (take before text)) h) ∙ (ap reverse (sym (turned text before d lt)) ∙ reverse-reverse (take (before + 1) text)))) in
+    sym (ap (λ (t : List ℕ). reverse (trimmed t)) (turned text before d lt) ∙ (ap reverse (trimmed_other (get_or text before d) (reverse (take before text)) h) ∙ (ap reverse (sym (turned text before d lt)) ∙ reverse-reverse (take (before + 1) text)))) in
     ap (λ n. take n text) e ∙ (at ∙ ap (λ n. ended (take n text)) (sym e))
 
 -- at the start all is left

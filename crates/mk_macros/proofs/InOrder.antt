@@ -1,7 +1,7 @@
 -- Forms in order, each appended to the values before it.
 use Rattle.std.proofs.Common.{◌≡◌, ℕ, zero, suc, ◌+◌, ◌-◌, ◌<◌, ◌≤◌, Bool, true, false, eqb, ltb, ◌||◌, List, [], ◌∷◌, ◌++◌, length, Result, Ok, Err, refl, sym, ap, subst, ◌∙◌, inl, inr, arith, append_assoc, length-append}
 use Rattle.std.proofs.Math.Bool.{or-false}
-use Rattle.std.proofs.lemmas.Bool.{cases_Bool, cases_lt, cond-true, cond-false}
+use Rattle.std.proofs.lemmas.Bool.{cases_Bool, cases_lt, cond-true, cond-false, le-ltb, lt-ltb, ltb-false}
 use Rattle.std.proofs.lemmas.Bool.Decides.{nat_tests}
 use Rattle.std.proofs.lemmas.List.{append-nil}
 use Rattle.std.specs.List.{list_any}
@@ -14,34 +14,25 @@ use Rattle.mk_macros.specs.Appending.{below, within}
 use Rattle.mk_macros.specs.Steps.{◌>>=◌}
 use Rattle.mk_macros.proofs.FormLists.{forms_nil, forms_byte, forms_dollar}
 
-not_over : (m n : ℕ) → n ≤ m → ltb m n ≡ false
-not_over m n h = grind (arith, nat_tests)
-
-over : (m n : ℕ) → m < n → ltb m n ≡ true
-over m n h = grind (arith, nat_tests)
-
-pub under : (m n : ℕ) → ltb m n ≡ false → n ≤ m
-under m n e = grind (arith, nat_tests)
-
 -- a value fits
 pub fits : (value : Expanded) → length value.text ≤ 1048576 → fitting value ≡ Ok value
-fits value h = cond-false (ltb 1048576 (length value.text)) (Err ValueTooLong) (Ok value) (not_over 1048576 (length value.text) h)
+fits value h = cond-false (ltb 1048576 (length value.text)) (Err ValueTooLong) (Ok value) (le-ltb 1048576 (length value.text) h)
 
 pub fits_not : (value : Expanded) → 1048576 < length value.text → fitting value ≡ Err ValueTooLong
-fits_not value h = cond-true (ltb 1048576 (length value.text)) (Err ValueTooLong) (Ok value) (over 1048576 (length value.text) h)
+fits_not value h = cond-true (ltb 1048576 (length value.text)) (Err ValueTooLong) (Ok value) (lt-ltb 1048576 (length value.text) h)
 
 pub within_fits : (room : ℕ) (value : Expanded) → length value.text ≤ room → within room value ≡ Ok value
-within_fits room value h = cond-false (ltb room (length value.text)) (Err ValueTooLong) (Ok value) (not_over room (length value.text) h)
+within_fits room value h = cond-false (ltb room (length value.text)) (Err ValueTooLong) (Ok value) (le-ltb room (length value.text) h)
 
 pub within_not : (room : ℕ) (value : Expanded) → room < length value.text → within room value ≡ Err ValueTooLong
-within_not room value h = cond-true (ltb room (length value.text)) (Err ValueTooLong) (Ok value) (over room (length value.text) h)
+within_not room value h = cond-true (ltb room (length value.text)) (Err ValueTooLong) (Ok value) (lt-ltb room (length value.text) h)
 
 -- what was within a room is what it was, and there was room for it
 pub within_ok : (room : ℕ) (value found : Expanded) → within room value ≡ Ok found → (value ≡ found) × (length value.text ≤ room)
 within_ok room value found e =
     elim (cases_Bool (ltb room (length value.text))) [
       | inl t ↦ absurd (err_is_not_ok (sym (cond-true (ltb room (length value.text)) (Err ValueTooLong) (Ok value) t) ∙ e))
-      | inr f ↦ (ok_same (sym (cond-false (ltb room (length value.text)) (Err ValueTooLong) (Ok value) f) ∙ e), under room (length value.text) f)
+      | inr f ↦ (ok_same (sym (cond-false (ltb room (length value.text)) (Err ValueTooLong) (Ok value) f) ∙ e), ltb-false room (length value.text) f)
     ]
   where
     err_is_not_ok : {A : Type 0} {fault : MacroFault} {x : A} → Err fault ≡ Ok x → ⊥

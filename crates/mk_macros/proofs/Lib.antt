@@ -1,4 +1,3 @@
-pub mod ByteTests
 pub mod Cuts
 pub mod FormLists
 pub mod InOrder

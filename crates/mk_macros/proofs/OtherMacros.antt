@@ -17,11 +17,11 @@ use Rattle.mk_macros.specs.Substitution.{ends_with, without_end}
 use Rattle.mk_macros.specs.Table.{Macro, is_called, macro_named, with_macro}
 
 -- where a table results, the name has the same meaning
-abbrev Keeps : List Macro → List ℕ → Result (List Macro) MacroFault → Type 0
+abbrev pub Keeps : List Macro → List ℕ → Result (List Macro) MacroFault → Type 0
 Keeps table name result = (after : List Macro) → result ≡ Ok after → macro_named after name ≡ macro_named table name
 
 -- a macro of another name leaves it
-other_macro : (table : List Macro) (macro : Macro) (name : List ℕ) → bytes_eq name macro.name ≡ false → macro_named (with_macro table macro) name ≡ macro_named table name
+pub other_macro : (table : List Macro) (macro : Macro) (name : List ℕ) → bytes_eq name macro.name ≡ false → macro_named (with_macro table macro) name ≡ macro_named table name
 unfolding with_macro
 other_macro [] macro name other = ap (λ b. cond b (Some macro) None) other
 other_macro (first ∷ table) macro name other = at (is_called macro.name first) refl (other_macro table macro name other)
@@ -33,14 +33,14 @@ other_macro (first ∷ table) macro name other = at (is_called macro.name first)
         ap (λ b. cond b (Some macro) (macro_named table name)) other ∙ ap (λ b. cond b (Some first) (macro_named table name)) (sym (ap (bytes_eq name) (sym same) ∙ other))
     at false f ih = ap (λ (o : Option Macro). cond (is_called name first) (Some first) o) ih
 
-keeps_stored : (table : List Macro) (macro : Macro) (name : List ℕ) → bytes_eq name macro.name ≡ false → Keeps table name (stored table macro)
+pub keeps_stored : (table : List Macro) (macro : Macro) (name : List ℕ) → bytes_eq name macro.name ≡ false → Keeps table name (stored table macro)
 keeps_stored table macro name other = at (ltb 1048576 (length macro.text))
   where
     at : (b : Bool) → Keeps table name (cond b (Err ValueTooLong) (Ok (with_macro table macro)))
     at true after e = absurd cc
     at false after e = let same : with_macro table macro ≡ after = cc in ap (λ (ms : List Macro). macro_named ms name) (sym same) ∙ other_macro table macro name other
 
-keeps_step : {A : Type 0} (table : List Macro) (name : List ℕ) (r : Result A MacroFault) (f : A → Result (List Macro) MacroFault) → ((x : A) → Keeps table name (f x)) → Keeps table name (r >>= f)
+pub keeps_step : {A : Type 0} (table : List Macro) (name : List ℕ) (r : Result A MacroFault) (f : A → Result (List Macro) MacroFault) → ((x : A) → Keeps table name (f x)) → Keeps table name (r >>= f)
 keeps_step table name (Ok x) f keeps = keeps x
 keeps_step table name (Err fault) f keeps = λ after e. absurd cc
 

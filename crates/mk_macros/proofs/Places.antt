@@ -1,21 +1,14 @@
 -- Where bytes stand, and what texts begin and end with.
-use Rattle.std.proofs.Common.{◌≡◌, ℕ, suc, ◌+◌, ◌-◌, ◌<◌, ◌≤◌, Bool, true, false, not, ◌&&◌, ◌||◌, cond, ltb, leb, List, [], ◌∷◌, length, take, drop, Option, Some, None, inl, inr, refl, sym, ap, ◌∙◌, subst, arith}
+use Rattle.std.proofs.Common.{◌≡◌, ℕ, suc, ◌+◌, ◌-◌, ◌<◌, Bool, true, false, not, ◌&&◌, ◌||◌, cond, ltb, leb, List, [], ◌∷◌, length, take, drop, Option, Some, None, refl, sym, ap, ◌∙◌, subst, arith}
 use Rattle.std.specs.List.{position_or_len, before_first, after_first, list_any}
 use Rattle.std.proofs.lemmas.List.{take_all, drop_all, length-drop}
 use Rattle.std.specs.Str.{bytes_eq}
-use Rattle.std.proofs.lemmas.Bool.{ltb-false, leb-false, cases_Bool, false_from_ne_true, both_ways}
+use Rattle.std.proofs.lemmas.Bool.{ltb-false, leb-false, false_from_ne_true}
 use Rattle.std.proofs.lemmas.Option.{cond_some}
 use Rattle.std.proofs.lemmas.Slice.Eq.{bytes_eq-Decides}
+use Rattle.mk_lemmas.proofs.Texts.{bytes_eq-sym}
+use Rattle.mk_lemmas.proofs.Lists.{position_or_len-within}
 use Rattle.mk_macros.specs.Substitution.{ends_with}
-
--- a place lies within the list, or at its end
-pub place_within : {A : Type 0} (p : A → Bool) (xs : List A) → position_or_len p xs ≤ length xs
-place_within p [] = omega arith
-place_within p (x ∷ xs) = at (not (p x)) (place_within p xs)
-  where
-    at : (b : Bool) → position_or_len p xs ≤ length xs → cond b (1 + position_or_len p xs) 0 ≤ suc (length xs)
-    at true h = omega arith
-    at false h = omega arith
 
 -- what a search answers, where it finds a place
 pub place_found : {A : Type 0} (p : A → Bool) (xs : List A) (r : Option ℕ) (at : ℕ) → r ≡ cond (ltb (position_or_len p xs) (length xs)) (Some (position_or_len p xs)) None → r ≡ Some at → at ≡ position_or_len p xs
@@ -27,22 +20,14 @@ place_missing p xs r e is = not_below (ltb (position_or_len p xs) (length xs)) r
   where
     not_below : (b : Bool) → ltb (position_or_len p xs) (length xs) ≡ b → cond b (Some (position_or_len p xs)) None ≡ None → length xs ≡ position_or_len p xs
     not_below true t h = absurd cc
-    not_below false t h = omega (arith, ltb-false _ _ t, place_within p xs)
-
--- equal either way
-pub bytes_eq_sym : (a b : List ℕ) → bytes_eq a b ≡ bytes_eq b a
-bytes_eq_sym a b =
-    elim (cases_Bool (bytes_eq a b)) [
-      | inl t ↦ t ∙ sym ((bytes_eq-Decides b a).1 (sym ((bytes_eq-Decides a b).0 t)))
-      | inr f ↦ f ∙ sym (false_from_ne_true _ (λ t. both_ways _ f ((bytes_eq-Decides a b).1 (sym ((bytes_eq-Decides b a).0 t)))))
-    ]
+    not_below false t h = omega (arith, ltb-false _ _ t, position_or_len-within p xs)
 
 -- a text of std's test ends so
 pub ends_as : (back text : List ℕ) → bytes_eq back (drop (length text - length back) text) ≡ ends_with back text
 ends_as back text = by_length (leb (length back) (length text)) refl
   where
     by_length : (b : Bool) → leb (length back) (length text) ≡ b → bytes_eq back (drop (length text - length back) text) ≡ (b && bytes_eq (drop (length text - length back) text) back)
-    by_length true t = bytes_eq_sym back (drop (length text - length back) text)
+    by_length true t = bytes_eq-sym back (drop (length text - length back) text)
     by_length false f =
         let longer : length text < length back = leb-false _ _ f in
         let all : length text - length back ≡ 0 = omega arith in

@@ -1,9 +1,11 @@
 -- One reference `$(..)`, whose parts hold no references.
 use Rattle.std.proofs.Common.{◌≡◌, ℕ, suc, ◌≤◌, Bool, true, false, not, ◌&&◌, ◌||◌, cond, eqb, List, [], ◌∷◌, ◌++◌, length, drop, None, Some, Result, Ok, Err, refl, sym, ap, subst, ◌∙◌, inl, inr, arith, append_assoc}
 use Rattle.std.proofs.Math.Seq.{take-append_seam}
-use Rattle.std.proofs.lemmas.Bool.{cases_Bool, false≢true, eqb-true}
+use Rattle.std.proofs.lemmas.Bool.{cases_Bool, false≢true, eqb-true, and_parts, not-true}
 use Rattle.std.specs.List.{list_all, list_any}
 use Rattle.std.specs.Option.{option_map}
+use Rattle.mk_lemmas.proofs.Bools.{eqb-sym}
+use Rattle.mk_macros.proofs.Outside.{passes}
 use Rattle.mk_lines.specs.Bytes.{is_byte}
 use Rattle.mk_lines.specs.References.{next_place, first_from, first_outside}
 use Rattle.mk_macros.specs.declared.fault.MacroFault.{MacroFault}
@@ -18,7 +20,6 @@ use Rattle.mk_macros.specs.Expansion.{Expanded, Scope, ExpandedSubstitution, exp
 use Rattle.mk_macros.specs.Appending.{below}
 use Rattle.mk_macros.specs.Laws.{round, is_inert}
 use Rattle.mk_macros.specs.Steps.{◌>>=◌}
-use Rattle.mk_macros.proofs.ByteTests.{eqb_swap}
 use Rattle.mk_macros.proofs.FormLists.{forms_dollar}
 use Rattle.mk_macros.proofs.InOrder.{follow, in_order_cons, in_order_nil, follow_ok, expanded_is}
 use Rattle.mk_macros.proofs.Splits.{ok_same, step_of, follow_of}
@@ -33,26 +34,15 @@ clean_append : (wanted : ℕ → Bool) (xs ys : List ℕ) → IsClean wanted xs 
 clean_append wanted [] ys h k = k
 clean_append wanted (b ∷ xs) ys h k = (h.0, h.1, clean_append wanted xs ys h.2 k)
 
-both : (x y : Bool) → (x && y) ≡ true → (x ≡ true) × (y ≡ true)
-both true y e = (refl, e)
-both false y e = absurd (false≢true e)
-
 clean_all : (p wanted : ℕ → Bool) → ((b : ℕ) → p b ≡ true → wanted b ≡ false) → ((b : ℕ) → p b ≡ true → eqb b 36 ≡ false) → (xs : List ℕ) → list_all p xs ≡ true → IsClean wanted xs
 clean_all p wanted f g [] h = tt
 clean_all p wanted f g (b ∷ xs) h =
-    let s = both (p b) (list_all p xs) h in
+    let s = and_parts (p b) (list_all p xs) h in
     (f b s.0, g b s.0, clean_all p wanted f g xs s.1)
 
 clean_plain : (wanted : ℕ → Bool) (xs : List ℕ) → IsClean wanted xs → IsPlain xs
 clean_plain wanted [] h = refl
 clean_plain wanted (b ∷ xs) h = ap (λ (c : Bool). c || list_any (is_byte 36) xs) h.1 ∙ clean_plain wanted xs h.2
-
--- a clean byte is passed over
-passed : (wanted : ℕ → Bool) (b : ℕ) (text : List ℕ) → wanted b ≡ false → eqb b 36 ≡ false → first_outside wanted (b ∷ text) ≡ option_map suc (first_outside wanted text)
-unfolding first_from
-passed wanted b text e f =
-    ap (λ (c : Bool). cond c (Some 0) (option_map suc (first_from wanted (next_place (record { ends = []; dollar = false }) b) text))) e
-    ∙ ap (λ (c : Bool). option_map suc (first_from wanted (cond c (record { ends = []; dollar = true }) (record { ends = []; dollar = false })) text)) f
 
 found_now : (wanted : ℕ → Bool) (b : ℕ) (text : List ℕ) → wanted b ≡ true → first_outside wanted (b ∷ text) ≡ Some 0
 unfolding first_from
@@ -65,11 +55,11 @@ nothing_left wanted = refl
 -- behind clean bytes
 clean_found : (wanted : ℕ → Bool) (xs text : List ℕ) (w : ℕ) → IsClean wanted xs → wanted w ≡ true → first_outside wanted (xs ++ w ∷ text) ≡ Some (length xs)
 clean_found wanted [] text w h e = found_now wanted w text e
-clean_found wanted (b ∷ xs) text w h e = passed wanted b (xs ++ w ∷ text) h.0 h.1 ∙ ap (option_map suc) (clean_found wanted xs text w h.2 e)
+clean_found wanted (b ∷ xs) text w h e = passes wanted b (xs ++ w ∷ text) h.0 h.1 ∙ ap (option_map suc) (clean_found wanted xs text w h.2 e)
 
 clean_none : (wanted : ℕ → Bool) (xs : List ℕ) → IsClean wanted xs → first_outside wanted xs ≡ None
 clean_none wanted [] h = nothing_left wanted
-clean_none wanted (b ∷ xs) h = passed wanted b xs h.0 h.1 ∙ ap (option_map suc) (clean_none wanted xs h.2)
+clean_none wanted (b ∷ xs) h = passes wanted b xs h.0 h.1 ∙ ap (option_map suc) (clean_none wanted xs h.2)
 
 behind_seam : (xs text : List ℕ) (w : ℕ) → drop (suc (length xs)) (xs ++ w ∷ text) ≡ text
 behind_seam [] text w = refl
@@ -125,15 +115,15 @@ not_internal : (b : ℕ) → is_name_byte b ≡ true → is_internal b ≡ false
 not_internal b h = rw (other_turned 64 refl b h, other_turned 42 refl b h, other_turned 60 refl b h, other_turned 94 refl b h, other_turned 43 refl b h, other_turned 63 refl b h, other_turned 37 refl b h) refl
 
 name_bytes : (name : List ℕ) → is_macro_name name ≡ true → list_all is_name_byte name ≡ true
-name_bytes name h = (both (not (eqb (length name) 0)) (list_all is_name_byte name) h).1
+name_bytes name h = (and_parts (not (eqb (length name) 0)) (list_all is_name_byte name) h).1
 
 not_of_internal : (name : List ℕ) → is_macro_name name ≡ true → internal_of name ≡ None
 not_of_internal [] h = refl
 not_of_internal (b ∷ []) h =
-    let s = both (is_name_byte b) true (name_bytes (b ∷ []) h) in
+    let s = and_parts (is_name_byte b) true (name_bytes (b ∷ []) h) in
     ap (λ (c : Bool). cond c (Some (b, Whole)) None) (not_internal b s.0)
 not_of_internal (b ∷ c ∷ []) h =
-    let s = both (is_name_byte b) (list_all is_name_byte (c ∷ [])) (name_bytes (b ∷ c ∷ []) h) in
+    let s = and_parts (is_name_byte b) (list_all is_name_byte (c ∷ [])) (name_bytes (b ∷ c ∷ []) h) in
     rw (not_internal b s.0) refl
 not_of_internal (b ∷ c ∷ d ∷ name) h = refl
 
@@ -168,26 +158,21 @@ module _ (levels : ℕ) (scope : Scope) where
       round_gives (suc levels) scope name (record { text = macro.text; references = 1; varying = false }) (clean_name 41 refl name n) low
       (named_value name n le ∙ ap (λ (r : Result Expanded MacroFault). r >>= (λ value. Ok value)) (immediate_value name macro n e i))
 
--- bytes of the two texts of a substitution
-not_true : (x : Bool) → not x ≡ true → x ≡ false
-not_true true e = absurd (false≢true e)
-not_true false e = refl
-
 turned : (k b : ℕ) → not (eqb k b) ≡ true → eqb b k ≡ false
-turned k b e = eqb_swap b k ∙ not_true (eqb k b) e
+turned k b e = eqb-sym b k ∙ not-true (eqb k b) e
 
 inert_36 : (b : ℕ) → is_inert b ≡ true → eqb b 36 ≡ false
-inert_36 b h = turned 36 b (both (not (eqb 36 b)) (not (eqb 41 b) && (not (eqb 58 b) && (not (eqb 61 b) && true))) h).0
+inert_36 b h = turned 36 b (and_parts (not (eqb 36 b)) (not (eqb 41 b) && (not (eqb 58 b) && (not (eqb 61 b) && true))) h).0
 
 inert_41 : (b : ℕ) → is_inert b ≡ true → eqb b 41 ≡ false
-inert_41 b h = turned 41 b (both (not (eqb 41 b)) (not (eqb 58 b) && (not (eqb 61 b) && true)) (both (not (eqb 36 b)) (not (eqb 41 b) && (not (eqb 58 b) && (not (eqb 61 b) && true))) h).1).0
+inert_41 b h = turned 41 b (and_parts (not (eqb 41 b)) (not (eqb 58 b) && (not (eqb 61 b) && true)) (and_parts (not (eqb 36 b)) (not (eqb 41 b) && (not (eqb 58 b) && (not (eqb 61 b) && true))) h).1).0
 
 inert_61 : (b : ℕ) → is_inert b ≡ true → eqb b 61 ≡ false
 inert_61 b h =
-    let s = both (not (eqb 36 b)) (not (eqb 41 b) && (not (eqb 58 b) && (not (eqb 61 b) && true))) h in
-    let t = both (not (eqb 41 b)) (not (eqb 58 b) && (not (eqb 61 b) && true)) s.1 in
-    let u = both (not (eqb 58 b)) (not (eqb 61 b) && true) t.1 in
-    turned 61 b (both (not (eqb 61 b)) true u.1).0
+    let s = and_parts (not (eqb 36 b)) (not (eqb 41 b) && (not (eqb 58 b) && (not (eqb 61 b) && true))) h in
+    let t = and_parts (not (eqb 41 b)) (not (eqb 58 b) && (not (eqb 61 b) && true)) s.1 in
+    let u = and_parts (not (eqb 58 b)) (not (eqb 61 b) && true) t.1 in
+    turned 61 b (and_parts (not (eqb 61 b)) true u.1).0
 
 clean_inert : (k : ℕ) → ((b : ℕ) → is_inert b ≡ true → eqb b k ≡ false) → (text : List ℕ) → list_all is_inert text ≡ true → IsClean (is_byte k) text
 clean_inert k f text h = clean_all is_inert (is_byte k) f inert_36 text h

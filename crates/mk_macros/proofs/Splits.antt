@@ -1,13 +1,13 @@
 -- The steps of an expansion that has a value.
 use Rattle.std.proofs.Common.{◌≡◌, ℕ, ◌+◌, ◌≤◌, ltb, List, [], ◌∷◌, length, Result, Ok, Err, refl, sym, ap, subst, ◌∙◌, inl, inr, arith, append_assoc, length-append}
-use Rattle.std.proofs.lemmas.Bool.{cases_Bool, cond-true, cond-false}
+use Rattle.std.proofs.lemmas.Bool.{cases_Bool, cond-true, cond-false, ltb-false}
 use Rattle.mk_macros.specs.declared.fault.MacroFault.{MacroFault}
 use Rattle.mk_macros.specs.declared.fault.MacroFault.TheVariants.{ValueTooLong}
 use Rattle.mk_macros.specs.Forms.{Form}
 use Rattle.mk_macros.specs.Expansion.{Expanded, fitting, joined, in_order}
 use Rattle.mk_macros.specs.Laws.{in_front}
 use Rattle.mk_macros.specs.Steps.{◌>>=◌}
-use Rattle.mk_macros.proofs.InOrder.{Gives, under, follow, in_order_cons, follow_ok}
+use Rattle.mk_macros.proofs.InOrder.{Gives, follow, in_order_cons, follow_ok}
 
 pub err_not_ok : {A : Type 0} {fault : MacroFault} {x : A} → Err fault ≡ Ok x → ⊥
 err_not_ok e = cc
@@ -24,7 +24,7 @@ pub fitting_of : (value found : Expanded) → fitting value ≡ Ok found → (va
 fitting_of value found e =
     elim (cases_Bool (ltb 1048576 (length value.text))) [
       | inl t ↦ absurd (err_not_ok (sym (cond-true (ltb 1048576 (length value.text)) (Err ValueTooLong) (Ok value) t) ∙ e))
-      | inr f ↦ (ok_same (sym (cond-false (ltb 1048576 (length value.text)) (Err ValueTooLong) (Ok value) f) ∙ e), under 1048576 (length value.text) f)
+      | inr f ↦ (ok_same (sym (cond-false (ltb 1048576 (length value.text)) (Err ValueTooLong) (Ok value) f) ∙ e), ltb-false 1048576 (length value.text) f)
     ]
 
 -- what a form gave, on the way to a value

@@ -1,4 +1,5 @@
 pub mod DefaultText
 mod NameSets
 mod Once
-mod SuffixLists
+pub mod SuffixLists
+pub mod Kinds

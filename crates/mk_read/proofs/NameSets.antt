@@ -1,24 +1,14 @@
 -- Sets of names.
-use Rattle.std.proofs.Common.{◌≡◌, ℕ, Bool, true, false, cond, ◌||◌, List, [], ◌∷◌, ◌++◌, map, String, inl, inr, refl, sym, ap, ◌∙◌}
+use Rattle.std.proofs.Common.{◌≡◌, ℕ, Bool, true, false, cond, ◌||◌, List, [], ◌∷◌, ◌++◌, map, String, refl, ap, ◌∙◌}
 use Rattle.std.specs.Str.{bytes_eq}
 use Rattle.std.specs.declared.alloc.Global.{Global}
 use Rattle.std.specs.String.{string_bytes}
 use Rattle.std.specs.List.{list_any}
-use Rattle.std.proofs.lemmas.Bool.{cases_Bool, false_from_ne_true}
-use Rattle.std.proofs.lemmas.Slice.Eq.{bytes_eq-Decides}
 use Rattle.std.proofs.lemmas.List.{map_push}
 use Rattle.mk_read.specs.Names.{has_name, with_name}
 
 both_ways : (b : Bool) → b ≡ false → ¬ (b ≡ true)
 both_ways b f t = absurd cc
-
--- equal either way
-pub bytes_eq_sym : (a b : List ℕ) → bytes_eq a b ≡ bytes_eq b a
-bytes_eq_sym a b =
-    elim (cases_Bool (bytes_eq a b)) [
-      | inl t ↦ t ∙ sym ((bytes_eq-Decides b a).1 (sym ((bytes_eq-Decides a b).0 t)))
-      | inr f ↦ f ∙ sym (false_from_ne_true _ (λ t. both_ways _ f ((bytes_eq-Decides a b).1 (sym ((bytes_eq-Decides b a).0 t)))))
-    ]
 
 -- the names of strings
 abbrev pub names_of : List (String Global) → List (List ℕ)

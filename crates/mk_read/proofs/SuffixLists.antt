@@ -12,7 +12,7 @@ use Rattle.mk_read.specs.Special.{is_suffix}
 abbrev pub AllSuffixes : List (List ℕ) → Type 0
 AllSuffixes words = list_all is_suffix words ≡ true
 
-all_filter : (test : List ℕ → Bool) (xs : List (List ℕ)) → AllSuffixes xs → AllSuffixes (filter test xs)
+pub all_filter : (test : List ℕ → Bool) (xs : List (List ℕ)) → AllSuffixes xs → AllSuffixes (filter test xs)
 all_filter test [] h = refl
 all_filter test (x ∷ xs) h = at (test x) (all_filter test xs (and_parts (is_suffix x) (list_all is_suffix xs) h).1)
   where
@@ -20,7 +20,7 @@ all_filter test (x ∷ xs) h = at (test x) (all_filter test xs (and_parts (is_su
     at true k = and_from (is_suffix x) (list_all is_suffix (filter test xs)) (and_parts (is_suffix x) (list_all is_suffix xs) h).0 k
     at false k = k
 
-all_once : (xs : List (List ℕ)) → AllSuffixes xs → AllSuffixes (once xs)
+pub all_once : (xs : List (List ℕ)) → AllSuffixes xs → AllSuffixes (once xs)
 all_once [] h = refl
 all_once (x ∷ xs) h =
     let p = and_parts (is_suffix x) (list_all is_suffix xs) h in

@@ -15,4 +15,4 @@ pub use makefile::{Command, Makefile, Rule};
 pub use name_set::NameSet;
 pub use special::Special;
 pub use suffix_list::SuffixList;
-pub use word::Word;
+pub use word::{Word, has_reserved};

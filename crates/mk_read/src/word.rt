@@ -1,6 +1,8 @@
 //! Words of a makefile.
 
 ghost use Rattle.std.specs.Prelude.{◌≡◌, IfOk};
+ghost use Rattle.std.specs.List.{list_any};
+ghost use Rattle.mk_read.specs.Names.{is_reserved};
 
 use std::alloc::{AllocError, Global};
 use std::marker::Model;
@@ -35,4 +37,38 @@ impl Word {
     {
         self.bytes.as_slice()
     }
+}
+
+/// Whether a word has a byte that a plain path may have, but a name of a makefile may not.
+pub fn has_reserved(word: &[u8]) -> bool
+    ensures { result ≡ list_any is_reserved word.now }
+{
+    word.iter().any(|b| is_reserved(*b))
+}
+
+fn is_reserved(byte: u8) -> bool
+    ensures { result ≡ is_reserved byte }
+{
+    matches!(
+        byte,
+        b'%' | b'*'
+            | b'?'
+            | b'['
+            | b']'
+            | b':'
+            | b';'
+            | b'='
+            | b'#'
+            | b'$'
+            | b'\\'
+            | b'"'
+            | b'\''
+            | b'`'
+            | b'|'
+            | b'&'
+            | b'<'
+            | b'>'
+            | b'('
+            | b')'
+    )
 }

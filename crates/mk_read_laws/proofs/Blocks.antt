@@ -4,6 +4,7 @@ use Rattle.std.specs.Prelude.{◌==◌, codes, filter, length, map}
 use Rattle.std.specs.List.{list_all, list_any}
 use Rattle.std.specs.Option.{option_map}
 use Rattle.std.proofs.lemmas.Bool.{cases_Bool, and_parts, or_parts, not-true}
+use Rattle.mk_read_laws.proofs.OneLine.{bind_ok}
 use Rattle.mk_lines.specs.Bytes.{trimmed}
 use Rattle.mk_lines.specs.Comments.{uncomment}
 use Rattle.mk_lines.specs.Lines.{Line}
@@ -29,11 +30,6 @@ use Rattle.mk_read_laws.proofs.Kept.{Holds, IsKept, KeepsDeeper, by_lines, by_re
 use Rattle.mk_read_laws.proofs.Parting.{comment_kept, parted_line, with_both}
 
 -- ---- results
-
--- a step went well before the next one did
-went_well : {A B : Type 0} (r : Result A ReadFault) (f : A → Result B ReadFault) (y : B) → (r >>= f) ≡ Ok y → (x : A) × (r ≡ Ok x) × (f x ≡ Ok y)
-went_well (Ok x) f y h = (x, refl, h)
-went_well (Err fault) f y h = absurd cc
 
 -- a test that leads to a fault didn't hold
 not_refused : {A : Type 0} (b : Bool) (fault : ReadFault) (r : Result A ReadFault) (y : A) → cond b (Err fault) r ≡ Ok y → r ≡ Ok y
@@ -96,7 +92,7 @@ module _ (reader : Reader) (deeper : Deeper) (file : List ℕ) where
       >>= λ (read : Read). Ok (record state { read = read }))
       (of_kind (place_of file line) (kind_of (uncomment line.text)) >>= plain_line reader deeper false
       (place_of file line) (owning state earlier last)) ≡ Ok next) is h in
-      let r = went_well (command_line (place_of file line) line.text earlier (Last last)) _ next step in
+      let r = bind_ok (command_line (place_of file line) line.text earlier (Last last)) _ next step in
       sym (same_value _ next r.2) ∙ ap (λ (read : Read). record state { read = read }) (command_gives (place_of file line) line.text earlier last r.0 r.1)
 
   -- the command lines and comments behind the rule line
@@ -106,7 +102,7 @@ module _ (reader : Reader) (deeper : Deeper) (file : List ℕ) where
   behind_read state earlier last [] next each h = sym (same_value _ next h) ∙ ap (λ (cs : Option (List Command)). owning state earlier (record last { commands = cs })) (sym (with_none last.commands))
   behind_read state earlier last (line ∷ behind) next each h =
       let parts = and_parts (is_behind line) (list_all is_behind behind) each in
-      let r = went_well (with_line reader deeper (own file) (owning state earlier last) line) (with_lines reader deeper (own file) behind) next h in
+      let r = bind_ok (with_line reader deeper (own file) (owning state earlier last) line) (with_lines reader deeper (own file) behind) next h in
       elim (cases_Bool line.command) [
         | inl t ↦ (
             let command : Command = record { text = trimmed line.text; place = place_of file line } in
@@ -139,7 +135,7 @@ module _ (reader : Reader) (deeper : Deeper) (file : List ℕ) where
       let worded = subst (λ (r : Result (List (List ℕ)) ReadFault). (r >>= by_names false place state targets line.command) ≡ Ok next) b.prerequisites some in
       let known = not_refused (list_any is_unknown_special targets) _ (by_special false place state targets words line.command (special_among targets)) next worded in
       let ordinary = subst (λ (o : Option Special). by_special false place state targets words line.command o ≡ Ok next) b.none_special known in
-      let r = went_well (new_rule made state.read) (λ read. Ok (record state { read = read })) next ordinary in
+      let r = bind_ok (new_rule made state.read) (λ read. Ok (record state { read = read })) next ordinary in
       sym (same_value _ next r.2) ∙ (ap (λ (read : Read). record state { read = read }) (new_gives made state.read r.0 r.1)
       ∙ ap (λ (cs : Option (List Command)). owning state (rules_of state.read) (record made { commands = cs })) (sym (with_none made.commands)))
 
@@ -258,11 +254,11 @@ unfolding with_lines
 blocks_give_their_rules reader levels file before behind after head start middle end line targets words first b h =
     let deeper = below levels reader in
     let rest = sym (with_both reader deeper (own file) before (head ∷ (behind ++ after)) start ∙ ap (λ (r : Result State ReadFault). r >>= with_lines reader deeper (own file) (head ∷ (behind ++ after))) first) ∙ h in
-    let r = went_well (with_line reader deeper (own file) middle head) (with_lines reader deeper (own file) (behind ++ after)) end rest in
+    let r = bind_ok (with_line reader deeper (own file) middle head) (with_lines reader deeper (own file) (behind ++ after)) end rest in
     let made = block_rule file head [] line targets words in
     let own_line = head_read reader deeper file middle head behind after line targets words r.0 b r.1 in
     let both = sym (with_both reader deeper (own file) behind after r.0) ∙ r.2 in
-    let s = went_well (with_lines reader deeper (own file) behind r.0) (with_lines reader deeper (own file) after) end both in
+    let s = bind_ok (with_lines reader deeper (own file) behind r.0) (with_lines reader deeper (own file) after) end both in
     let its = behind_read reader deeper file middle (rules_of middle.read) made behind s.0 b.each (ap (with_lines reader deeper (own file) behind) (sym own_line) ∙ s.1) in
     let last = grown made (commands_among file behind) in
     let same : last ≡ block_rule file head behind line targets words = ap (λ (cs : Option (List Command)). record made { commands = cs }) (ap (λ (o : Option (List Command)). with_all o (commands_among file behind)) (with_none _)) in

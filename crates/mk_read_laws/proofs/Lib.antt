@@ -1,6 +1,4 @@
-mod Colons
 mod CommentLines
-mod SuffixLists
 mod Groups
 mod Kept
 mod OneLine

@@ -3,6 +3,7 @@ use Rattle.std.proofs.Common.{◌≡◌, ℕ, Bool, true, false, cond, not, List
 use Rattle.std.specs.Prelude.{◌||◌, codes, length, ◌==◌}
 use Rattle.std.specs.List.{list_any, list_all}
 use Rattle.std.specs.Option.{option_map}
+use Rattle.mk_read.proofs.SuffixLists.{AllSuffixes, all_in_both}
 use Rattle.mk_macros.specs.Definitions.{defined, without_blanks}
 use Rattle.mk_macros.specs.Expansion.{expansion}
 use Rattle.mk_read.specs.declared.fault.Place.{Place}
@@ -19,7 +20,6 @@ use Rattle.mk_read.specs.State.{RuleRead, SpecialTarget, State, owned}
 use Rattle.mk_read.specs.Steps.{at_place}
 use Rattle.mk_read_laws.proofs.Kept.{Holds, holds_step, holds_if, IsKept, by_default, by_named}
 use Rattle.mk_read_laws.proofs.OneLine.{parts_of}
-use Rattle.mk_read_laws.proofs.SuffixLists.{AllSuffixes, all_in_both}
 
 -- what was read so far lists suffixes
 abbrev Lists : State → Type 0

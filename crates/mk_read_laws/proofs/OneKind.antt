@@ -5,7 +5,8 @@ use Rattle.std.specs.List.{before_first, after_first, prefix_len}
 use Rattle.std.specs.Option.{option_map}
 use Rattle.std.specs.Str.{bytes_eq}
 use Rattle.std.proofs.lemmas.Bool.Decides.{nat_tests}
-use Rattle.std.proofs.lemmas.Bool.{both_ways}
+use Rattle.std.proofs.lemmas.Bool.{both_ways, and_parts, not-true}
+use Rattle.mk_read.proofs.Kinds.{by_parts-rule_line}
 use Rattle.mk_lines.specs.Bytes.{is_blank, trimmed, begins_with}
 use Rattle.mk_lines.specs.References.{first_from, first_outside}
 use Rattle.mk_lines.specs.RuleLines.{begins_with_rule_colon, is_decisive, is_include, is_rule_colon_at, is_rule_line}
@@ -15,7 +16,6 @@ use Rattle.mk_macros.specs.Substitution.{ends_with, without_end}
 use Rattle.mk_macros.specs.Definitions.{without_blanks}
 use Rattle.mk_macros.specs.declared.op.Op.TheVariants.{Delay, Now, Double, IfUnset, Append}
 use Rattle.mk_read.specs.Kinds.{Kind, AssignmentLine, IncludeLine, RuleLine, Assignment, Comment, Include, Rule, assignment_line, by_byte, by_parts, by_word, include_line, is_end_of_words, kind_of, of_trimmed, rule_line, with_targets, words_and_command}
-use Rattle.mk_read_laws.proofs.Colons.{by_rule}
 use Rattle.mk_read.specs.Laws.{IncludeLinesAreOfOneKind, IsOfRule, RuleLinesAreOfOneKind}
 
 abbrev Bytes : Type 0
@@ -63,11 +63,6 @@ words_are : (targets rest : Bytes) (at : Option ℕ) → IsOfRule (with_targets 
 words_are targets rest None = sized (eqb (length targets) 0) _
 words_are targets rest (Some at) = ended (eqb (get_or rest at 0) 61) _
 
-both : (p q : Bool) → (p && q) ≡ true → (p ≡ true) × (q ≡ true)
-both true true h = (refl, refl)
-both true false h = absurd (both_ways false refl h)
-both false q h = absurd (both_ways false refl h)
-
 by_rule_line : (before from : Bytes) → begins_with_rule_colon from ≡ true → by_parts before from ≡ rule_line before (drop 1 from)
 by_rule_line before [] h = absurd (both_ways false refl h)
 by_rule_line before (b ∷ []) h =
@@ -77,7 +72,7 @@ by_rule_line before (b ∷ c ∷ text) h =
     let colon : b ≡ 58 = grind (arith, nat_tests, h) in
     let not_colon : c ≡ 58 → ⊥ = λ e. grind (arith, nat_tests, h, e) in
     let not_equals : c ≡ 61 → ⊥ = λ e. grind (arith, nat_tests, h, e) in
-    by_rule before (b ∷ c ∷ text) (omega arith) colon not_colon not_equals
+    by_parts-rule_line before (b ∷ c ∷ text) (omega arith) colon not_colon not_equals
 
 by_byte_rule : (line : Bytes) (at : Option ℕ) → is_rule_colon_at line at ≡ true → IsOfRule (by_byte line at)
 by_byte_rule line None h = absurd (both_ways false refl h)
@@ -213,15 +208,11 @@ rule_back (b ∷ rest) h = back_by_word (b ∷ rest) (is_plain_include (b ∷ re
 
 -- ---- the laws
 
-not_true : (p : Bool) → not p ≡ true → p ≡ false
-not_true false h = refl
-not_true true h = absurd (both_ways false refl h)
-
 told : (text : Bytes) → is_rule_line text ≡ true → IsOfRule (kind_of text)
 unfolding is_rule_line kind_of
 told text h =
-    let parts = both (not (is_include text)) (is_rule_colon_at text (first_outside is_decisive text)) h in
-    rule_of (trimmed text) (not_true _ parts.0) (sym (trimmed_colon text) ∙ parts.1)
+    let parts = and_parts (not (is_include text)) (is_rule_colon_at text (first_outside is_decisive text)) h in
+    rule_of (trimmed text) (not-true _ parts.0) (sym (trimmed_colon text) ∙ parts.1)
 
 told_back : (text : Bytes) → IsRule (kind_of text) → is_rule_line text ≡ true
 unfolding is_rule_line kind_of

@@ -1,11 +1,12 @@
 -- The names of texts are plain paths.
-use Rattle.std.proofs.Common.{◌≡◌, ℕ, ◌<◌, zero, suc, Bool, true, false, cond, not, IsAscii, List, [], ◌∷◌, ◌++◌, codes, get_or, length, arith, Option, None, Some, Result, Ok, Err, refl, subst, ◌∙◌}
+use Rattle.std.proofs.Common.{◌≡◌, ℕ, zero, suc, Bool, true, false, cond, not, List, [], ◌∷◌, ◌++◌, codes, length, Option, None, Some, Result, Ok, Err, refl, subst, ◌∙◌}
 use Rattle.std.specs.Prelude.{◌||◌, nat_le, nat_lt, ◌==◌}
 use Rattle.std.specs.List.{list_all, list_any}
 use Rattle.std.specs.Str.{bytes_eq, is_utf8}
-use Rattle.std.proofs.lemmas.Bool.{and_parts, and_from, ltb-true}
+use Rattle.std.proofs.lemmas.Bool.{and_parts, and_from}
 use Rattle.std.proofs.lemmas.List.Folds.{list_all-append}
 use Rattle.std.proofs.lemmas.Str.{IsUtf8-from_ascii, is_utf8-from_IsUtf8}
+use Rattle.mk_lemmas.proofs.Texts.{IsAscii-from_list_all}
 use Rattle.mk_lines.specs.Comments.{uncomment}
 use Rattle.mk_lines.specs.Lines.{Line, logical_lines}
 use Rattle.mk_lines.specs.Paths.{has_path_shape, is_plain_path}
@@ -45,22 +46,9 @@ make_names_plain (name ∷ names) h =
 one_more : (names : List (List ℕ)) (name : List ℕ) → ArePlain names → is_plain_path name ≡ true → ArePlain (names ++ name ∷ [])
 one_more names name all plain = list_all-append is_plain_path names (name ∷ []) ∙ and_from (list_all is_plain_path names) (list_all is_plain_path (name ∷ [])) all (and_from (is_plain_path name) true plain refl)
 
--- the usual names
-ascii_word : (w : List ℕ) → list_all (λ b. nat_lt b 128) w ≡ true → IsAscii w
-ascii_word [] h = λ i. omega arith
-ascii_word (b ∷ w) h =
-    let parts = and_parts (nat_lt b 128) (list_all (λ c. nat_lt c 128) w) h in
-    let here : b < 128 = ltb-true b 128 parts.0 in
-    let rest = ascii_word w parts.1 in
-    λ i. at i here rest
-  where
-    at : (i : ℕ) → b < 128 → IsAscii w → get_or (b ∷ w) i 0 < 128
-    at zero here rest = here
-    at (suc i) here rest = rest i
-
 word_plain : (w : List ℕ) → list_all (λ b. nat_lt b 128) w ≡ true → has_path_shape w ≡ true → is_plain_path w ≡ true
 unfolding is_plain_path
-word_plain w ascii shape = and_from (has_path_shape w) (is_utf8 w) shape (is_utf8-from_IsUtf8 w (IsUtf8-from_ascii w (ascii_word w ascii)))
+word_plain w ascii shape = and_from (has_path_shape w) (is_utf8 w) shape (is_utf8-from_IsUtf8 w (IsUtf8-from_ascii w (IsAscii-from_list_all w ascii)))
 
 -- ---- lines that read no text
 

@@ -5,6 +5,7 @@ use Rattle.std.specs.List.{list_any, list_all, slice_split, onto_first}
 use Rattle.std.specs.Str.{is_utf8}
 use Rattle.std.proofs.lemmas.Bool.{and_parts, or_parts, or_from, both_ways, not-true, cond-true, cond-false, leb-true, ltb-true, eqb-true, ne_eqb, false_from_ne_true}
 use Rattle.std.proofs.lemmas.List.Splits.{slice_split-cons_no}
+use Rattle.mk_read.proofs.Kinds.{is_bracket-not_reserved, is_reserved-differ}
 use Rattle.mk_lines.specs.Bytes.{is_byte, is_blank}
 use Rattle.mk_lines.specs.Comments.{uncomment}
 use Rattle.mk_lines.specs.Laws.{NothingToUncomment}
@@ -32,13 +33,6 @@ lacks test least [] none = refl
 lacks test least (b ∷ name) none =
     let parts = or_parts (is_reserved b) (list_any is_reserved name) none in
     or_from (test b) (list_any test name) (least b parts.0) (lacks test least name parts.1)
-
--- a byte that isn't reserved is no reserved one
-no_such : (b c : ℕ) → is_reserved c ≡ true → is_reserved b ≡ false → (b == c) ≡ false
-no_such b c is none = false_from_ne_true (b == c) (λ t. both_ways (is_reserved b) none (ap is_reserved (eqb-true b c t) ∙ is))
-
-bracket : (b : ℕ) → is_reserved b ≡ false → is_bracket b ≡ false
-bracket b none = or_from (b == 40) (b == 41) (no_such b 40 refl none) (no_such b 41 refl none)
 
 -- a visible byte is no blank
 visible : (b : ℕ) → is_visible b ≡ true → is_blank b ≡ false
@@ -83,10 +77,10 @@ kind_is name =
 names_are : PlainTextsStay → (place : Place) (table : List Macro) (name : List ℕ) → IsMakeName name → is_make_name name ≡ true → names_in place table name ≡ Ok (name ∷ [])
 unfolding names_of name_of
 names_are stay place table name good is =
-    let no_dollar : Lacks (is_byte 36) name = lacks (is_byte 36) (λ b none. no_such b 36 refl none) name good.clean in
+    let no_dollar : Lacks (is_byte 36) name = lacks (is_byte 36) (λ b none. is_reserved-differ b 36 refl none) name good.clean in
     let stays : expansion table None name ≡ Ok (record { text = name; references = 0; varying = false }) = stay 256 _ [] 0 name no_dollar (omega (arith, good.short)) in
     let parts : words name ≡ name ∷ [] = ap (filter is_word) (one_part name good.seen) ∙ cond-true (is_word name) (name ∷ []) [] (ap not (not_nothing name good.some)) in
-    let no_bracket : list_any is_bracket name ≡ false = lacks is_bracket bracket name good.clean in
+    let no_bracket : list_any is_bracket name ≡ false = lacks is_bracket is_bracket-not_reserved name good.clean in
     let one : name_of place name ≡ Ok name = cond-false (list_any is_bracket name) (Err (ArchiveMember place name)) (cond (is_make_name name) (Ok name) (Err (BadName place name))) no_bracket ∙ cond-true (is_make_name name) (Ok name) (Err (BadName place name)) is in
     ap (λ (r : Result Expanded MacroFault). at_place place r >>= λ (found : Expanded). names_of place (words found.text)) stays
     ∙ (ap (names_of place) parts ∙ ap (λ (r : Result (List ℕ) ReadFault). r >>= λ first. Ok (first ∷ [])) one)
@@ -94,7 +88,7 @@ names_are stay place table name good is =
 pub spelled_lines_include_their_file : NothingToUncomment → PlainTextsStay → SpelledLinesIncludeTheirFile
 spelled_lines_include_their_file nothing stay reader text line name lines state plain spelled is holds =
     let good = make_name name is in
-    let no_hash : Lacks (is_byte 35) name = lacks (is_byte 35) (λ b none. no_such b 35 refl none) name good.clean in
+    let no_hash : Lacks (is_byte 35) name = lacks (is_byte 35) (λ b none. is_reserved-differ b 35 refl none) name good.clean in
     record {
       include = record { optional = false; names = name };
       plain = plain;

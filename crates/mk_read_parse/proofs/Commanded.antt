@@ -7,20 +7,13 @@ use Rattle.std.proofs.lemmas.List.{drop_more}
 use Rattle.std.specs.Prelude.{find, Some, None, is_some}
 use Rattle.std.specs.Option.{option_map}
 use Rattle.std.proofs.lemmas.List.Folds.{list_any-append}
-use Rattle.std.proofs.lemmas.Slice.Eq.{bytes_eq-Decides}
+use mathlib.Core.Bool.{or-false, or_assoc}
+use Rattle.mk_lines.proofs.NameTests.{has_name-insert}
 use Rattle.mk_read.specs.Names.{has_name, with_name}
 use Rattle.mk_read.specs.Rules.{has_some, gives_commands, is_commanded, taken, unless_taken, commanded}
 use Rattle.mk_read.specs.declared.fault.ReadFault.TheVariants.{TwoRecipes}
 use Rattle.mk_read.specs.State.{Command, RuleRead, Owner, Nobody, Last, SpecialTarget, PassedOver, last_rule}
 use Rattle.mk_read_parse.specs.Views.{IsBare, KnowsCommands}
-
-or_false : (a : Bool) → (a || false) ≡ a
-or_false true = refl
-or_false false = refl
-
--- a name more
-has_name_push : (names : List (List ℕ)) (name other : List ℕ) → has_name (names ++ name ∷ []) other ≡ (has_name names other || bytes_eq other name)
-has_name_push names name other = list_any-append (λ n. bytes_eq other n) names (name ∷ []) ∙ ap (λ b. has_name names other || b) (or_false (bytes_eq other name))
 
 and_false : (a b : Bool) → (a && (false && b)) ≡ false
 and_false true b = refl
@@ -32,7 +25,7 @@ bare_gives_none rule name e = ap (λ b. not rule.default && (b && has_name rule.
 
 -- an owner without commands gives none
 pub no_commands : (rules : List RuleRead) (owner : Owner) (name : List ℕ) → IsBare owner → is_commanded (rules ++ last_rule owner) name ≡ is_commanded rules name
-no_commands rules owner name bare = list_any-append (gives_commands name) rules (last_rule owner) ∙ (ap (λ b. is_commanded rules name || b) (none owner bare) ∙ or_false (is_commanded rules name))
+no_commands rules owner name bare = list_any-append (gives_commands name) rules (last_rule owner) ∙ (ap (λ b. is_commanded rules name || b) (none owner bare) ∙ or-false (is_commanded rules name))
   where
     none : (o : Owner) → IsBare o → is_commanded (last_rule o) name ≡ false
     none (Last rule) e = ap (λ b. b || false) (bare_gives_none rule name e)
@@ -44,22 +37,6 @@ no_commands rules owner name bare = list_any-append (gives_commands name) rules 
 pub knows_behind : (names : List (List ℕ)) (rules : List RuleRead) (owner : Owner) → KnowsCommands names rules → IsBare owner → KnowsCommands names (rules ++ last_rule owner)
 knows_behind names rules owner knows bare name = knows name ∙ sym (no_commands rules owner name bare)
 
-or_assoc : (a b c : Bool) → ((a || b) || c) ≡ (a || (b || c))
-or_assoc true b c = refl
-or_assoc false b c = refl
-
--- a name that is there, and another one or itself
-or_there : (names : List (List ℕ)) (name other : List ℕ) → has_name names name ≡ true → (b : Bool) → bytes_eq other name ≡ b → has_name names other ≡ (has_name names other || b)
-or_there names name other h false e = sym (or_false (has_name names other))
-or_there names name other h true e =
-    let same : has_name names other ≡ true = ap (has_name names) ((bytes_eq-Decides other name).0 e) ∙ h in
-    same ∙ sym (ap (λ b. b || true) same)
-
--- which names are there after one was added
-after_insert : (names : List (List ℕ)) (name other : List ℕ) (b : Bool) → has_name names name ≡ b → has_name (cond b names (names ++ name ∷ [])) other ≡ (has_name names other || bytes_eq other name)
-after_insert names name other true h = or_there names name other h (bytes_eq other name) refl
-after_insert names name other false h = has_name_push names name other
-
 -- one of the names that are left was added
 pub one_added : (all set new : List (List ℕ)) (names : List (String Global)) (i : ℕ) (d : String Global) (added : List ℕ) (other : List ℕ) → added ≡ string_bytes (get_or names i d) → new ≡ with_name all added
     → (has_name all other || has_name (map string_bytes (drop i names)) other) ≡ (has_name set other || has_name (map string_bytes names) other) → i < length names
@@ -68,7 +45,7 @@ one_added all set new names i d added other same e so_far lt =
     let name = string_bytes (get_or names i d) in
     let rest = map string_bytes (drop (i + 1) names) in
     ap (λ ns. has_name ns other || has_name rest other) (e ∙ ap (with_name all) same)
-    ∙ (ap (λ b. b || has_name rest other) (after_insert all name other (has_name all name) refl)
+    ∙ (ap (λ b. b || has_name rest other) (has_name-insert all name other (has_name all name) refl)
     ∙ (or_assoc (has_name all other) (bytes_eq other name) (has_name rest other)
     ∙ (ap (λ ns. has_name all other || has_name (map string_bytes ns) other) (sym (drop_more names i d lt)) ∙ so_far)))
 
@@ -82,12 +59,12 @@ pub knows_more : (known all : List (List ℕ)) (rules : List RuleRead) (rule : R
     → ((name : List ℕ) → has_name all name ≡ (has_name known name || has_name rule.targets name)) → KnowsCommands all (rules ++ rule ∷ [])
 knows_more known all rules rule knows own has h name =
     h name ∙ (ap (λ b. b || has_name rule.targets name) (knows name) ∙ sym (list_any-append (gives_commands name) rules (rule ∷ [])
-    ∙ ap (λ b. is_commanded rules name || b) (or_false (gives_commands name rule) ∙ (ap (λ b. not b && (has_some rule.commands && has_name rule.targets name)) own ∙ ap (λ b. b && has_name rule.targets name) has))))
+    ∙ ap (λ b. is_commanded rules name || b) (or-false (gives_commands name rule) ∙ (ap (λ b. not b && (has_some rule.commands && has_name rule.targets name)) own ∙ ap (λ b. b && has_name rule.targets name) has))))
 
 -- the default text's rule lines give none
 pub knows_default : (known : List (List ℕ)) (rules : List RuleRead) (rule : RuleRead) → KnowsCommands known rules → rule.default ≡ true → KnowsCommands known (rules ++ rule ∷ [])
 knows_default known rules rule knows default name =
-    knows name ∙ sym (list_any-append (gives_commands name) rules (rule ∷ []) ∙ (ap (λ b. is_commanded rules name || (not b && (has_some rule.commands && has_name rule.targets name) || false)) default ∙ or_false (is_commanded rules name)))
+    knows name ∙ sym (list_any-append (gives_commands name) rules (rule ∷ []) ∙ (ap (λ b. is_commanded rules name || (not b && (has_some rule.commands && has_name rule.targets name) || false)) default ∙ or-false (is_commanded rules name)))
 
 -- the first target that is taken, looked up among the names that are known
 taken_is : (known : List (List ℕ)) (earlier : List RuleRead) (rule : RuleRead) (o : Option (List ℕ)) → KnowsCommands known earlier → rule.default ≡ false → find (has_name known) rule.targets ≡ o → taken earlier rule ≡ o

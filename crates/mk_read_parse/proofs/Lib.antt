@@ -1,6 +1,5 @@
 mod Assignments
 mod FirstBytes
-mod Colons
 mod Commanded
 mod Utf8
 mod WithFront
@@ -9,7 +8,6 @@ mod ItemLoops
 mod JoinedSuffixes
 mod LineSteps
 mod OperandLists
-mod ListTests
 mod NameLists
 mod OneFile
 mod OwnText

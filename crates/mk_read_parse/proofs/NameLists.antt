@@ -1,16 +1,11 @@
 -- Words that are read as names, one after another.
-use Rattle.std.proofs.Common.{◌≡◌, ℕ, ◌+◌, ◌<◌, ◌≤◌, List, [], ◌∷◌, ◌++◌, map, length, get_or, take, drop, Result, Ok, Err, inl, inr, refl, sym, ap, ◌∙◌, append-nil}
-use Rattle.std.specs.Borrow.{Bor}
-use Rattle.std.proofs.lemmas.List.{drop_more, drop_all, take_more, map_push}
+use Rattle.std.proofs.Common.{◌≡◌, ℕ, ◌+◌, ◌<◌, ◌≤◌, List, [], ◌∷◌, ◌++◌, map, length, get_or, drop, Result, Ok, Err, inl, inr, refl, sym, ap, ◌∙◌, append-nil}
+use Rattle.std.proofs.lemmas.List.{drop_more, drop_all}
 use Rattle.mk_read.specs.declared.fault.ReadFault.{ReadFault}
 use Rattle.mk_read.specs.declared.fault.Place.{Place}
 use Rattle.mk_read.specs.Steps.{◌>>=◌, Fails}
 use Rattle.mk_read.specs.Names.{name_of, names_of}
 use Rattle.mk_read_parse.proofs.WithFront.{with_front, with_front_more}
-
--- what names of the code spell
-abbrev pub texts : List (Bor (List ℕ)) → List (List ℕ)
-texts words = map (λ word. word.now) words
 
 -- a first word that is a name
 names_first : (place : Place) (word name : List ℕ) (rest : List (List ℕ)) → name_of place word ≡ Ok name → names_of place (word ∷ rest) ≡ with_front (name ∷ []) (names_of place rest)
@@ -43,10 +38,3 @@ module _ {A : Type 0} (view : A → List ℕ) (place : Place) (front : List (Lis
   names_end whole so_far le =
       let last : names_of place (map view (drop i words)) ≡ Ok [] = ap (λ ws. names_of place (map view ws)) (drop_all i words le) in
       sym so_far ∙ (ap (with_front front) last ∙ ap (λ (xs : List (List ℕ)). Ok xs) (append-nil front))
-
--- what f gives for one name more
-pub mapped_more : {B : Type 0} (f : List ℕ → B) (names : List (Bor (List ℕ))) (i : ℕ) (d : Bor (List ℕ)) (before after : List B) (x : B) → after ≡ before ++ x ∷ [] → x ≡ f (get_or names i d).now
-    → before ≡ map f (texts (take i names)) → i < length names → after ≡ map f (texts (take (i + 1) names))
-mapped_more f names i d before after x grown is so_far lt =
-    let one : texts (take (i + 1) names) ≡ texts (take i names) ++ (get_or names i d).now ∷ [] = ap texts (take_more names i d lt) ∙ map_push (λ (n : Bor (List ℕ)). n.now) (take i names) (get_or names i d) in
-    grown ∙ (ap (λ y. before ++ y ∷ []) is ∙ (ap (λ bs. bs ++ f (get_or names i d).now ∷ []) so_far ∙ sym (ap (map f) one ∙ map_push f (texts (take i names)) (get_or names i d).now)))

@@ -5,7 +5,7 @@ ghost use Rattle.std.specs.List.{list_all, list_any};
 ghost use Rattle.std.specs.Str.{is_utf8};
 ghost use Rattle.mk_lines.specs.Paths.{is_plain_path};
 ghost use Rattle.mk_lines.specs.Words.{words};
-ghost use Rattle.mk_read.specs.Names.{is_make_name, is_reserved, is_bracket, name_of, names_of};
+ghost use Rattle.mk_read.specs.Names.{is_make_name, is_bracket, name_of, names_of};
 ghost use Rattle.mk_read.specs.Special.{is_special, is_capital};
 ghost use Rattle.std.specs.String.{string_bytes};
 ghost use Rattle.mk_read.specs.Following.{IsOfText};
@@ -13,7 +13,7 @@ ghost use Rattle.mk_read.specs.Steps.{Gives};
 
 use mk_lines::laws::{words_are_longest_parts, words_come_in_order};
 use mk_lines::{Name, is_plain_path, words};
-use mk_read::{Place, ReadFault, Word};
+use mk_read::{Place, ReadFault, Word, has_reserved};
 use std::alloc::{AllocError, Global};
 use std::str;
 
@@ -35,40 +35,6 @@ fn plain_path(name: &[u8]) -> Option<&str>
     } else {
         None
     }
-}
-
-/// Whether a word has a byte that a plain path may have, but a name of a makefile may not.
-fn has_reserved(word: &[u8]) -> bool
-    ensures { result ≡ list_any is_reserved word.now }
-{
-    word.iter().any(|b| is_reserved(*b))
-}
-
-fn is_reserved(byte: u8) -> bool
-    ensures { result ≡ is_reserved byte }
-{
-    matches!(
-        byte,
-        b'%' | b'*'
-            | b'?'
-            | b'['
-            | b']'
-            | b':'
-            | b';'
-            | b'='
-            | b'#'
-            | b'$'
-            | b'\\'
-            | b'"'
-            | b'\''
-            | b'`'
-            | b'|'
-            | b'&'
-            | b'<'
-            | b'>'
-            | b'('
-            | b')'
-    )
 }
 
 /// Whether a word has a bracket, as the name of an archive's member has.

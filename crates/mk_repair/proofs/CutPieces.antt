@@ -1,7 +1,7 @@
 -- Pieces of names: each name is in one, and each fits.
 use Rattle.std.proofs.Common.{◌≡◌, ◌≤◌, ℕ, Bool, true, false, cond, nat_le, ◌⊎◌, inl, inr, List, [], ◌∷◌, ◌++◌, length, refl, sym, subst, rules, tests}
+use Rattle.mk_lemmas.proofs.Members.{Has-cases, Has-left, Has-right}
 use Rattle.mk_graph.specs.Membership.{Has}
-use Rattle.mk_graph.specs.Lists.{has_left, has_right, has_cases}
 use Rattle.mk_repair.specs.Lines.{spaced, pieces, pieces_from}
 use Rattle.mk_repair.specs.Laws.{Fit}
 
@@ -17,8 +17,8 @@ cut_from piece (name ∷ names) n h =
   where
     at : (b : Bool) → Has piece n ⊎ ((name ≡ n) ⊎ Has names n) → (Has (piece ++ name ∷ []) n ⊎ Has names n → IsCut (pieces_from (piece ++ name ∷ []) names) n) → (Has (name ∷ []) n ⊎ Has names n → IsCut (pieces_from (name ∷ []) names) n)
         → IsCut (cond b (pieces_from (piece ++ name ∷ []) names) (piece ∷ pieces_from (name ∷ []) names)) n
-    at true (inl k) more new = more (inl (has_left piece (name ∷ []) n k))
-    at true (inr (inl e)) more new = more (inl (has_right piece (name ∷ []) n (inl e)))
+    at true (inl k) more new = more (inl (Has-left piece (name ∷ []) n k))
+    at true (inr (inl e)) more new = more (inl (Has-right piece (name ∷ []) n (inl e)))
     at true (inr (inr there)) more new = more (inr there)
     at false (inl k) more new = (piece, inl refl, k)
     at false (inr (inl e)) more new = let f = new (inl (inl e)) in (f.0, inr f.1, f.2)
@@ -59,7 +59,7 @@ from_cut piece (name ∷ names) found n there h =
     longer (inr (inr none)) = absurd none
 
     joined : Has (piece ++ name ∷ []) n ⊎ Has names n → Has piece n ⊎ ((name ≡ n) ⊎ Has names n)
-    joined (inl here) = longer (has_cases piece (name ∷ []) n here)
+    joined (inl here) = longer (Has-cases piece (name ∷ []) n here)
     joined (inr later) = inr (inr later)
 
     apart : Has (name ∷ []) n ⊎ Has names n → Has piece n ⊎ ((name ≡ n) ⊎ Has names n)

@@ -1,7 +1,7 @@
 -- Which values the rows hold that were gathered.
 use Rattle.std.proofs.Common.{◌≡◌, Bool, true, false, cond, ◌⊎◌, inl, inr, List, [], ◌∷◌, ◌++◌, refl, sym, ap, subst, ◌∙◌}
+use Rattle.mk_lemmas.proofs.Members.{Has-cases, Has-left, Has-right}
 use Rattle.mk_graph.specs.Membership.{Has}
-use Rattle.mk_graph.specs.Lists.{has_left, has_right, has_cases}
 use Rattle.mk_repair.specs.Gathering.{with_value, with_values}
 
 -- a row with this key holds this value
@@ -18,7 +18,7 @@ module _ {K V : Type 0} (same : K → K → Bool) (decides : (x y : K) → same 
   put_held (row ∷ rows) k v = at (same k row.0) refl (put_held rows k v)
     where
       at : (b : Bool) → same k row.0 ≡ b → Holds (with_value same rows k v) k v → Holds (cond b ((row.0, row.1 ++ v ∷ []) ∷ rows) (row ∷ with_value same rows k v)) k v
-      at true e ih = record { row = (row.0, row.1 ++ v ∷ []); among = inl refl; keyed = sym (decides k row.0 e); held = has_right row.1 (v ∷ []) v (inl refl) }
+      at true e ih = record { row = (row.0, row.1 ++ v ∷ []); among = inl refl; keyed = sym (decides k row.0 e); held = Has-right row.1 (v ∷ []) v (inl refl) }
       at false e ih = record { row = ih.row; among = inr ih.among; keyed = ih.keyed; held = ih.held }
 
   -- the values that were there
@@ -32,7 +32,7 @@ module _ {K V : Type 0} (same : K → K → Bool) (decides : (x y : K) → same 
         row = (row.0, row.1 ++ v ∷ []);
         among = inl refl;
         keyed = ap (λ (r : K × List V). r.0) e ∙ h.keyed;
-        held = has_left row.1 (v ∷ []) w (subst (λ (r : K × List V). Has r.1 w) (sym e) h.held);
+        held = Has-left row.1 (v ∷ []) w (subst (λ (r : K × List V). Has r.1 w) (sym e) h.held);
       }
       at true (inr there) ih = record { row = h.row; among = inr there; keyed = h.keyed; held = h.held }
       at false (inl e) ih = record { row = h.row; among = inl e; keyed = h.keyed; held = h.held }
@@ -69,7 +69,7 @@ module _ {K V : Type 0} (same : K → K → Bool) (decides : (x y : K) → same 
       longer b e (inr (inr none)) = absurd none
 
       at : (b : Bool) → same k r.0 ≡ b → Has (cond b ((r.0, r.1 ++ v ∷ []) ∷ rows) (r ∷ with_value same rows k v)) row → (Has (with_value same rows k v) row → ((k ≡ row.0) × (v ≡ w)) ⊎ Holds rows row.0 w) → ((k ≡ row.0) × (v ≡ w)) ⊎ Holds (r ∷ rows) row.0 w
-      at true b (inl e) ih = longer b e (has_cases r.1 (v ∷ []) w (subst (λ (s : K × List V). Has s.1 w) (sym e) h))
+      at true b (inl e) ih = longer b e (Has-cases r.1 (v ∷ []) w (subst (λ (s : K × List V). Has s.1 w) (sym e) h))
       at true b (inr later) ih = inr (record { row = row; among = inr later; keyed = refl; held = h })
       at false b (inl e) ih = inr (record { row = row; among = inl e; keyed = refl; held = h })
       at false b (inr later) ih = shifted (ih later)

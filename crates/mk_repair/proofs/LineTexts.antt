@@ -2,6 +2,7 @@
 use Rattle.std.proofs.Common.{◌≡◌, ℕ, List, [], ◌∷◌, ◌++◌, map, refl, sym, ap, ◌∙◌}
 use Rattle.std.specs.List.{flat_map}
 use Rattle.std.proofs.lemmas.List.Concat.{flat_map-append}
+use Rattle.mk_lemmas.proofs.Lists.{flat_map-map}
 use Rattle.mk_repair.specs.Lines.{Line, spaced, pieces, lines_with, lines_between, line_text, line_with, phony_lines, needs_lines, lines_text, grouped, lacking}
 use Rattle.mk_repair.specs.Word.{Word}
 
@@ -17,16 +18,11 @@ lines_of_parts parts (piece ∷ targets) =
     flat_map-append line_text (lines_with piece parts) (flat_map (λ piece. lines_with piece parts) targets)
     ∙ (ap (λ rest. flat_map line_text (lines_with piece parts) ++ rest) (lines_of_parts parts targets) ∙ ap (λ here. here ++ flat_map (λ piece. flat_map (λ part. line_with piece part) (map spaced parts)) (map spaced targets)) (lines_of_part piece parts))
 
--- a function of what a view shows
-flat_map_seen : {A : Type 0} (f : List ℕ → List ℕ) (see : A → List ℕ) (xs : List A) → flat_map (λ x. f (see x)) xs ≡ flat_map f (map see xs)
-flat_map_seen f see [] = refl
-flat_map_seen f see (x ∷ xs) = ap (λ rest. f (see x) ++ rest) (flat_map_seen f see xs)
-
 -- the same for each of several texts
 flat_maps_seen : {A : Type 0} (see : A → List ℕ) (xs ys : List A) → flat_map (λ y. flat_map (λ x. line_with (see y) (see x)) xs) ys ≡ flat_map (λ piece. flat_map (λ part. line_with piece part) (map see xs)) (map see ys)
 flat_maps_seen see xs [] = refl
 flat_maps_seen see xs (y ∷ ys) =
-    ap (λ here. here ++ flat_map (λ y. flat_map (λ x. line_with (see y) (see x)) xs) ys) (flat_map_seen (λ part. line_with (see y) part) see xs) ∙ ap (λ rest. flat_map (λ part. line_with (see y) part) (map see xs) ++ rest) (flat_maps_seen see xs ys)
+    ap (λ here. here ++ flat_map (λ y. flat_map (λ x. line_with (see y) (see x)) xs) ys) (flat_map-map (λ part. line_with (see y) part) see xs) ∙ ap (λ rest. flat_map (λ part. line_with (see y) part) (map see xs) ++ rest) (flat_maps_seen see xs ys)
 
 -- the text between texts of pieces
 pub between : {A : Type 0} (see : A → List ℕ) (xs ys : List A) (targets prerequisites : List (List ℕ)) → map see xs ≡ map spaced (pieces prerequisites) → map see ys ≡ map spaced (pieces targets)

@@ -1,21 +1,16 @@
 -- Names of nodes.
-use Rattle.std.proofs.Common.{◌≡◌, ℕ, ◌<◌, ◌≤◌, List, [], ◌∷◌, length, map, get_or, zero, suc, refl, sym, ap, ◌∙◌, arith}
+use Rattle.std.proofs.Common.{◌≡◌, ℕ, ◌<◌, ◌≤◌, List, [], length, map, get_or, sym, ap, ◌∙◌, arith}
 use Rattle.std.specs.Borrow.{Bor}
 use Rattle.std.proofs.lemmas.List.{get_or-map, get_or_past, length-map}
+use Rattle.mk_lemmas.proofs.Lists.{get_or-map_default}
 use Rattle.mk_graph.specs.declared.node.Node.{Node}
 use Rattle.mk_graph.specs.Graph.{no_node}
 use Rattle.mk_subject.specs.FileInfo.{all_names}
 use Rattle.mk_subject.specs.Subject.{Subject, name_of}
 
--- what a function gives at an index, also past the end
-map_default : {A B : Type 0} (f : A → B) (xs : List A) (i : ℕ) (d : A) → get_or (map f xs) i (f d) ≡ f (get_or xs i d)
-map_default f [] i d = refl
-map_default f (x ∷ xs) zero d = refl
-map_default f (x ∷ xs) (suc i) d = map_default f xs i d
-
 -- the name of a node, among all names
 among_names : (x : Subject) (i : ℕ) → get_or (all_names x) i [] ≡ name_of x i
-among_names x i = map_default (λ (n : Node). n.name) x.graph.nodes i no_node
+among_names x i = get_or-map_default (λ (n : Node). n.name) x.graph.nodes i no_node
 
 -- a name that was read
 pub name_read : (x : Subject) (names : List (Bor (List ℕ))) (i : ℕ) (name : Bor (List ℕ)) → map (λ n. n.now) names ≡ all_names x → i < length names → name ≡ get_or names i name → name.now ≡ name_of x i

@@ -1,6 +1,5 @@
 -- Sets whose keys are seen by a view.
-use Rattle.std.proofs.Common.{◌≡◌, Bool, true, false, cond, ◌||◌, List, [], ◌∷◌, ◌++◌, map, Some, refl, sym, ap, ◌∙◌}
-use Rattle.std.specs.Prelude.{find}
+use Rattle.std.proofs.Common.{◌≡◌, Bool, true, false, cond, ◌||◌, List, [], ◌∷◌, ◌++◌, map, refl, ap, ◌∙◌}
 use Rattle.std.specs.List.{list_any}
 use Rattle.std.proofs.lemmas.List.{map_push}
 
@@ -15,12 +14,3 @@ key_seen see true true key keys e = refl
 key_seen see true false key keys e = absurd cc
 key_seen see false true key keys e = absurd cc
 key_seen see false false key keys e = map_push see keys key
-
--- what is found passes the test
-pub found_passes : {A : Type 0} (test : A → Bool) (xs : List A) (x : A) → find test xs ≡ Some x → test x ≡ true
-found_passes test [] x h = absurd cc
-found_passes {A} test (y ∷ xs) x h = at (test y) refl h (found_passes test xs x)
-  where
-    at : (b : Bool) → test y ≡ b → cond b (Some y) (find test xs) ≡ Some x → (find test xs ≡ Some x → test x ≡ true) → test x ≡ true
-    at true e k ih = let same : y ≡ x = cc in ap test (sym same) ∙ e
-    at false e k ih = ih k

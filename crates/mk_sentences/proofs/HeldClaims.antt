@@ -3,7 +3,7 @@ use Rattle.std.proofs.Common.{◌≡◌, ℕ, ◌==◌, Bool, true, false, cond,
 use Rattle.std.specs.List.{flat_map}
 use Rattle.std.specs.List.Sorted.{IsPermutation}
 use Rattle.std.specs.Str.{bytes_eq}
-use Rattle.std.proofs.lemmas.Bool.{eqb-true}
+use Rattle.std.proofs.lemmas.Bool.{eqb-true, and_parts}
 use Rattle.std.proofs.lemmas.List.{append_assoc, append-nil, map-append}
 use Rattle.std.proofs.lemmas.List.Concat.{flat_map-append}
 use Rattle.std.proofs.lemmas.List.Sorted.{IsPermutation-refl, IsPermutation-trans, IsPermutation-append_left, IsPermutation-append_right, IsPermutation-append_comm}
@@ -73,11 +73,6 @@ module _ {K V C : Type 0} (same : K → K → Bool) (decides : (x y : K) → sam
   pub gathered_all : (pairs : List (K × V)) → IsPermutation (flat_map f (spread (gathered same pairs))) (flat_map f pairs)
   gathered_all pairs = pairs_more [] pairs
 
--- both parts of a test hold
-both : (a b : Bool) → (a && b) ≡ true → (a ≡ true) × (b ≡ true)
-both true b e = (refl, e)
-both false b e = absurd cc
-
 -- equal Booleans are one
 bool_decides : (b c : Bool) → same_bool b c ≡ true → b ≡ c
 bool_decides true true e = refl
@@ -88,9 +83,9 @@ bool_decides false false e = refl
 -- equal topics are one
 topic_decides : (t u : Topic) → topic_eq t u ≡ true → t ≡ u
 topic_decides t u e =
-    let first = both (kind_number t.kind == kind_number u.kind) (same_bool t.has_line u.has_line && (bytes_eq t.first u.first && bytes_eq t.second u.second)) e in
-    let second = both (same_bool t.has_line u.has_line) (bytes_eq t.first u.first && bytes_eq t.second u.second) first.1 in
-    let third = both (bytes_eq t.first u.first) (bytes_eq t.second u.second) second.1 in
+    let first = and_parts (kind_number t.kind == kind_number u.kind) (same_bool t.has_line u.has_line && (bytes_eq t.first u.first && bytes_eq t.second u.second)) e in
+    let second = and_parts (same_bool t.has_line u.has_line) (bytes_eq t.first u.first && bytes_eq t.second u.second) first.1 in
+    let third = and_parts (bytes_eq t.first u.first) (bytes_eq t.second u.second) second.1 in
     let kind : t.kind ≡ u.kind = one_number t.kind u.kind (eqb-true (kind_number t.kind) (kind_number u.kind) first.0) in
     let line : t.has_line ≡ u.has_line = bool_decides t.has_line u.has_line second.0 in
     let one : t.first ≡ u.first = (bytes_eq-Decides t.first u.first).0 third.0 in
@@ -100,7 +95,7 @@ topic_decides t u e =
 -- equal keys of rows are one
 row_decides : (k l : RowKey) → row_key_eq k l ≡ true → k ≡ l
 row_decides k l e =
-    let parts = both (topic_eq k.topic l.topic) (bytes_eq k.who l.who) e in
+    let parts = and_parts (topic_eq k.topic l.topic) (bytes_eq k.who l.who) e in
     let topic : k.topic ≡ l.topic = topic_decides k.topic l.topic parts.0 in
     let who : k.who ≡ l.who = (bytes_eq-Decides k.who l.who).0 parts.1 in
     λ i. record { topic = topic i; who = who i }
@@ -108,7 +103,7 @@ row_decides k l e =
 -- equal keys of groups are one
 group_decides : (k l : GroupKey) → group_key_eq k l ≡ true → k ≡ l
 group_decides k l e =
-    let parts = both (topic_eq k.topic l.topic) (names_eq k.what l.what) e in
+    let parts = and_parts (topic_eq k.topic l.topic) (names_eq k.what l.what) e in
     let topic : k.topic ≡ l.topic = topic_decides k.topic l.topic parts.0 in
     let what : k.what ≡ l.what = (slice_eq-Decides bytes_eq-Decides k.what l.what (names_eq k.what l.what) refl).0 parts.1 in
     λ i. record { topic = topic i; what = what i }

@@ -6,6 +6,7 @@ use Rattle.std.specs.Map.{lookup}
 use Rattle.std.specs.Option.{option_copied, option_or}
 use Rattle.std.specs.Str.{bytes_eq}
 use Rattle.std.proofs.lemmas.Slice.Eq.{bytes_eq-Decides}
+use Rattle.std.proofs.lemmas.Bool.{true≢false}
 use Rattle.indexmap.specs.IndexMap.{insert_entry}
 use Rattle.mk_read.specs.State.{RuleRead}
 use Rattle.mk_sentences.proofs.FirstRules.{or_none}
@@ -30,10 +31,6 @@ equal x y e = (bytes_eq-Decides x y).0 e
 passes : (x y : List ℕ) → x ≡ y → bytes_eq x y ≡ true
 passes x y e = (bytes_eq-Decides x y).1 e
 
--- the two Booleans differ
-no_two : true ≡ false → ⊥
-no_two e = cc
-
 -- a look-up after a key was inserted
 inserted_at : (entries : Entries) (key : Bor (List ℕ)) (rule : Bor RuleRead) (name : List ℕ) → rule_in (insert_entry same entries key rule) name ≡ cond (bytes_eq name key.now) (Some rule) (rule_in entries name)
 inserted_at [] key rule name = refl
@@ -44,9 +41,9 @@ inserted_at (e ∷ entries) key rule name = at (same key e.0) (bytes_eq name e.0
         → rule_in (cond b ((e.0, rule) ∷ entries) (e ∷ insert_entry same entries key rule)) name ≡ cond d (Some rule) (cond c (Some e.1) (rule_in entries name))
     at true true true p q r ih = ap (λ b. cond b (Some rule) (rule_in entries name)) q
     at true false false p q r ih = ap (λ b. cond b (Some rule) (rule_in entries name)) q
-    at true true false p q r ih = absurd (no_two (sym (passes name key.now (equal name e.0.now q ∙ sym (equal key.now e.0.now p))) ∙ r))
-    at true false true p q r ih = absurd (no_two (sym (passes name e.0.now (equal name key.now r ∙ equal key.now e.0.now p)) ∙ q))
-    at false true true p q r ih = absurd (no_two (sym (passes key.now e.0.now (sym (equal name key.now r) ∙ equal name e.0.now q)) ∙ p))
+    at true true false p q r ih = absurd (true≢false (sym (passes name key.now (equal name e.0.now q ∙ sym (equal key.now e.0.now p))) ∙ r))
+    at true false true p q r ih = absurd (true≢false (sym (passes name e.0.now (equal name key.now r ∙ equal key.now e.0.now p)) ∙ q))
+    at false true true p q r ih = absurd (true≢false (sym (passes key.now e.0.now (sym (equal name key.now r) ∙ equal name e.0.now q)) ∙ p))
     at false true false p q r ih = ap (λ b. cond b (Some e.1) (rule_in (insert_entry same entries key rule) name)) q
     at false false true p q r ih = ap (λ b. cond b (Some e.1) (rule_in (insert_entry same entries key rule) name)) q ∙ ih
     at false false false p q r ih = ap (λ b. cond b (Some e.1) (rule_in (insert_entry same entries key rule) name)) q ∙ ih
@@ -61,7 +58,7 @@ added old new key rule e absent name =
     at : (b : Bool) (o : Option (Bor RuleRead)) → bytes_eq name key.now ≡ b → rule_in old name ≡ o → option_copied (cond b (Some rule) o) ≡ option_or (option_copied o) (cond b (Some rule.now) None)
     at false o t f = sym (or_none (option_copied o))
     at true None t f = refl
-    at true (Some r) t f = absurd (no_two (sym (ap (λ (n : List ℕ). is_some (rule_in old n)) (sym (equal name key.now t)) ∙ ap is_some f) ∙ absent))
+    at true (Some r) t f = absurd (true≢false (sym (ap (λ (n : List ℕ). is_some (rule_in old n)) (sym (equal name key.now t)) ∙ ap is_some f) ∙ absent))
 
 -- the table as it was, where a target is there
 pub kept : (old : Entries) (target : List ℕ) (rule : RuleRead) → is_some (rule_in old target) ≡ true
@@ -71,4 +68,4 @@ kept old target rule there name = at (bytes_eq name target) (rule_in old name) r
     at : (b : Bool) (o : Option (Bor RuleRead)) → bytes_eq name target ≡ b → rule_in old name ≡ o → option_copied o ≡ option_or (option_copied o) (cond b (Some rule) None)
     at b (Some r) t f = refl
     at false None t f = refl
-    at true None t f = absurd (no_two (sym there ∙ (ap (λ (n : List ℕ). is_some (rule_in old n)) (sym (equal name target t)) ∙ ap is_some f)))
+    at true None t f = absurd (true≢false (sym there ∙ (ap (λ (n : List ℕ). is_some (rule_in old n)) (sym (equal name target t)) ∙ ap is_some f)))

@@ -1,39 +1,20 @@
 -- What is tested of nodes decides what is found.
-use Rattle.std.proofs.Common.{◌≡◌, ℕ, List, [], ◌∷◌, length, Bool, true, false, Option, None, Some, refl, sym, ap, subst, ◌∙◌, inl, inr, ⊎_elim}
-use Rattle.std.specs.Prelude.{not, is_some, bytes_eq, ◌&&◌, ◌||◌}
+use Rattle.std.proofs.Common.{◌≡◌, ℕ, List, [], ◌∷◌, length, Bool, true, false, Option, None, Some, refl, sym, ap, subst, ◌∙◌, ⊎_elim}
+use Rattle.std.specs.Prelude.{is_some, bytes_eq, ◌||◌}
 use Rattle.std.specs.Option.{option_map}
-use Rattle.std.proofs.lemmas.Bool.{cases_Bool}
+use Rattle.std.proofs.lemmas.Bool.{cases_Bool, and_parts, not-false}
 use Rattle.std.proofs.lemmas.Slice.Eq.{bytes_eq-Decides}
+use Rattle.mk_lines.proofs.NameTests.{Has-from_has_name, has_name-from_Has}
 use Rattle.mk_lines.specs.Names.{has_name}
 use Rattle.mk_graph.specs.Membership.{Has}
 use Rattle.mk_foot.specs.Book.{Record}
 use Rattle.mk_subject.specs.NodeRow.{has_others, lines_eq, lines_with}
 
--- both of two tests
-pub and_both : (a b : Bool) → (a && b) ≡ true → (a ≡ true) × (b ≡ true)
-and_both true true e = (refl, refl)
-and_both true false e = absurd (let f : false ≡ true = e in cc)
-and_both false b e = absurd (let f : false ≡ true = e in cc)
-
-or_second : (a b : Bool) → b ≡ true → (a || b) ≡ true
-or_second true b e = refl
-or_second false b e = e
-
 or_rest : (a b : Bool) → a ≡ false → (a || b) ≡ true → b ≡ true
 or_rest a b e t = let f : (false || b) ≡ true = subst (λ (c : Bool). (c || b) ≡ true) e t in f
 
--- a name stands in a list or not, as the test says
-pub has_true : (files : List (List ℕ)) (f : List ℕ) → Has files f → has_name files f ≡ true
-has_true [] f h = absurd h
-has_true (k ∷ files) f (inl here) = rw ((bytes_eq-Decides f k).1 (sym here)) refl
-has_true (k ∷ files) f (inr there) = or_second (bytes_eq f k) (has_name files f) (has_true files f there)
-
-pub true_has : (files : List (List ℕ)) (f : List ℕ) → has_name files f ≡ true → Has files f
-true_has [] f t = absurd (let e : false ≡ true = t in cc)
-true_has (k ∷ files) f t = ⊎_elim (λ e. inl (sym ((bytes_eq-Decides f k).0 e))) (λ e. inr (true_has files f (or_rest (bytes_eq f k) (has_name files f) e t))) (cases_Bool (bytes_eq f k))
-
 pub has_decides : (files : List (List ℕ)) (f : List ℕ) → (has_name files f ≡ true → Has files f) × (Has files f → has_name files f ≡ true)
-has_decides files f = (true_has files f, has_true files f)
+has_decides files f = (Has-from_has_name files f, has_name-from_Has files f)
 
 -- lists of lines are equal just where the test says so
 pub lines_same : (xs ys : List (List ℕ)) → lines_eq xs ys ≡ true → xs ≡ ys
@@ -41,18 +22,14 @@ lines_same [] [] t = refl
 lines_same [] (y ∷ ys) t = absurd (let e : false ≡ true = t in cc)
 lines_same (x ∷ xs) [] t = absurd (let e : false ≡ true = t in cc)
 lines_same (x ∷ xs) (y ∷ ys) t =
-    let both = and_both (bytes_eq x y) (lines_eq xs ys) t in
+    let both = and_parts (bytes_eq x y) (lines_eq xs ys) t in
     let here : x ≡ y = (bytes_eq-Decides x y).0 both.0 in
     ap (λ (h : List ℕ). h ∷ xs) here ∙ ap (λ (l : List (List ℕ)). y ∷ l) (lines_same xs ys both.1)
-
-not_false : (b : Bool) → not b ≡ false → b ≡ true
-not_false true e = refl
-not_false false e = absurd (let f : true ≡ false = e in cc)
 
 -- where a record has no others, its lines are these
 recorded_lines : (recorded : Option Record) (lines own : List (List ℕ)) → is_some recorded ≡ true → has_others recorded lines ≡ false → lines_with recorded false own ≡ lines
 recorded_lines None lines own some same = absurd (let f : false ≡ true = some in cc)
-recorded_lines (Some r) lines own some same = lines_same r.commands lines (not_false (lines_eq r.commands lines) same)
+recorded_lines (Some r) lines own some same = lines_same r.commands lines (not-false (lines_eq r.commands lines) same)
 
 pub some_mapped : {A B : Type 0} (f : A → B) (o : Option A) → is_some o ≡ true → is_some (option_map f o) ≡ true
 some_mapped f None e = absurd (let g : false ≡ true = e in cc)

@@ -3,9 +3,10 @@ use Rattle.std.proofs.Common.{◌≡◌, ℕ, zero, suc, inl, inr, ◌+◌, ◌<
 use Rattle.std.specs.Prelude.{All, filter}
 use Rattle.std.proofs.lemmas.List.{take_more, map_push, get_or-map, get_or-take, length-map, length-take}
 use Rattle.std.proofs.lemmas.List.Elements.{All-push, All-head, All-tail}
+use Rattle.mk_graph.proofs.Nodes.{reached_is_node}
 use Rattle.mk_lines.specs.Names.{has_name}
 use Rattle.mk_graph.specs.declared.node.Node.{Node}
-use Rattle.mk_graph.specs.Graph.{Graph, IsGraph, Reached, goal, onward, node, no_node}
+use Rattle.mk_graph.specs.Graph.{Graph, IsGraph, node, no_node}
 use Rattle.mk_graph.specs.Laws.{SerialReachesEachOnce}
 use Rattle.mk_graph.specs.Membership.{Has}
 use Rattle.mk_graph.specs.Serial.{serial_order}
@@ -48,11 +49,11 @@ first_fault x order i entries fault lt h failed =
     first_told x order i entries fault lt h.in_order (λ k d low. (h.right k d low).same_commands) failed
 
 -- what is looked up of the files of a record is what the setting says
-reads_by : (s : foot.Setting) (name : List ℕ) (r : Option Record) → foot.record_for s.records name ≡ r → reads_in r ≡ foot.reads s name
+pub reads_by : (s : foot.Setting) (name : List ℕ) (r : Option Record) → foot.record_for s.records name ≡ r → reads_in r ≡ foot.reads s name
 reads_by s name None e = rw e refl
 reads_by s name (Some r) e = rw e refl
 
-writes_by : (s : foot.Setting) (name : List ℕ) (r : Option Record) → foot.record_for s.records name ≡ r → writes_in r ≡ foot.writes s name
+pub writes_by : (s : foot.Setting) (name : List ℕ) (r : Option Record) → foot.record_for s.records name ≡ r → writes_in r ≡ foot.writes s name
 writes_by s name None e = rw e refl
 writes_by s name (Some r) e = rw e refl
 
@@ -91,14 +92,9 @@ all_told x entries is reaches h n low =
     let found = entry_for x entries n h.right (subst (λ (ns : List ℕ). Has ns n) (sym h.in_order) (in_order x is reaches n low)) in
     (found.0.commands, ap (commands_of x) (sym found.2) ∙ found.1.same_commands)
 
--- what goals reach is a node
-node_below : (g : Graph) → IsGraph g → (n : ℕ) → Reached g n → n < length g.nodes
-node_below g is n (goal h) = is.sound.goals n h
-node_below g is n (onward {n = m} more h) = is.sound.edges m n h
-
 -- what stands in the serial order are nodes
 pub order_below : (g : Graph) → IsGraph g → SerialReachesEachOnce → (order : List ℕ) → order ≡ serial_order g → (k d : ℕ) → k < length order → get_or order k d < length g.nodes
-order_below g is reaches order same k d low = node_below g is (get_or order k d) (((reaches g is.no_cycle).1 (get_or order k d)).0 (subst (λ (ns : List ℕ). Has ns (get_or order k d)) same (at order k d low)))
+order_below g is reaches order same k d low = reached_is_node g is (get_or order k d) (((reaches g is.no_cycle).1 (get_or order k d)).0 (subst (λ (ns : List ℕ). Has ns (get_or order k d)) same (at order k d low)))
   where
     at : (ns : List ℕ) (k d : ℕ) → k < length ns → Has ns (get_or ns k d)
     at [] k d h = absurd (omega arith)

@@ -1,6 +1,6 @@
 -- The places of files.
 use Rattle.std.proofs.Common.{◌≡◌, ℕ, zero, suc, Bool, ◌<◌, List, [], ◌∷◌, ◌++◌, Option, None, Some, length, get_or, map, true, false, refl, sym, ap, subst, ◌∙◌, inl, inr, arith, length-append}
-use Rattle.std.specs.Prelude.{filter, find, cond, slice_get, ◌||◌}
+use Rattle.std.specs.Prelude.{filter, slice_get, ◌||◌}
 use Rattle.std.specs.Borrow.{Bor}
 use Rattle.std.specs.List.{list_any}
 use Rattle.std.specs.Option.{option_map}
@@ -9,6 +9,7 @@ use Rattle.std.proofs.lemmas.Bool.{true≢false}
 use Rattle.std.proofs.lemmas.List.{get_or-map, length-map, map_push, get_or_append_left}
 use Rattle.std.proofs.lemmas.Option.{slice_get-map, slice_get_within, slice_get-get_or, get_or_from_slice_get}
 use Rattle.std.proofs.lemmas.Slice.Eq.{bytes_eq-Decides}
+use Rattle.mk_lemmas.proofs.Texts.{texts}
 use Rattle.mk_lines.specs.Names.{has_name}
 use Rattle.mk_graph.specs.Membership.{Has}
 use Rattle.mk_graph.specs.Serial.{serial_order}
@@ -16,10 +17,6 @@ use Rattle.mk_subject.specs.NodeRow.{writers_of}
 use Rattle.mk_subject.specs.FileInfo.{FileInfo, StandAt, all_names, known_by, known_of}
 use Rattle.mk_subject.specs.Subject.{Subject, writes_of}
 use Rattle.mk_subject.proofs.Decided.{has_decides}
-
--- what the keys of a table spell
-abbrev pub spelled : List (Bor (List ℕ)) → List (List ℕ)
-spelled keys = map (λ (key : Bor (List ℕ)). key.now) keys
 
 -- what stands at a place stays there as more come
 pub names_more : (names rest : List (List ℕ)) (p : ℕ) (f : List ℕ) → slice_get names p ≡ Some f → slice_get (names ++ rest) p ≡ Some f
@@ -48,11 +45,11 @@ stand_push names places new p files all f pushed more here h =
     ap (map at) pushed ∙ (map_push at places p ∙ (ap (λ (l : List (Option (List ℕ))). l ++ at p ∷ []) h ∙ (ap (λ (v : Option (List ℕ)). map so files ++ v ∷ []) here ∙ (sym (map_push so files f) ∙ ap (map so) (sym more)))))
 
 -- the same over keys that grow
-pub keys_more : (keys rest new : List (Bor (List ℕ))) (places : List ℕ) (files : List (List ℕ)) → new ≡ keys ++ rest → StandAt (spelled keys) places files → StandAt (spelled new) places files
+pub keys_more : (keys rest new : List (Bor (List ℕ))) (places : List ℕ) (files : List (List ℕ)) → new ≡ keys ++ rest → StandAt (texts keys) places files → StandAt (texts new) places files
 keys_more keys rest new places files grown h =
-    subst (λ (names : List (List ℕ)). StandAt names places files) (sym (ap spelled grown ∙ spelled_append keys)) (stand_more (spelled keys) (spelled rest) places files h)
+    subst (λ (names : List (List ℕ)). StandAt names places files) (sym (ap texts grown ∙ spelled_append keys)) (stand_more (texts keys) (texts rest) places files h)
   where
-    spelled_append : (ks : List (Bor (List ℕ))) → spelled (ks ++ rest) ≡ spelled ks ++ spelled rest
+    spelled_append : (ks : List (Bor (List ℕ))) → texts (ks ++ rest) ≡ texts ks ++ texts rest
     spelled_append [] = refl
     spelled_append (k ∷ ks) = ap (λ (l : List (List ℕ)). k.now ∷ l) (spelled_append ks)
 
@@ -68,22 +65,13 @@ stands names places files i lt h =
     sym (get_or-map (λ (place : ℕ). slice_get names place) places i 0 None low) ∙ (ap (λ (l : List (Option (List ℕ))). get_or l i None) h ∙ get_or-map (λ (file : List ℕ). Some file) files i [] None lt)
 
 -- a file that was met stands among what the keys spell
-pub met : (keys : List (Bor (List ℕ))) (p : ℕ) (f : List ℕ) (k : Bor (List ℕ)) → slice_get keys p ≡ Some k → bytes_eq f k.now ≡ true → slice_get (spelled keys) p ≡ Some f
+pub met : (keys : List (Bor (List ℕ))) (p : ℕ) (f : List ℕ) (k : Bor (List ℕ)) → slice_get keys p ≡ Some k → bytes_eq f k.now ≡ true → slice_get (texts keys) p ≡ Some f
 met keys p f k at same =
     slice_get-map (λ (g : Bor (List ℕ)). g.now) keys p ∙ (ap (option_of) at ∙ ap (λ (g : List ℕ). Some g) (sym ((bytes_eq-Decides f k.now).0 same)))
   where
     option_of : Option (Bor (List ℕ)) → Option (List ℕ)
     option_of None = None
     option_of (Some g) = Some g.now
-
--- what is found passes
-pub found_passes : {A : Type 0} (p : A → Bool) (xs : List A) (x : A) → find p xs ≡ Some x → p x ≡ true
-found_passes p [] x h = absurd cc
-found_passes {A} p (y ∷ xs) x h = at (p y) refl h (found_passes p xs x)
-  where
-    at : (b : Bool) → p y ≡ b → cond b (Some y) (find p xs) ≡ Some x → (find p xs ≡ Some x → p x ≡ true) → p x ≡ true
-    at true e k ih = let same : y ≡ x = cc in ap p (sym same) ∙ e
-    at false e k ih = ih k
 
 -- what stands at a place stands among the names
 at_among : (names : List (List ℕ)) (p : ℕ) (f : List ℕ) → slice_get names p ≡ Some f → Has names f
@@ -100,11 +88,11 @@ stand_among names (p ∷ ps) (g ∷ gs) h f (inl here) = at_among names p f (let
 stand_among names (p ∷ ps) (g ∷ gs) h f (inr there) = stand_among names ps gs (cc) f there
 
 -- a name that no key spells
-pub not_spelled : (keys : List (Bor (List ℕ))) (f : List ℕ) → list_any (λ (key : Bor (List ℕ)). bytes_eq f key.now) keys ≡ false → ¬ (Has (spelled keys) f)
+pub not_spelled : (keys : List (Bor (List ℕ))) (f : List ℕ) → list_any (λ (key : Bor (List ℕ)). bytes_eq f key.now) keys ≡ false → ¬ (Has (texts keys) f)
 not_spelled [] f none h = h
 not_spelled (key ∷ keys) f none h = by (bytes_eq f key.now) refl none (not_spelled keys f) h
   where
-    by : (b : Bool) → bytes_eq f key.now ≡ b → (b || list_any (λ (k : Bor (List ℕ)). bytes_eq f k.now) keys) ≡ false → (list_any (λ (k : Bor (List ℕ)). bytes_eq f k.now) keys ≡ false → ¬ (Has (spelled keys) f)) → ¬ (Has (spelled (key ∷ keys)) f)
+    by : (b : Bool) → bytes_eq f key.now ≡ b → (b || list_any (λ (k : Bor (List ℕ)). bytes_eq f k.now) keys) ≡ false → (list_any (λ (k : Bor (List ℕ)). bytes_eq f k.now) keys ≡ false → ¬ (Has (texts keys) f)) → ¬ (Has (texts (key ∷ keys)) f)
     by true e k later h = true≢false k
     by false e k later (inl here) = true≢false (sym ((bytes_eq-Decides f key.now).1 (sym here)) ∙ e)
     by false e k later (inr there) = later k there

@@ -1,62 +1,19 @@
 -- Rows of numbers that stand one behind another in one list.
-use Rattle.std.proofs.Common.{◌≡◌, ℕ, zero, suc, ◌+◌, ◌-◌, ◌<◌, ◌≤◌, List, [], ◌∷◌, ◌++◌, length, get_or, take, drop, arith, refl, sym, ap, subst, ◌∙◌, add-one, append_assoc, append-nil, length-append, take-append-drop}
+use Rattle.std.proofs.Common.{◌≡◌, ℕ, zero, suc, ◌+◌, ◌<◌, ◌≤◌, List, [], ◌∷◌, ◌++◌, length, get_or, take, drop, arith, refl, sym, ap, subst, ◌∙◌, add-one, append-nil, length-append, take-append-drop}
 use Rattle.std.specs.List.{concat, slice_range}
-use Rattle.std.proofs.Math.Seq.{drop-append_seam, take-append_seam}
 use Rattle.std.proofs.lemmas.List.{drop_more, take_more, get_or_past}
+use Rattle.std.proofs.lemmas.List.Folds.{concat-append}
+use Rattle.mk_cert_text.proofs.Packed.{begins_from, cut_names, ends_more, length-ends, piece_at}
 use Rattle.mk_cert_text.specs.Packing.{cut_from, ends_from}
 use Rattle.mk_subject.specs.NumberRows.{AreRows}
 
-concat-append : (xs ys : List (List ℕ)) → concat (xs ++ ys) ≡ concat xs ++ concat ys
-concat-append [] ys = refl
-concat-append (x ∷ xs) ys = ap (λ (l : List ℕ). x ++ l) (concat-append xs ys) ∙ sym (append_assoc x (concat xs) (concat ys))
-
--- the piece of a list that stands between two others
-piece_at : (s : ℕ) (before piece after numbers : List ℕ) → length before ≡ s → numbers ≡ before ++ (piece ++ after) → slice_range numbers s (s + length piece) ≡ piece
-piece_at s before piece after numbers at is =
-    let rest : drop s numbers ≡ piece ++ after = ap (drop s) is ∙ (ap (λ n. drop n (before ++ (piece ++ after))) (sym at) ∙ drop-append_seam before (piece ++ after)) in
-    let long : (s + length piece) - s ≡ length piece = omega arith in
-    ap (λ n. take n (drop s numbers)) long ∙ (ap (take (length piece)) rest ∙ take-append_seam piece after)
-
--- rows are cut out of the list in which they stand
-cut_back : (rows : List (List ℕ)) (s : ℕ) (before after numbers : List ℕ) → length before ≡ s → numbers ≡ before ++ (concat rows ++ after) → cut_from s (ends_from s rows) numbers ≡ rows
-cut_back [] s before after numbers at is = refl
-cut_back (row ∷ rows) s before after numbers at is =
-    let first : numbers ≡ before ++ (row ++ (concat rows ++ after)) = is ∙ ap (λ (l : List ℕ). before ++ l) (append_assoc row (concat rows) after) in
-    let here : slice_range numbers s (s + length row) ≡ row = piece_at s before row (concat rows ++ after) numbers at first in
-    let more : cut_from (s + length row) (ends_from (s + length row) rows) numbers ≡ rows = cut_back rows (s + length row) (before ++ row) after numbers (length-append before row ∙ ap (λ n. n + length row) at) (first ∙ sym (append_assoc before row (concat rows ++ after))) in
-    ap (λ (l : List ℕ). l ∷ cut_from (s + length row) (ends_from (s + length row) rows) numbers) here ∙ ap (λ (l : List (List ℕ)). row ∷ l) more
-
--- what holds of a list, if these rows are all of it
-cut_rows : (rows : List (List ℕ)) (ends numbers : List ℕ) → ends_from 0 rows ≡ ends → concat rows ≡ numbers → cut_from 0 ends numbers ≡ rows
-cut_rows rows ends numbers places whole =
-    ap (λ (l : List ℕ). cut_from 0 l numbers) (sym places) ∙ cut_back rows 0 [] [] numbers refl (sym whole ∙ sym (append-nil (concat rows)))
-
 are_rows : (rows : List (List ℕ)) (ends numbers : List ℕ) → ends_from 0 rows ≡ ends → concat rows ≡ numbers → AreRows ends numbers
 are_rows rows ends numbers places whole =
-    let same = sym (cut_rows rows ends numbers places whole) in
+    let same = sym (cut_names rows ends numbers places whole) in
     record {
       whole = subst (λ (l : List (List ℕ)). concat l ≡ numbers) same whole;
       places = subst (λ (l : List (List ℕ)). ends_from 0 l ≡ ends) same places;
     }
-
--- how many there are
-length-ends : (rows : List (List ℕ)) (s : ℕ) → length (ends_from s rows) ≡ length rows
-length-ends [] s = refl
-length-ends (row ∷ rows) s = ap suc (length-ends rows (s + length row))
-
--- one more at the end
-ends_more : (rows : List (List ℕ)) (row : List ℕ) (s : ℕ) → ends_from s (rows ++ row ∷ []) ≡ ends_from s rows ++ (s + length (concat rows ++ row)) ∷ []
-ends_more [] row s = refl
-ends_more (first ∷ rows) row s =
-    let long : (s + length first) + length (concat rows ++ row) ≡ s + length ((first ++ concat rows) ++ row) = omega (arith, length-append (first ++ concat rows) row, length-append first (concat rows), length-append (concat rows) row) in
-    ap (λ (l : List ℕ). (s + length first) ∷ l) (ends_more rows row (s + length first) ∙ ap (λ n. ends_from (s + length first) rows ++ n ∷ []) long)
-
--- where the row at a place begins
-begins_from : (rows : List (List ℕ)) (s i : ℕ) → i ≤ length rows → get_or (s ∷ ends_from s rows) i 0 ≡ s + length (concat (take i rows))
-begins_from rows s zero low = sym (omega arith)
-begins_from [] s (suc i) low = absurd (omega arith)
-begins_from (row ∷ rows) s (suc i) low =
-    begins_from rows (s + length row) i (omega arith) ∙ omega (arith, length-append row (concat (take i rows)))
 
 -- a row is pushed
 module _ (ends numbers : List ℕ) (is : AreRows ends numbers) (row : List ℕ) (place : ℕ) (new_ends new_numbers : List ℕ) (grown : new_numbers ≡ numbers ++ row) (at_end : place ≡ length new_numbers) (more : new_ends ≡ ends ++ place ∷ []) where
@@ -80,7 +37,7 @@ module _ (ends numbers : List ℕ) (is : AreRows ends numbers) (row : List ℕ) 
 
   pub pushed : cut_from 0 new_ends new_numbers ≡ cut_from 0 ends numbers ++ row ∷ []
   unfolding pushed_rows
-  pushed = cut_rows pushed_rows new_ends new_numbers pushed_places pushed_whole
+  pushed = cut_names pushed_rows new_ends new_numbers pushed_places pushed_whole
 
 pub counted : (ends numbers : List ℕ) → AreRows ends numbers → length ends ≡ length (cut_from 0 ends numbers)
 counted ends numbers is = ap length (sym is.places) ∙ length-ends (cut_from 0 ends numbers) 0

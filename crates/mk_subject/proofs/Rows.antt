@@ -3,8 +3,8 @@ use Rattle.std.proofs.Common.{◌≡◌, ℕ, zero, suc, ◌+◌, ◌<◌, ◌�
 use Rattle.std.specs.Prelude.{◌↔◌}
 use Rattle.std.proofs.lemmas.Bool.{cases_lt}
 use Rattle.std.proofs.lemmas.List.{get_or_past, take_more}
+use Rattle.mk_lemmas.proofs.Members.{Has-cases, Has-left, Has-right}
 use Rattle.mk_graph.specs.Membership.{Has, IsDistinct}
-use Rattle.mk_graph.specs.Lists.{has_left, has_right, has_cases}
 
 module _ {A : Type 0} where
   -- at each number stands what is so of it
@@ -36,12 +36,12 @@ module _ {A : Type 0} where
 
   -- what stands among one more of a list
   pub in_push : (xs : List A) (y z : A) → Has (xs ++ y ∷ []) z → Has xs z ⊎ (y ≡ z)
-  in_push xs y z h = elim (has_cases xs (y ∷ []) z h) [ inl before ↦ inl before | inr (inl last) ↦ inr last | inr (inr none) ↦ absurd none ]
+  in_push xs y z h = elim (Has-cases xs (y ∷ []) z h) [ inl before ↦ inl before | inr (inl last) ↦ inr last | inr (inr none) ↦ absurd none ]
 
   pub in_take_more : (xs : List A) (i : ℕ) (d z : A) → i < length xs → Has (take (i + 1) xs) z ↔ (Has (take i xs) z ⊎ (get_or xs i d ≡ z))
   in_take_more xs i d z lt = (
     λ h. in_push (take i xs) (get_or xs i d) z (subst (λ (l : List A). Has l z) (take_more xs i d lt) h),
-    λ h. subst (λ (l : List A). Has l z) (sym (take_more xs i d lt)) (⊎_elim (λ there. has_left (take i xs) (get_or xs i d ∷ []) z there) (λ here. has_right (take i xs) (get_or xs i d ∷ []) z (inl here)) h),
+    λ h. subst (λ (l : List A). Has l z) (sym (take_more xs i d lt)) (⊎_elim (λ there. Has-left (take i xs) (get_or xs i d ∷ []) z there) (λ here. Has-right (take i xs) (get_or xs i d ∷ []) z (inl here)) h),
   )
 
   -- what stands at a place stands in the list

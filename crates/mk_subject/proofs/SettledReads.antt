@@ -2,10 +2,11 @@
 use Rattle.std.proofs.Common.{◌≡◌, ℕ, ◌+◌, ◌<◌, ◌≤◌, List, [], ◌∷◌, ◌++◌, Bool, true, false, Option, None, Some, length, get_or, map, take, refl, sym, ap, ◌∙◌, append-nil, arith}
 use Rattle.std.specs.Prelude.{filter, not, slice_get, ◌&&◌, ◌==◌}
 use Rattle.std.proofs.Math.Dec.{eqb-suc-zero}
-use Rattle.std.proofs.lemmas.Bool.{true≢false}
-use Rattle.std.proofs.lemmas.List.{get_or-map, length-map, map_push, take_all, take_more}
+use Rattle.std.proofs.lemmas.Bool.{true≢false, not-false}
+use Rattle.std.proofs.lemmas.List.{map_push, take_all, take_more}
 use Rattle.std.proofs.lemmas.List.Elements.{filter-append}
 use Rattle.std.proofs.lemmas.Option.{slice_get-map}
+use Rattle.mk_subject.proofs.KnownFiles.{as_many, stands}
 use Rattle.mk_graph.specs.Membership.{Has}
 use Rattle.mk_subject.specs.Subject.{Subject, reads_of}
 use Rattle.mk_subject.specs.FileInfo.{FileInfo, StandAt}
@@ -18,10 +19,6 @@ parts true true writers h = absurd (let e : false ≡ true = h in cc)
 parts true false [] h = (refl, (refl, refl))
 parts true false (w ∷ writers) h = absurd (true≢false (sym h ∙ eqb-suc-zero (length writers)))
 
-contrary : (b : Bool) → not b ≡ false → b ≡ true
-contrary true h = refl
-contrary false h = absurd (true≢false h)
-
 -- what is known of a settled file
 pub record IsSettled (k : FileInfo) : Type 0 where
   pub given : k.given ≡ true
@@ -29,7 +26,7 @@ pub record IsSettled (k : FileInfo) : Type 0 where
   pub unwritten : k.writers ≡ []
 
 pub settled : (k : FileInfo) → not (is_settled k) ≡ false → IsSettled k
-settled k h = let p = parts k.given k.editable k.writers (contrary (is_settled k) h) in record { given = p.0; fixed = p.1.0; unwritten = p.1.1 }
+settled k h = let p = parts k.given k.editable k.writers (not-false (is_settled k) h) in record { given = p.0; fixed = p.1.0; unwritten = p.1.1 }
 
 alone_kept : (p : List ℕ → Bool) (f : List ℕ) → p f ≡ true → filter p (f ∷ []) ≡ f ∷ []
 alone_kept p f e = rw e refl
@@ -42,16 +39,6 @@ pub record OpenAt (x : Subject) (t i : ℕ) (target : Target) : Type 0 where
   pub low : i < length (unsettled_of x t)
   pub file : target.file ≡ get_or (unsettled_of x t) i []
   pub read : Has (reads_of x t) target.file
-
--- where files stand, there are as many places
-many_stand : (names : List (List ℕ)) (places : List ℕ) (files : List (List ℕ)) → StandAt names places files → length places ≡ length files
-many_stand names places files h = sym (length-map places (λ (p : ℕ). slice_get names p)) ∙ (ap (λ (l : List (Option (List ℕ))). length l) h ∙ length-map files (λ (f : List ℕ). Some f))
-
--- and at the place of one of them it stands
-one_stands : (names : List (List ℕ)) (places : List ℕ) (files : List (List ℕ)) (i : ℕ) → i < length files → StandAt names places files → slice_get names (get_or places i 0) ≡ Some (get_or files i [])
-one_stands names places files i lt h =
-    let low : i < length places = omega (arith, many_stand names places files h) in
-    sym (get_or-map (λ (p : ℕ). slice_get names p) places i 0 None low) ∙ (ap (λ (l : List (Option (List ℕ))). get_or l i None) h ∙ get_or-map (λ (f : List ℕ). Some f) files i [] None lt)
 
 -- the places so far of those that aren't settled, by what is known of the files with the names
 abbrev pub SoFar : List FileInfo → List ℕ → ℕ → List ℕ → Type 0
@@ -73,8 +60,8 @@ module _ (by : List ℕ → FileInfo) (names files : List (List ℕ)) where
   -- what is known of the file at a place
   pub known_at : (known : List FileInfo) (places : List ℕ) (i : ℕ) → i < length places → known ≡ map by names → StandAt names places files → slice_get known (get_or places i 0) ≡ Some (by (at i))
   known_at known places i lt all h =
-      let low : i < length files = omega (arith, many_stand names places files h) in
-      ap (λ (l : List FileInfo). slice_get l (get_or places i 0)) all ∙ (slice_get-map by names (get_or places i 0) ∙ ap (option_of) (one_stands names places files i low h))
+      let low : i < length files = omega (arith, as_many names places files h) in
+      ap (λ (l : List FileInfo). slice_get l (get_or places i 0)) all ∙ (slice_get-map by names (get_or places i 0) ∙ ap (option_of) (stands names places files i low h))
     where
       option_of : Option (List ℕ) → Option FileInfo
       option_of None = None
@@ -83,18 +70,18 @@ module _ (by : List ℕ → FileInfo) (names files : List (List ℕ)) where
   -- the place of a file that isn't settled is one more
   pub place_more : (places some new : List ℕ) (i : ℕ) → i < length places → new ≡ some ++ get_or places i 0 ∷ [] → is_settled (by (at i)) ≡ false → StandAt names places files → StandAt names some (unsettled by (take i files)) → StandAt names new (unsettled by (take (i + 1) files))
   place_more places some new i lt pushed free h so_far =
-      let low : i < length files = omega (arith, many_stand names places files h) in
+      let low : i < length files = omega (arith, as_many names places files h) in
       let one : unsettled by (take i files) ++ at i ∷ [] ≡ unsettled by (take (i + 1) files) = ap (λ (l : List (List ℕ)). unsettled by (take i files) ++ l) (sym (alone_kept tells (at i) (ap (λ b. not b) free))) ∙ sym (more_files i low) in
       ap (map shown) pushed ∙ (map_push shown some (get_or places i 0)
       ∙ (ap (λ (l : List (Option (List ℕ))). l ++ shown (get_or places i 0) ∷ []) so_far
       ∙ (ap (λ (v : Option (List ℕ)). map Some (unsettled by (take i files)) ++ v ∷ [])
-      (one_stands names places files i low h) ∙ (sym (map_push (λ (f : List ℕ). Some f)
+      (stands names places files i low h) ∙ (sym (map_push (λ (f : List ℕ). Some f)
       (unsettled by (take i files)) (at i)) ∙ ap (map (λ (f : List ℕ). Some f)) one))))
 
   -- that of a settled one isn't
   pub place_past : (places some : List ℕ) (i : ℕ) → i < length places → is_settled (by (at i)) ≡ true → StandAt names places files → StandAt names some (unsettled by (take i files)) → StandAt names some (unsettled by (take (i + 1) files))
   place_past places some i lt closed h so_far =
-      let low : i < length files = omega (arith, many_stand names places files h) in
+      let low : i < length files = omega (arith, as_many names places files h) in
       let none : unsettled by (take i files) ≡ unsettled by (take (i + 1) files) = sym (append-nil (unsettled by (take i files))) ∙ (ap (λ (l : List (List ℕ)). unsettled by (take i files) ++ l) (sym (alone_dropped tells (at i) (ap (λ b. not b) closed))) ∙ sym (more_files i low)) in
       so_far ∙ ap (map (λ (f : List ℕ). Some f)) none
 
@@ -115,7 +102,7 @@ Unsettled known places some = (by : List ℕ → FileInfo) (names files : List (
 
 pub so_far_all : (known : List FileInfo) (places some : List ℕ) (i : ℕ) → length places ≤ i → SoFar known places i some → Unsettled known places some
 so_far_all known places some i past before = λ by names files all h.
-    let end : length files ≤ i = omega (arith, many_stand names places files h) in
+    let end : length files ≤ i = omega (arith, as_many names places files h) in
     before by names files all h ∙ ap (λ (fs : List (List ℕ)). map (λ (f : List ℕ). Some f) (unsettled by fs)) (take_all i files end)
 
 -- of no places there are none

@@ -6,6 +6,7 @@ use Rattle.std.specs.List.{flat_map}
 use Rattle.std.proofs.lemmas.Bool.{cases_Bool}
 use Rattle.std.proofs.lemmas.Grind.{flat_map-append}
 use Rattle.std.proofs.lemmas.List.{map_push, take_more}
+use Rattle.mk_lemmas.proofs.Members.{Has-cases}
 use Rattle.mk_lines.specs.Names.{has_name}
 use Rattle.mk_graph.specs.Membership.{Has}
 use Rattle.mk_read.specs.Reading.{Makefile}
@@ -15,7 +16,6 @@ use Rattle.mk_infer.specs.Laws.{with_more}
 use Rattle.mk_infer.specs.Targets.{is_target}
 use Rattle.mk_infer.specs.There.{Exists, is_there}
 use Rattle.mk_subject.proofs.Decided.{has_decides}
-use Rattle.mk_graph.specs.Lists.{has_cases}
 use Rattle.mk_subject.proofs.Rows.{in_push}
 
 last_is_true : (a b c : Bool) → (a || (b || (c || true))) ≡ true
@@ -63,4 +63,4 @@ module _ {A : Type 0} where
 pub in_lists : (P : List ℕ → Type 0) (of : ℕ → List (List ℕ)) (ns : List ℕ) (i d : ℕ) → i < length ns → ((f : List ℕ) → Has (of (get_or ns i d)) f → P f) → ((f : List ℕ) → Has (flat_map of (take i ns)) f → P f) → (f : List ℕ) → Has (flat_map of (take (i + 1) ns)) f → P f
 in_lists P of ns i d lt here before f h =
     let more : flat_map of (take (i + 1) ns) ≡ flat_map of (take i ns) ++ (of (get_or ns i d) ++ []) = ap (flat_map of) (take_more ns i d lt) ∙ flat_map-append of (take i ns) (get_or ns i d ∷ []) in
-    ⊎_elim (λ early. before f early) (λ now. here f (subst (λ (l : List (List ℕ)). Has l f) (append-nil (of (get_or ns i d))) now)) (has_cases (flat_map of (take i ns)) (of (get_or ns i d) ++ []) f (subst (λ (l : List (List ℕ)). Has l f) more h))
+    ⊎_elim (λ early. before f early) (λ now. here f (subst (λ (l : List (List ℕ)). Has l f) (append-nil (of (get_or ns i d))) now)) (Has-cases (flat_map of (take i ns)) (of (get_or ns i d) ++ []) f (subst (λ (l : List (List ℕ)). Has l f) more h))

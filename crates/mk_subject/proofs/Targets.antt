@@ -1,9 +1,9 @@
 -- Files with what is known of them.
 use Rattle.std.proofs.Common.{◌≡◌, ◌∙◌, ◌<◌, [], ℕ, List, ap, sym, subst, get_or, length}
+use Rattle.mk_lemmas.proofs.Members.{Has-get_or}
 use Rattle.mk_graph.specs.Membership.{Has}
 use Rattle.mk_subject.specs.Subject.{Subject, writes_of}
 use Rattle.mk_subject.specs.Target.{Target, target_of}
-use Rattle.mk_subject.proofs.FileDecided.{at_place}
 
 -- what is known of it is known by its name
 pub by_name : (x : Subject) (file : Target) (f : List ℕ) → file ≡ target_of x f → file ≡ target_of x file.file
@@ -15,4 +15,4 @@ module _ (x : Subject) (file : Target) (n t i : ℕ) (number : n ≡ t) (same : 
   written_at = ap (λ (k : ℕ). get_or (writes_of x k) i []) (sym number) ∙ sym (ap (λ (k : Target). k.file) same)
 
   pub is_written : i < length (writes_of x t) → Has (writes_of x t) file.file
-  is_written low = subst (λ (f : List ℕ). Has (writes_of x t) f) written_at (at_place (writes_of x t) i [] low)
+  is_written low = subst (λ (f : List ℕ). Has (writes_of x t) f) written_at (Has-get_or (writes_of x t) i [] low)

@@ -1,5 +1,5 @@
 -- Names in the order of their bytes.
-use Rattle.std.proofs.Common.{◌≡◌, ℕ, zero, suc, Bool, true, false, cond, List, [], ◌∷◌, ◌++◌, map, refl, sym, ap, ◌∙◌, inl, inr, subst, ◌⊎◌, get_or, ◌+◌, ◌<◌, ◌≤◌, length, true≢false, arith}
+use Rattle.std.proofs.Common.{◌≡◌, ℕ, zero, suc, Bool, true, false, cond, List, [], ◌∷◌, ◌++◌, refl, sym, ap, ◌∙◌, inl, inr, subst, ◌⊎◌, get_or, ◌+◌, ◌<◌, ◌≤◌, length, true≢false, arith}
 use Rattle.std.specs.Prelude.{◌↔◌, fold}
 use Rattle.std.specs.Borrow.{Bor}
 use Rattle.std.specs.declared.cmp.Ordering.{Ordering}
@@ -14,20 +14,17 @@ use Rattle.std.proofs.lemmas.Map.Text.{is_eq-slice_cmp}
 use Rattle.std.proofs.lemmas.Slice.Eq.{bytes_eq-Decides}
 use Rattle.std.proofs.lemmas.List.{get_or-map}
 use Rattle.std.proofs.lemmas.List.Sorted.{Contains-permutation, IsPermutation-map, IsPermutation-sym, ranks_by, sorted_far}
+use Rattle.mk_lemmas.proofs.Texts.{texts}
+use Rattle.mk_lemmas.proofs.Members.{Has-cases, Has-left, Has-right}
+use Rattle.mk_lines.proofs.NameTests.{Has-from_has_name, has_name-from_Has}
 use Rattle.mk_lines.specs.Names.{has_name, with_name}
 use Rattle.mk_graph.specs.Membership.{Has}
-use Rattle.mk_graph.specs.Lists.{has_left, has_right, has_cases}
 use Rattle.mk_build.specs.World.{AreAscending}
 use Rattle.mk_world.specs.First.{AreSorted}
-use Rattle.mk_world.proofs.Tables.{name_there, there_name}
 
 -- the order of texts by their bytes
 abbrev pub by_bytes : Bor (List ℕ) → Bor (List ℕ) → Ordering
 by_bytes a b = slice_cmp nat_cmp a.now b.now
-
--- what texts spell
-abbrev pub spelled : List (Bor (List ℕ)) → List (List ℕ)
-spelled texts = map (λ text. text.now) texts
 
 -- sorted names ascend
 pub ascending : (names : List (List ℕ)) → AreSorted names → AreAscending names
@@ -38,17 +35,17 @@ ascending (f ∷ k ∷ names) h = (h.0.0, ascending (k ∷ names) h.1)
 
 -- what stands in a list with one more
 push_has : (xs : List (List ℕ)) (x f : List ℕ) → Has xs f ⊎ (x ≡ f) → Has (xs ++ x ∷ []) f
-push_has xs x f h = elim h [ inl before ↦ has_left xs (x ∷ []) f before | inr last ↦ has_right xs (x ∷ []) f (inl last) ]
+push_has xs x f h = elim h [ inl before ↦ Has-left xs (x ∷ []) f before | inr last ↦ Has-right xs (x ∷ []) f (inl last) ]
 
 has_push : (xs : List (List ℕ)) (x f : List ℕ) → Has (xs ++ x ∷ []) f → Has xs f ⊎ (x ≡ f)
-has_push xs x f h = elim (has_cases xs (x ∷ []) f h) [ inl before ↦ inl before | inr (inl last) ↦ inr last | inr (inr none) ↦ absurd none ]
+has_push xs x f h = elim (Has-cases xs (x ∷ []) f h) [ inl before ↦ inl before | inr (inl last) ↦ inr last | inr (inr none) ↦ absurd none ]
 
 -- what stands among names to which one was added,
 pub one_has : (names : List (List ℕ)) (name f : List ℕ) → Has (with_name names name) f ↔ (Has names f ⊎ (name ≡ f))
 one_has names name f = at (has_name names name) refl
   where
     at : (b : Bool) → has_name names name ≡ b → Has (cond b names (names ++ name ∷ [])) f ↔ (Has names f ⊎ (name ≡ f))
-    at true t = (λ h. inl h, λ h. elim h [ inl there ↦ there | inr e ↦ subst (Has names) e (name_there names name t) ])
+    at true t = (λ h. inl h, λ h. elim h [ inl there ↦ there | inr e ↦ subst (Has names) e (Has-from_has_name names name t) ])
     at false t = (has_push names name f, push_has names name f)
 
 -- and to which others were
@@ -82,7 +79,7 @@ comes_before y name far apart = at (slice_cmp nat_cmp y name) refl
 
 -- the name stands among the first of the texts
 abbrev pub AmongFirst : List (Bor (List ℕ)) → ℕ → List ℕ → Type 0
-AmongFirst texts i f = (k : ℕ) × (k < i) × (get_or (spelled texts) k f ≡ f)
+AmongFirst texts i f = (k : ℕ) × (k < i) × (get_or (texts texts) k f ≡ f)
 
 -- What the first ones of texts in their order leave: the same names, sorted, each once.
 pub record IsSortedTo (texts : List (Bor (List ℕ))) (i : ℕ) (names : List (List ℕ)) : Type 0 where
@@ -99,7 +96,7 @@ pub one_sorted : (texts : List (Bor (List ℕ))) (i : ℕ) (d : Bor (List ℕ)) 
 one_sorted texts i d old new name up lt named added so =
     subst (IsSortedTo texts (i + 1)) (sym added) (record { sorted = at (has_name old name) refl; all = λ f. (there f, back f) })
   where
-    is : (f : List ℕ) → get_or (spelled texts) i f ≡ name
+    is : (f : List ℕ) → get_or (texts texts) i f ≡ name
     is f = get_or-map (λ (text : Bor (List ℕ)). text.now) texts i d f lt ∙ sym named
 
     there : (f : List ℕ) → Has (with_name old name) f → AmongFirst texts (i + 1) f
@@ -111,7 +108,7 @@ one_sorted texts i d old new name up lt named added so =
     back : (f : List ℕ) → AmongFirst texts (i + 1) f → Has (with_name old name) f
     back f p = (one_has old name f).1 (elim (cases_lt p.0 i) [
       | inl low ↦ inl ((so.all f).1 (p.0, low, p.2))
-      | inr ge ↦ inr (sym (is f) ∙ (ap (λ k. get_or (spelled texts) k f) (sym (last p.0 p.1 ge)) ∙ p.2))
+      | inr ge ↦ inr (sym (is f) ∙ (ap (λ k. get_or (texts texts) k f) (sym (last p.0 p.1 ge)) ∙ p.2))
     ])
 
     below : has_name old name ≡ false → (y : List ℕ) → Has old y → slice_cmp nat_cmp y name ≡ Less
@@ -120,7 +117,7 @@ one_sorted texts i d old new name up lt named added so =
         let within : p.0 < length texts = omega (arith, p.1) in
         let far = sorted_far (λ a b. is_lt (by_bytes a b)) (ranks_by nat_list_cmp_total (λ (text : Bor (List ℕ)). text.now)) texts up p.0 i d (omega (arith, p.1)) lt in
         let here : (get_or texts p.0 d).now ≡ y = sym (get_or-map (λ (text : Bor (List ℕ)). text.now) texts p.0 d y within) ∙ p.2 in
-        comes_before y name (ap (λ n. is_lt (slice_cmp nat_cmp n y)) named ∙ (ap (λ n. is_lt (slice_cmp nat_cmp (get_or texts i d).now n)) (sym here) ∙ far)) (λ e. true≢false (sym (there_name old name (subst (Has old) e h)) ∙ out))
+        comes_before y name (ap (λ n. is_lt (slice_cmp nat_cmp n y)) named ∙ (ap (λ n. is_lt (slice_cmp nat_cmp (get_or texts i d).now n)) (sym here) ∙ far)) (λ e. true≢false (sym (has_name-from_Has old name (subst (Has old) e h)) ∙ out))
 
     at : (b : Bool) → has_name old name ≡ b → AreSorted (cond b old (old ++ name ∷ []))
     at true t = so.sorted
@@ -137,11 +134,11 @@ has_contains (x ∷ names) f (inl e) = (0, omega arith, e)
 has_contains (x ∷ names) f (inr h) = let c = has_contains names f h in (suc c.0, omega (arith, c.1), c.2)
 
 -- all of them, where the texts are those of a list in another order
-pub all_sorted : (texts before : List (Bor (List ℕ))) (i : ℕ) (names all : List (List ℕ)) → IsPermutation before texts → spelled before ≡ all → i ≡ length (spelled texts) → IsSortedTo texts i names → (f : List ℕ) → Has names f ↔ Has all f
+pub all_sorted : (texts before : List (Bor (List ℕ))) (i : ℕ) (names all : List (List ℕ)) → IsPermutation before texts → texts before ≡ all → i ≡ length (texts texts) → IsSortedTo texts i names → (f : List ℕ) → Has names f ↔ Has all f
 all_sorted texts before i names all moved is many so f =
     let turned = IsPermutation-map (λ (text : Bor (List ℕ)). text.now) before texts moved in
-    let here : Has names f ↔ Contains (spelled texts) f = subst (λ n. Has names f ↔ ((k : ℕ) × (k < n) × (get_or (spelled texts) k f ≡ f))) many (so.all f) in
+    let here : Has names f ↔ Contains (texts texts) f = subst (λ n. Has names f ↔ ((k : ℕ) × (k < n) × (get_or (texts texts) k f ≡ f))) many (so.all f) in
     subst (λ (l : List (List ℕ)). Has names f ↔ Has l f) is (
-      λ h. contains_has (spelled before) f (Contains-permutation (spelled texts) (spelled before) f (IsPermutation-sym (spelled before) (spelled texts) turned) (here.0 h)),
-      λ h. here.1 (Contains-permutation (spelled before) (spelled texts) f turned (has_contains (spelled before) f h)),
+      λ h. contains_has (texts before) f (Contains-permutation (texts texts) (texts before) f (IsPermutation-sym (texts before) (texts texts) turned) (here.0 h)),
+      λ h. here.1 (Contains-permutation (texts before) (texts texts) f turned (has_contains (texts before) f h)),
     )

@@ -1,16 +1,16 @@
 -- What steps of recipes leave of a make.
 use Rattle.std.proofs.Common.{◌≡◌, ℕ, zero, suc, ◌<◌, Bool, true, false, List, [], ◌∷◌, length, Option, Some, None, map, refl, sym, ap, ◌∙◌, arith, inl, inr, set, subst, nat_eq, not, filter, true≢false, cond, String, Global, string_bytes}
-use Rattle.std.specs.Prelude.{replicate, unwrap_or, MatchOption, IfSome, is_some}
+use Rattle.std.specs.Prelude.{replicate, unwrap_or, IfSome, is_some}
 use Rattle.std.specs.Option.{option_flatten}
-use Rattle.std.specs.List.{flat_map}
 use Rattle.std.proofs.lemmas.Bool.{cases_Bool, eqb-true, eq-eqb, cond-true, cond-false}
 use Rattle.std.proofs.lemmas.List.{get_or-set_same, get_or-set_other, length-set, length-map, length-replicate}
+use Rattle.mk_graph.proofs.OpenGroups.{InOpenGroup-Has}
+use Rattle.mk_graph.proofs.Turning.{HasAll-has}
 use Rattle.mk_graph.specs.Membership.{Has}
-use Rattle.mk_graph.specs.Lists.{has_left, has_right}
 use Rattle.mk_graph.specs.Graph.{Graph, node, IsGraph}
 use Rattle.mk_build.specs.Setting.{FileName, reads, writes}
 use Rattle.mk_build.specs.World.{Disk, Busy, changed, outcome}
-use Rattle.mk_graph.specs.Schedules.{Wanted, goal, onward, InOpenGroup, HasAll, IsPart}
+use Rattle.mk_graph.specs.Schedules.{Wanted, goal, onward, HasAll, IsPart}
 use Rattle.mk_world.specs.Steps.{Takes}
 use Rattle.mk_build.specs.Steps.{changed_at, looked, has_put, HasSeenAll, HasPutAll, HasPutWhatIsKnown, seen_by, put_by}
 use Rattle.mk_build.specs.Steps as model
@@ -20,14 +20,10 @@ use Rattle.mk_world.specs.Fits.{Fits}
 use Rattle.mk_world.proofs.Makes.{changed_run}
 use Rattle.mk_world.proofs.Tables.{look_nothing}
 
-in_open : (done : List ℕ) (groups : List (List ℕ)) (n : ℕ) → InOpenGroup done groups n → Has (flat_map (λ group. group) groups) n
-in_open done [] n h = absurd h
-in_open done (group ∷ groups) n h = elim h [ inl here ↦ has_left group _ n here | inr later ↦ has_right group _ n (in_open done groups n later.1) ]
-
 -- what is wanted is a node
 pub wanted_low : (g : Graph) (goals done : List ℕ) → IsGraph g → ((n : ℕ) → Has goals n → n < length g.nodes) → (n : ℕ) → Wanted g goals done n → n < length g.nodes
 wanted_low g goals done is low n (goal h) = low n h
-wanted_low g goals done is low n (onward {p = p} before h) = is.sound.edges p n (in_open done (node g p).groups n h)
+wanted_low g goals done is low n (onward {p = p} before h) = is.sound.edges p n (InOpenGroup-Has done (node g p).groups n h)
 
 -- a change to what was known changes nothing
 pub unchanged_at : {A : Type 0} (at : ℕ → A) (t : ℕ) → changed_at at t (at t) ≡ at
@@ -162,10 +158,6 @@ all_known {A = A} F G h (n ∷ names) (x ∷ xs) e =
     some_none : (y : A) → Some y ≡ None → ⊥
     some_none y k = absurd cc
 
--- what stands in an option that has a value
-pub some_of : {A : Type 0} (P : Type 0) (Q : A → Type 0) {o : Option A} {x : A} → o ≡ Some x → MatchOption o P Q → Q x
-some_of P Q e h = subst (λ o. MatchOption o P Q) e h
-
 -- what a recipe has seen, where it has seen all
 pub seen_is : (scene : Scene) (m : MakeState) (t : ℕ) (names : List FileName) (values : List (Option (Option ℕ))) (xs : List (Option ℕ)) → names ≡ reads scene.graph (setting scene) t → values ≡ (run_at m.runs t).looks → map (look names values) names ≡ map (λ x. Some x) xs
     → HasSeenAll scene.graph (setting scene) (making_of scene m) t × (seen_by scene.graph (setting scene) (making_of scene m) t ≡ xs)
@@ -193,15 +185,11 @@ pub from_known : (scene : Scene) (m : MakeState) (d : Disk) (t : ℕ) (xs : List
     → IfSome (outcome d.known t xs) (λ known. known ≡ ys) → HasPutWhatIsKnown scene.graph (setting scene) (making_of scene m) d t
 from_known scene m d t xs ys e f h = subst (λ ss. IfSome (outcome d.known t ss) (λ known. known ≡ put_by scene.graph (setting scene) (making_of scene m) t)) (sym e) (subst (λ ps. IfSome (outcome d.known t xs) (λ known. known ≡ ps)) (sym f) h)
 
-all_in : (xs ns : List ℕ) (n : ℕ) → HasAll xs ns → Has ns n → Has xs n
-all_in xs [] n h k = absurd k
-all_in xs (m ∷ ns) n h k = elim k [ inl e ↦ subst (Has xs) e h.0 | inr r ↦ all_in xs ns n h.1 r ]
-
 -- a make at its begin fits
 pub started_fits : (scene : Scene) (jobs : ℕ) (goals : List ℕ) → IsGraph scene.graph → HasAll scene.graph.goals goals → Fits scene (start_of jobs goals (length scene.graph.nodes))
 started_fits scene jobs goals is all =
     record {
-      goals = λ n h. is.sound.goals n (all_in scene.graph.goals goals n all h);
+      goals = λ n h. is.sound.goals n (HasAll-has scene.graph.goals goals n all h);
       many = length-replicate (length scene.graph.nodes) no_run;
       nodes = λ t h. absurd h;
       looks = λ t h. absurd h;

@@ -1,5 +1,5 @@
 -- Disks in lists and as the model has them.
-use Rattle.std.proofs.Common.{◌≡◌, ℕ, ◌+◌, Bool, true, List, Option, Some, None, false, refl, ap, ◌∙◌, subst}
+use Rattle.std.proofs.Common.{◌≡◌, ℕ, ◌+◌, Bool, true, List, Option, Some, None, false, refl, ap, ◌∙◌}
 use Rattle.std.specs.Bool.{OnTrue}
 use Rattle.std.specs.Prelude.{option_map}
 use Rattle.mk_build.specs.Setting.{FileName}
@@ -24,10 +24,6 @@ removed_is d new f e =
     let at : (q : FileName) → option_map file_of (look d.names new q) ≡ changed (λ h. option_map file_of (look d.names d.files h)) f None q =
     λ q. ap (λ (l : FileName → Option File). option_map file_of (l q)) e ∙ map_changed (option_map file_of) (look d.names d.files) f None q in
     λ i. record { files = λ q. at q i; clock = d.clock; known = d.known }
-
--- a fact on a test that holds
-pub on_true : {b : Bool} {P : Type 0} → b ≡ true → OnTrue b P → P
-on_true {b = b} {P = P} e h = subst (λ (t : Bool). OnTrue t P) e h
 
 -- a fact for a test that holds
 pub from_true : {P : Type 0} (b : Bool) → (b ≡ true → P) → OnTrue b P

@@ -1,7 +1,7 @@
 -- The first disk, in tables and as the model has it.
 use Rattle.std.proofs.Common.{◌≡◌, ℕ, suc, ◌+◌, ◌<◌, ◌≤◌, Bool, true, false, cond, List, [], ◌∷◌, ◌++◌, length, map, Option, Some, None, refl, sym, ap, ◌∙◌, arith, inl, inr, subst, ◌⊎◌, get_or, drop, true≢false}
 use Rattle.std.specs.Borrow.{Bor}
-use Rattle.std.specs.Prelude.{◌↔◌, fold, option_map, IfOk, OnOk, Result, Ok, Err}
+use Rattle.std.specs.Prelude.{◌↔◌, fold, option_map, OnOk, Result, Ok, Err}
 use Rattle.std.proofs.lemmas.List.{drop_more, append_assoc}
 use Rattle.std.proofs.Math.ListN.{get_or-eq_default, drop_of_length-le}
 use Rattle.std.proofs.lemmas.Bool.{cases_Bool, cases_lt, cond-true, cond-false}
@@ -10,6 +10,7 @@ use Rattle.std.proofs.lemmas.List.Kept.{IsStrictlySortedBy-filter}
 use Rattle.std.specs.Ordering.{nat_cmp}
 use Rattle.std.specs.Cmp.Lexicographic.{slice_cmp}
 use Rattle.std.specs.Str.{bytes_eq}
+use Rattle.mk_lemmas.proofs.Texts.{texts}
 use Rattle.mk_lines.specs.Names.{place_from, with_name}
 use Rattle.mk_foot.specs.Setting as recorded
 use Rattle.mk_graph.specs.Membership.{Has}
@@ -22,7 +23,7 @@ use Rattle.mk_world.specs.declared.file.File.{File}
 use Rattle.mk_world.specs.Tables.{look}
 use Rattle.mk_world.specs.State.{disk_of, file_of, setting_of}
 use Rattle.mk_world.specs.First.{first_files, first_disk, given_among, AreSorted, IsNameOf, reads_of, writes_of}
-use Rattle.mk_world.proofs.Ascending.{all_has, ascending, one_has, spelled}
+use Rattle.mk_world.proofs.Ascending.{all_has, ascending, one_has}
 
 -- the file with this number, as the model has it
 abbrev numbered_file : ℕ → world.File
@@ -89,7 +90,7 @@ is_first g s names sorted all =
 pub rest_is : {A : Type 0} (text : A → FileName) (names : List A) (i : ℕ) (d : A) (name : FileName) → i < length names → name ≡ text (get_or names i d) → map text (drop i names) ≡ name ∷ map text (drop (i + 1) names)
 rest_is text names i d name lt is = ap (map text) (drop_more names i d lt) ∙ ap (λ n. n ∷ map text (drop (i + 1) names)) (sym is)
 
-pub texts_left : (texts : List (Bor FileName)) (i : ℕ) (z : Bor FileName) → i < length texts → spelled (drop i texts) ≡ (get_or texts i z).now ∷ spelled (drop (i + 1) texts)
+pub texts_left : (texts : List (Bor FileName)) (i : ℕ) (z : Bor FileName) → i < length texts → texts (drop i texts) ≡ (get_or texts i z).now ∷ texts (drop (i + 1) texts)
 texts_left texts i z lt = rest_is (λ (text : Bor FileName). text.now) texts i z (get_or texts i z).now lt refl
 
 pub files_pass : (s : recorded.Setting) (n : ℕ) (name : FileName) (texts rest : List FileName) (old new all : List (Option File)) → texts ≡ name ∷ rest → recorded.is_given s name ≡ false → new ≡ old ++ None ∷ [] → old ++ first_files s n texts ≡ all → new ++ first_files s n rest ≡ all
@@ -159,11 +160,6 @@ of_world X g s i f is h = (
   where
     none : (t : ℕ) → length g.nodes ≤ t → Has (reads_of s (node g t)) f ⊎ Has (writes_of s (node g t)) f → ⊥
     none t ge k = elim (subst (λ (v : Node). Has (reads_of s v) f ⊎ Has (writes_of s v) f) (get_or-eq_default g.nodes no_node ge) k) [ inl a ↦ a | inr b ↦ b ]
-
--- what holds of a value that was made
-pub if_ok : {A E : Type 0} {P Q : A → Type 0} (r : Result A E) → ((x : A) → P x → Q x) → IfOk r P → IfOk r Q
-if_ok (Ok x) f h = f x h
-if_ok (Err e) f h = tt
 
 pub on_ok : {A E P Q : Type 0} (r : Result A E) → (P → Q) → OnOk r P → OnOk r Q
 on_ok (Ok x) f h = f h

@@ -1,14 +1,12 @@
 -- Outcomes that are looked up.
 use Rattle.std.proofs.Common.{◌≡◌, ℕ, Bool, true, false, cond, List, [], ◌∷◌, ◌++◌, Option, Some, None, Vec, Global, map, reverse, refl, sym, ap, ◌∙◌}
 use Rattle.std.specs.Prelude.{option_map, nat_eq, ◌&&◌}
-use Rattle.std.specs.Bool.{Decides}
-use Rattle.std.specs.Option.{option_eq}
-use Rattle.std.proofs.lemmas.Bool.{eqb-true, eq-eqb}
-use Rattle.std.proofs.lemmas.Slice.Eq.{slice_eq-Decides}
+use Rattle.std.proofs.lemmas.Bool.{eqb-true, eq-eqb, and_parts}
 use Rattle.mk_build.specs.World.{outcome, same_seen}
 use Rattle.std.specs.Map.{lookup}
 use Rattle.std.proofs.lemmas.List.{map_push, reverse-append}
 use Rattle.indexmap.specs.IndexMap.{insert_entry}
+use Rattle.mk_build.proofs.Outcomes.{same_seen-Decides}
 use Rattle.mk_world.specs.declared.outcomes.Sight.{Sight}
 use Rattle.mk_world.specs.Known.{outcome_of, outcomes_of, is_same, AreFound}
 
@@ -39,25 +37,11 @@ found_last test (x ∷ es) k w h = at (test x.0) (test k) h (found_last test es 
     at true false n ih = refl
     at false t n ih = ih n
 
--- what was seen is the same where the test says so
-option_nat_Decides : (a b : Option ℕ) → Decides (option_eq nat_eq a b) (a ≡ b)
-option_nat_Decides None None = (λ e. refl, λ e. refl)
-option_nat_Decides None (Some y) = (λ e. absurd cc, λ e. absurd cc)
-option_nat_Decides (Some x) None = (λ e. absurd cc, λ e. absurd cc)
-option_nat_Decides (Some x) (Some y) = (λ e. ap Some (eqb-true x y e), λ e. eq-eqb x y (cc e))
-
-same_seen_Decides : (a b : List (Option ℕ)) → Decides (same_seen a b) (a ≡ b)
-same_seen_Decides a b = slice_eq-Decides option_nat_Decides a b (same_seen a b) refl
-
-both_true : (a b : Bool) → (a && b) ≡ true → (a ≡ true) × (b ≡ true)
-both_true true b e = (refl, e)
-both_true false b e = absurd cc
-
 -- the test reads the same from both sides
 turned : (t : ℕ) (seen : List (Option ℕ)) (k : Sight) → is_same t seen k ≡ (nat_eq k.recipe t && same_seen k.seen.items seen)
 turned t seen k = bool_eq (is_same t seen k) (nat_eq k.recipe t && same_seen k.seen.items seen)
-    (λ e. let two = both_true (nat_eq t k.recipe) (same_seen seen k.seen.items) e in ap (λ b. b && same_seen k.seen.items seen) (eq-eqb k.recipe t (sym (eqb-true t k.recipe two.0))) ∙ (same_seen_Decides k.seen.items seen).1 (sym ((same_seen_Decides seen k.seen.items).0 two.1)))
-    (λ e. let two = both_true (nat_eq k.recipe t) (same_seen k.seen.items seen) e in ap (λ b. b && same_seen seen k.seen.items) (eq-eqb t k.recipe (sym (eqb-true k.recipe t two.0))) ∙ (same_seen_Decides seen k.seen.items).1 (sym ((same_seen_Decides k.seen.items seen).0 two.1)))
+    (λ e. let two = and_parts (nat_eq t k.recipe) (same_seen seen k.seen.items) e in ap (λ b. b && same_seen k.seen.items seen) (eq-eqb k.recipe t (sym (eqb-true t k.recipe two.0))) ∙ (same_seen-Decides k.seen.items seen).1 (sym ((same_seen-Decides seen k.seen.items).0 two.1)))
+    (λ e. let two = and_parts (nat_eq k.recipe t) (same_seen k.seen.items seen) e in ap (λ b. b && same_seen seen k.seen.items) (eq-eqb t k.recipe (sym (eqb-true k.recipe t two.0))) ∙ (same_seen-Decides seen k.seen.items).1 (sym ((same_seen-Decides k.seen.items seen).0 two.1)))
   where
     bool_eq : (a b : Bool) → (a ≡ true → b ≡ true) → (b ≡ true → a ≡ true) → a ≡ b
     bool_eq true b f h = sym (f refl)
@@ -69,9 +53,9 @@ pub still_found : (es : List (Sight × Vec ℕ Global)) (k : Sight) (w : Vec ℕ
 still_found es k w found new t seen =
     let none : lookup (is_same k.recipe k.seen.items) es ≡ None = nothing (lookup (is_same k.recipe k.seen.items) es) (found k.recipe k.seen.items ∙ new) in
     let alike : is_same t seen k ≡ true → lookup (is_same t seen) es ≡ None = λ e.
-    let two = both_true (nat_eq t k.recipe) (same_seen seen k.seen.items) e in
+    let two = and_parts (nat_eq t k.recipe) (same_seen seen k.seen.items) e in
     let at : t ≡ k.recipe = eqb-true t k.recipe two.0 in
-    let saw : seen ≡ k.seen.items = (same_seen_Decides seen k.seen.items).0 two.1 in
+    let saw : seen ≡ k.seen.items = (same_seen-Decides seen k.seen.items).0 two.1 in
     ap (λ (n : ℕ). lookup (is_same n seen) es) at ∙ (ap (λ (s : List (Option ℕ)). lookup (is_same k.recipe s) es) saw ∙ none) in
     ap (option_map (λ (v : Vec ℕ Global). v.items)) (found_last (is_same t seen) es k w alike)
     ∙ (pushed (is_same t seen k) (lookup (is_same t seen) es)

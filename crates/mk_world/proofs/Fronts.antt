@@ -23,7 +23,7 @@ use Rattle.mk_world.proofs.Idle.{first_is_idle}
 use Rattle.mk_world.proofs.StepTests.{allowed_as}
 
 -- what holds throughout has no first that fails
-none_fails : (cs : List Check) (fault : StepFault) → AllHold cs → FirstFails cs fault → ⊥
+pub none_fails : (cs : List Check) (fault : StepFault) → AllHold cs → FirstFails cs fault → ⊥
 none_fails [] fault h none = none
 none_fails (c ∷ cs) fault h fails = elim fails [ inl f ↦ f.0 h.0 | inr later ↦ none_fails cs fault h.1 later.1 ]
 

@@ -2,6 +2,7 @@
 use Rattle.std.proofs.Common.{◌≡◌, ℕ, zero, suc, ◌+◌, ◌<◌, ◌≤◌, Bool, true, false, cond, List, [], ◌∷◌, ◌++◌, length, map, get_or, drop, refl, sym, ap, ◌∙◌, subst, arith, inl, inr, nat_eq, ◌||◌}
 use Rattle.std.proofs.lemmas.Bool.{cases_Bool, eqb-true, eq-eqb, true≢false}
 use Rattle.std.proofs.lemmas.List.{at_drop_more}
+use Rattle.mk_lemmas.proofs.Members.{Has-from_has}
 use Rattle.mk_graph.specs.Membership.{Has, has}
 use Rattle.mk_graph.specs.Graph.{Graph, IsGraph}
 use Rattle.mk_graph.specs.Serial.{serial_order}
@@ -57,15 +58,7 @@ pub missing : ℕ → List ℕ → ℕ
 missing zero done = 0
 missing (suc k) done = cond (has done k) 0 1 + missing k done
 
-has_is : (ns : List ℕ) (n : ℕ) → has ns n ≡ true → Has ns n
-has_is [] n e = absurd cc
-has_is (m ∷ ns) n e = at (nat_eq m n) refl e (has_is ns n)
-  where
-    at : (b : Bool) → nat_eq m n ≡ b → (b || has ns n) ≡ true → (has ns n ≡ true → Has ns n) → Has (m ∷ ns) n
-    at true t k ih = inl (eqb-true m n t)
-    at false t k ih = inr (ih k)
-
-fewer_or_same : (k n : ℕ) (done : List ℕ) → missing k (n ∷ done) ≤ missing k done
+pub fewer_or_same : (k n : ℕ) (done : List ℕ) → missing k (n ∷ done) ≤ missing k done
 unfolding missing
 fewer_or_same zero n done = omega arith
 fewer_or_same (suc k) n done = at (nat_eq n k) (has done k) (fewer_or_same k n done)
@@ -91,7 +84,7 @@ fewer_missing (suc k) n done lt not = elim (cases_Bool (nat_eq n k)) [
 ]
   where
     not_has : (b : Bool) → has done k ≡ b → n ≡ k → has done k ≡ false
-    not_has true t is = absurd (not (subst (Has done) (sym is) (has_is done k t)))
+    not_has true t is = absurd (not (subst (Has done) (sym is) (Has-from_has done k t)))
     not_has false t is = t
 
     lower_one : (a b : ℕ) → a < suc b → nat_eq a b ≡ false → a < b

@@ -6,13 +6,13 @@ use Rattle.std.specs.Cmp.Lexicographic.{slice_cmp}
 use Rattle.std.specs.List.Sorted.{IsStrictlySortedBy}
 use Rattle.std.specs.List.{AllByRecursion}
 use Rattle.std.proofs.lemmas.List.{append_assoc}
+use Rattle.mk_lemmas.proofs.Texts.{texts}
 use Rattle.mk_build.specs.Setting.{FileName}
 use Rattle.mk_world.specs.declared.file.Listed.{Listed}
 use Rattle.mk_world.specs.declared.file.File.{File}
 use Rattle.mk_world.specs.First.{AreSorted}
 use Rattle.mk_world.specs.State.{DiskState}
 use Rattle.mk_world.specs.Tables.{look}
-use Rattle.mk_world.proofs.Ascending.{spelled}
 use Rattle.mk_world.proofs.FirstDisk.{rest_is}
 use Rattle.mk_world.specs.Listing.{before, there_among, entry, listing, listed_as}
 
@@ -28,7 +28,7 @@ pub one_listed : (d : DiskState) (names : List (Bor FileName)) (i : ℕ) (z : Bo
     (name copy : FileName) (values : List (Option File)) (file : File) (old new all : List Listed)
     → i < length names → name ≡ (get_or names i z).now → values ≡ d.files → Some file
     ≡ look d.names values name → copy ≡ name
-    → new ≡ old ++ listed_as copy file ∷ [] → old ++ there_among (entry d) (spelled (drop i names)) ≡ all → new ++ there_among (entry d) (spelled (drop (i + 1) names)) ≡ all
+    → new ≡ old ++ listed_as copy file ∷ [] → old ++ there_among (entry d) (texts (drop i names)) ≡ all → new ++ there_among (entry d) (texts (drop (i + 1) names)) ≡ all
 one_listed d names i z name copy values file old new all lt is same found copied e so_far =
     let known : entry d name ≡ Some (listed_as copy file) = ap (λ vs. option_map (listed_as name) (look d.names vs name)) (sym same) ∙ (ap (option_map (listed_as name)) (sym found) ∙ ap (λ n. Some (listed_as n file)) (sym copied)) in
     list_take (entry d) name _ _ old new all (listed_as copy file) (rest_is (λ (t : Bor FileName). t.now) names i z name lt is) known e so_far

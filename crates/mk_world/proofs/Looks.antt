@@ -5,6 +5,9 @@ use Rattle.std.specs.Option.{option_flatten}
 use Rattle.std.proofs.lemmas.Bool.{cases_Bool, eq-eqb, cond-true, cond-false}
 use Rattle.std.proofs.lemmas.List.{get_or-set_same}
 use Rattle.std.proofs.lemmas.Slice.Eq.{bytes_eq-Decides}
+use Rattle.mk_lemmas.proofs.Texts.{bytes_eq-sym}
+use Rattle.mk_world.proofs.Keeping.{running_in}
+use Rattle.mk_lines.proofs.NameTests.{has_name-from_Has}
 use Rattle.mk_lines.specs.Names.{has_name}
 use Rattle.mk_graph.specs.Membership.{Has}
 use Rattle.mk_graph.specs.Graph.{Graph}
@@ -17,7 +20,6 @@ use Rattle.mk_world.specs.Tables.{look}
 use Rattle.mk_world.specs.State.{Scene, MakeState, RunState, DiskState, setting, making_of, disk_of, busy, run_at, no_run, with_run}
 use Rattle.mk_world.specs.Fits.{HasSeen}
 use Rattle.mk_world.specs.Running.{TakesInTurn, ends, takes, refused}
-use Rattle.mk_world.proofs.Tables.{bytes_eq_sym, there_name}
 use Rattle.mk_world.proofs.Changes.{unchanged_at, making_with, seen_is}
 
 -- what is known of names once all of these were looked at, one after another
@@ -31,10 +33,10 @@ saw_at d [] at h = refl
 saw_at d (f ∷ fs) at h = saw_at d fs (changed at f (Some (content d f))) h ∙ elim (cases_Bool (bytes_eq h f)) [
   | inl e ↦
       let is : f ≡ h = sym ((bytes_eq-Decides h f).0 e) in
-      let here : changed at f (Some (content d f)) h ≡ Some (content d h) = cond-true (bytes_eq f h) (Some (content d f)) (at h) (bytes_eq_sym f h ∙ e) ∙ ap (λ (n : FileName). Some (content d n)) is in
+      let here : changed at f (Some (content d f)) h ≡ Some (content d h) = cond-true (bytes_eq f h) (Some (content d f)) (at h) (bytes_eq-sym f h ∙ e) ∙ ap (λ (n : FileName). Some (content d n)) is in
       ap (cond (has_name fs h) (Some (content d h))) here ∙ (either (has_name fs h) (Some (content d h)) ∙ sym (cond-true (bytes_eq h f || has_name fs h) (Some (content d h)) (at h) (ap (λ (b : Bool). b || has_name fs h) e)))
   | inr e ↦
-      let other : changed at f (Some (content d f)) h ≡ at h = cond-false (bytes_eq f h) (Some (content d f)) (at h) (bytes_eq_sym f h ∙ e) in
+      let other : changed at f (Some (content d f)) h ≡ at h = cond-false (bytes_eq f h) (Some (content d f)) (at h) (bytes_eq-sym f h ∙ e) in
       ap (cond (has_name fs h) (Some (content d h))) other ∙ ap (λ (b : Bool). cond (b || has_name fs h) (Some (content d h)) (at h)) (sym e)
 ]
   where
@@ -90,7 +92,7 @@ nothing_known {A = A} (n ∷ names) (x ∷ xs) h none = at (bytes_eq h n) none (
 all_looked : (d : Disk) (names fs : List FileName) → ((f : FileName) → Has fs f → Has names f) → map (look names (map (λ (c : Option ℕ). Some c) (map (content d) names))) fs ≡ map (λ (c : Option ℕ). Some c) (map (content d) fs)
 all_looked d names [] within = refl
 all_looked d names (f ∷ fs) within =
-    let first : look names (map (λ (c : Option ℕ). Some c) (map (content d) names)) f ≡ Some (content d f) = look_all d names f ∙ cond-true (has_name names f) (Some (content d f)) None (there_name names f (within f (inl refl))) in
+    let first : look names (map (λ (c : Option ℕ). Some c) (map (content d) names)) f ≡ Some (content d f) = look_all d names f ∙ cond-true (has_name names f) (Some (content d f)) None (has_name-from_Has names f (within f (inl refl))) in
     λ i. first i ∷ all_looked d names fs (λ h k. within h (inr k)) i
 
 module _ (scene : Scene) (m new : MakeState) (d : DiskState) (t : ℕ) (seen : List (Option ℕ))
@@ -156,10 +158,6 @@ module _ (scene : Scene) (m new : MakeState) (d : DiskState) (t : ℕ) (seen : L
 abbrev seen_in : World → ℕ → FileName → Option (Option ℕ)
 seen_in (Idle d) = λ n f. None
 seen_in (Busy m d) = m.seen
-
-abbrev running_in : World → List ℕ
-running_in (Idle d) = []
-running_in (Busy m d) = m.running
 
 -- puts change nothing of that
 puts_keep : (g : Graph) (s : Setting) (t : ℕ) (new : World) (files : List FileName) (cs : List ℕ) (m : Making) (d : Disk) → TakesInTurn g s (Busy m d) new (puts t files cs) (Ok tt) → (seen_in new ≡ m.seen) × (running_in new ≡ m.running)

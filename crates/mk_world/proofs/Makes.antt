@@ -4,8 +4,7 @@ use Rattle.std.specs.Prelude.{replicate, ◌↔◌}
 use Rattle.std.specs.List.{list_any}
 use Rattle.std.proofs.lemmas.List.{get_or-set_same, get_or-set_other, get_or_default, take_more}
 use Rattle.std.proofs.lemmas.Bool.{cases_Bool, eqb-true, eq-eqb, cond-true, cond-false}
-use Rattle.mk_graph.specs.Membership.{Has, IsWithin}
-use Rattle.mk_graph.specs.Schedules.{HasAll}
+use Rattle.mk_graph.specs.Membership.{Has}
 use Rattle.mk_build.specs.Steps.{changed_at}
 use Rattle.mk_world.specs.State.{RunState, no_run, run_at}
 
@@ -17,11 +16,6 @@ listed (m ∷ ns) n = at (nat_eq m n) refl (listed ns n)
     at : (b : Bool) → nat_eq m n ≡ b → ((list_any (λ k. nat_eq k n) ns ≡ true) ↔ Has ns n) → ((b || list_any (λ k. nat_eq k n) ns) ≡ true) ↔ Has (m ∷ ns) n
     at true e ih = (λ t. inl (eqb-true m n e), λ h. refl)
     at false e ih = (λ t. inr (ih.0 t), λ h. elim h [ inl is ↦ absurd (true≢false (sym (eq-eqb m n is) ∙ e)) | inr r ↦ ih.1 r ])
-
--- all of the list stands in another where all stand in one with the same members
-pub has_all_within : (xs ys ns : List ℕ) → IsWithin xs ys → HasAll xs ns → HasAll ys ns
-has_all_within xs ys [] w h = tt
-has_all_within xs ys (n ∷ ns) w h = (w n h.0, has_all_within xs ys ns w h.1)
 
 -- one more of the same at the end
 pub replicate_push : {A : Type 0} (n : ℕ) (x : A) → replicate (n + 1) x ≡ replicate n x ++ x ∷ []
@@ -44,12 +38,6 @@ changed_run F d xs t x lt n = elim (cases_Bool (nat_eq t n)) [
 -- the run at a number
 pub run_is : (runs : List RunState) (t : ℕ) (run : RunState) → t < length runs → run ≡ get_or runs t run → run ≡ run_at runs t
 run_is runs t run lt e = e ∙ get_or_default runs t run no_run lt
-
--- what stands at a place stands in the list
-pub at_place : (xs : List ℕ) (i : ℕ) → i < length xs → Has xs (get_or xs i 0)
-at_place [] i lt = absurd (omega arith)
-at_place (x ∷ xs) zero lt = inl refl
-at_place (x ∷ xs) (suc i) lt = inr (at_place xs i (omega arith))
 
 -- what stands among the first ones and one more
 pub one_more : (xs : List ℕ) (i : ℕ) (p : ℕ) → i < length xs → Has (take (i + 1) xs) p → Has (take i xs) p ⊎ (get_or xs i 0 ≡ p)

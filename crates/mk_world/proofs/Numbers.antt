@@ -4,12 +4,13 @@ use Rattle.std.specs.Prelude.{unwrap_or}
 use Rattle.std.proofs.lemmas.Bool.{cases_Bool}
 use Rattle.std.proofs.lemmas.List.{get_or-map, length-map, map_push, take-map, take_more}
 use Rattle.std.specs.Str.{bytes_eq}
+use Rattle.mk_lines.proofs.NameTests.{Has-from_has_name}
 use Rattle.mk_lines.specs.Names.{has_name, number_of, place_from, with_name}
 use Rattle.mk_graph.specs.declared.node.Node.{Node}
 use Rattle.mk_graph.specs.Membership.{Has, IsDistinct}
 use Rattle.mk_build.specs.Setting.{FileName}
 use Rattle.mk_world.specs.Tables.{look}
-use Rattle.mk_world.proofs.Tables.{Placed, name_there, placed, unplaced}
+use Rattle.mk_world.proofs.Tables.{Placed, placed, unplaced}
 
 -- The number of a name is its place, or how many names there are where it has none
 numbered_from : (n : ℕ) (names : List FileName) (f : FileName) → ((number_of names f < length names) × (place_from n names f ≡ Some (n + number_of names f))) ⊎ ((number_of names f ≡ length names) × (place_from n names f ≡ None))
@@ -75,7 +76,7 @@ names_more nodes i d old new f distinct lt so_far named added =
     let here : get_or (map name nodes) i [] ≡ f = get_or-map name nodes i d [] lt ∙ sym named in
     let before : old ≡ take i (map name nodes) = so_far ∙ sym (take-map name i nodes) in
     let out : has_name old f ≡ false = elim (cases_Bool (has_name old f)) [
-      | inl t ↦ absurd (not_before (map name nodes) i [] distinct low (subst (Has (take i (map name nodes))) (sym here) (subst (λ (ns : List FileName). Has ns f) before (name_there old f t))))
+      | inl t ↦ absurd (not_before (map name nodes) i [] distinct low (subst (Has (take i (map name nodes))) (sym here) (subst (λ (ns : List FileName). Has ns f) before (Has-from_has_name old f t))))
       | inr e ↦ e
     ] in
     added ∙ (ap (λ b. cond b old (old ++ f ∷ [])) out ∙ (ap (λ (ns : List FileName). ns ++ f ∷ []) so_far ∙ (ap (λ (k : FileName). map name (take i nodes) ++ k ∷ []) named ∙ (sym (map_push name (take i nodes) (get_or nodes i d)) ∙ ap (map name) (sym (take_more nodes i d lt))))))

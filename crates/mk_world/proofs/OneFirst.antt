@@ -7,6 +7,7 @@ use Rattle.std.specs.Ordering.{nat_cmp, ordering_reverse}
 use Rattle.std.specs.Cmp.Lexicographic.{slice_cmp}
 use Rattle.std.specs.declared.cmp.Ordering.TheVariants.{Less}
 use Rattle.std.proofs.lemmas.Cmp.{nat_list_cmp_total}
+use Rattle.mk_lines.proofs.NameTests.{Has-from_has_name, has_name-from_Has}
 use Rattle.mk_graph.specs.Graph.{Graph}
 use Rattle.mk_graph.specs.Membership.{Has}
 use Rattle.mk_build.specs.Setting as model
@@ -15,7 +16,6 @@ use Rattle.mk_world.specs.First.{AreNamesOf, AreSorted}
 use Rattle.mk_world.specs.OneRun.{FirstWorldIsOne}
 use Rattle.mk_world.specs.Running.{Stage}
 use Rattle.mk_world.specs.State.{Scene, State, MakeState, disk_of, setting, setting_of, world_in, world_of}
-use Rattle.mk_world.proofs.Tables.{name_there, there_name}
 
 -- the one name stands before the other by their bytes
 abbrev Below : List ℕ → List ℕ → Type 0
@@ -77,7 +77,7 @@ one_disk g s d e h j =
 
 -- the names of a world are one list
 one_list : (scene : Scene) (xs ys : List (List ℕ)) → AreNamesOf scene xs → AreNamesOf scene ys → xs ≡ ys
-one_list scene xs ys h j = one_sorted xs ys h.sorted j.sorted (λ f. (λ k. name_there ys f ((j.all f).1 ((h.all f).0 (there_name xs f k))), λ k. name_there xs f ((h.all f).1 ((j.all f).0 (there_name ys f k)))))
+one_list scene xs ys h j = one_sorted xs ys h.sorted j.sorted (λ f. (λ k. Has-from_has_name ys f ((j.all f).1 ((h.all f).0 (has_name-from_Has xs f k))), λ k. Has-from_has_name xs f ((h.all f).1 ((j.all f).0 (has_name-from_Has ys f k)))))
 
 no_make : (w : State) → w.make ≡ None → world_of w ≡ Idle (disk_of w.disk)
 no_make w e = ap (λ (make : Option MakeState). world_in w.scene w.disk make) e

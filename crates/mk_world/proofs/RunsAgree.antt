@@ -11,12 +11,12 @@ use Rattle.mk_world.specs.Running.{new_stamps}
 use Rattle.mk_world.specs.RunLaws.{WholeRunsAgree}
 
 -- the front of a trace is a trace
-legal_front : (g : Graph) (s : Setting) (w : World) (xs ys : List Step) → IsLegal g s w (xs ++ ys) → IsLegal g s w xs
+pub legal_front : (g : Graph) (s : Setting) (w : World) (xs ys : List Step) → IsLegal g s w (xs ++ ys) → IsLegal g s w xs
 legal_front g s w [] ys h = tt
 legal_front g s w (x ∷ xs) ys h = (h.0, legal_front g s (after g s w x) xs ys h.1)
 
 -- and what stands behind it is one from the world that it leaves
-legal_behind : (g : Graph) (s : Setting) (w : World) (xs ys : List Step) → IsLegal g s w (xs ++ ys) → IsLegal g s (after_all g s w xs) ys
+pub legal_behind : (g : Graph) (s : Setting) (w : World) (xs ys : List Step) → IsLegal g s w (xs ++ ys) → IsLegal g s (after_all g s w xs) ys
 legal_behind g s w [] ys h = h
 legal_behind g s w (x ∷ xs) ys h = legal_behind g s (after g s w x) xs ys h.1
 

@@ -1,23 +1,15 @@
 -- What is known of names in tables.
 use Rattle.std.proofs.Common.{◌≡◌, ℕ, zero, suc, ◌+◌, ◌<◌, Bool, true, false, ◌||◌, cond, List, [], ◌∷◌, length, Option, Some, None, refl, sym, ap, ◌∙◌, arith, inl, inr, get_or, set, subst}
 use Rattle.std.specs.Prelude.{replicate, ◌&&◌}
-use Rattle.std.proofs.lemmas.Bool.{cases_Bool, false_from_ne_true, both_ways, cond-true, cond-false}
+use Rattle.std.proofs.lemmas.Bool.{cases_Bool, cond-true, cond-false}
 use Rattle.std.proofs.lemmas.Slice.Eq.{bytes_eq-Decides}
 use Rattle.std.proofs.lemmas.List.{get_or_default}
 use Rattle.std.specs.Str.{bytes_eq}
+use Rattle.mk_lemmas.proofs.Texts.{bytes_eq-sym}
 use Rattle.mk_lines.specs.Names.{has_name, place_from}
-use Rattle.mk_graph.specs.Membership.{Has}
 use Rattle.mk_build.specs.Setting.{FileName}
 use Rattle.mk_build.specs.World.{changed}
 use Rattle.mk_world.specs.Tables.{look}
-
--- equal either way
-pub bytes_eq_sym : (a b : List ℕ) → bytes_eq a b ≡ bytes_eq b a
-bytes_eq_sym a b =
-    elim (cases_Bool (bytes_eq a b)) [
-      | inl t ↦ t ∙ sym ((bytes_eq-Decides b a).1 (sym ((bytes_eq-Decides a b).0 t)))
-      | inr f ↦ f ∙ sym (false_from_ne_true _ (λ t. both_ways _ f ((bytes_eq-Decides a b).1 (sym ((bytes_eq-Decides b a).0 t)))))
-    ]
 
 -- What holds of a name that first stands at this place.
 pub record Placed (A : Type 0) (names : List FileName) (f : FileName) (j : ℕ) : Type 0 where
@@ -32,7 +24,7 @@ first_gets h names f t (x ∷ xs) = cond-true (bytes_eq f h) x (look names xs f)
 first_sets : {A : Type 0} (h : FileName) (names : List FileName) (f : FileName) (t : bytes_eq f h ≡ true) (xs : List (Option A)) (v : Option A) → 0 < length xs → (q : FileName) → look (h ∷ names) (set xs 0 v) q ≡ changed (look (h ∷ names) xs) f v q
 first_sets h names f t [] v lt q = absurd (omega arith)
 first_sets h names f t (x ∷ xs) v lt q =
-    let same : bytes_eq q h ≡ bytes_eq f q = bytes_eq_sym q h ∙ ap (λ (n : List ℕ). bytes_eq n q) (sym ((bytes_eq-Decides f h).0 t)) in
+    let same : bytes_eq q h ≡ bytes_eq f q = bytes_eq-sym q h ∙ ap (λ (n : List ℕ). bytes_eq n q) (sym ((bytes_eq-Decides f h).0 t)) in
     elim (cases_Bool (bytes_eq q h)) [
       | inl e ↦ cond-true (bytes_eq q h) v (look names xs q) e ∙ sym (cond-true (bytes_eq f q) v _ (sym same ∙ e))
       | inr e ↦ cond-false (bytes_eq q h) v (look names xs q) e ∙ sym (cond-false (bytes_eq f q) v _ (sym same ∙ e) ∙ cond-false (bytes_eq q h) x (look names xs q) e)
@@ -105,26 +97,6 @@ look_nothing {A = A} (h ∷ names) (suc n) f = at (bytes_eq f h) (look_nothing n
     at : (b : Bool) → look {A = A} names (replicate n None) f ≡ None → cond b None (look {A = A} names (replicate n None) f) ≡ None
     at true e = refl
     at false e = e
-
--- a name stands in a list where the test finds it
-pub name_there : (names : List FileName) (f : FileName) → has_name names f ≡ true → Has names f
-name_there [] f e = absurd cc
-name_there (h ∷ names) f e = at (bytes_eq f h) refl e (name_there names f)
-  where
-    at : (b : Bool) → bytes_eq f h ≡ b → (b || has_name names f) ≡ true → (has_name names f ≡ true → Has names f) → Has (h ∷ names) f
-    at true t k ih = inl (sym ((bytes_eq-Decides f h).0 t))
-    at false t k ih = inr (ih k)
-
-pub there_name : (names : List FileName) (f : FileName) → Has names f → has_name names f ≡ true
-there_name [] f h = absurd h
-there_name (n ∷ names) f h = elim h [
-  | inl e ↦ ap (λ b. b || has_name names f) ((bytes_eq-Decides f n).1 (sym e))
-  | inr r ↦ at (bytes_eq f n) (has_name names f) (there_name names f r)
-]
-  where
-    at : (b r : Bool) → r ≡ true → (b || r) ≡ true
-    at true r e = refl
-    at false r e = e
 
 -- what stands at the place is what is known
 pub get_is : (A : Type 0) (names : List FileName) (xs : List (Option A)) (f : FileName) (i : ℕ) (x : Option A) → place_from 0 names f ≡ Some i → length xs ≡ length names → i < length names → x ≡ get_or xs i x → x ≡ look names xs f

@@ -1,16 +1,18 @@
 -- Makes of a run and of the history that it follows: they agree in all but nodes without recipe that are done, and in the order of goals and of what is done.
-use Rattle.std.proofs.Common.{◌≡◌, ℕ, ◌<◌, Bool, true, false, cond, not, ◌||◌, None, List, [], ◌∷◌, length, filter, flat_map, nat_eq, refl, sym, ap, ◌∙◌, subst, inl, inr}
+use Rattle.std.proofs.Common.{◌≡◌, ℕ, ◌<◌, Bool, true, false, cond, not, None, List, [], ◌∷◌, length, filter, nat_eq, refl, sym, ap, ◌∙◌, subst, inl, inr}
 use Rattle.std.proofs.lemmas.Bool.{true≢false, eqb-true, eq-eqb}
+use Rattle.mk_lemmas.proofs.Members.{Has-from_has, not-from_has}
+use Rattle.mk_graph.proofs.OpenGroups.{InOpenGroup-Has}
+use Rattle.mk_world.proofs.Idle.{first_is_idle}
 use Rattle.mk_graph.specs.Membership.{Has, has, IsWithin}
-use Rattle.mk_graph.specs.Lists.{has_left, has_right}
 use Rattle.mk_graph.specs.Graph.{Graph, IsGraph, node}
 use Rattle.mk_graph.specs.Serial.{serial_order}
 use Rattle.mk_graph.specs.Laws.{SerialReachesEachOnce}
 use Rattle.mk_graph.specs.ScheduleLaws.{CanStartStays}
-use Rattle.mk_graph.specs.Schedules.{HasAll, InOpenGroup, Wanted, goal, onward, CanStart}
+use Rattle.mk_graph.specs.Schedules.{Wanted, goal, onward, CanStart}
 use Rattle.mk_build.specs.World.{Making}
 use Rattle.mk_build.specs.Steps.{Ready, changed_at, finished}
-use Rattle.mk_world.specs.Running.{IsIdle, IsFirstIdle, AreNotIdle, Passes}
+use Rattle.mk_world.specs.Running.{IsIdle, AreNotIdle, Passes}
 
 -- each node without recipe came when its turn might come
 abbrev pub IdleInTurn : Graph → (goals : List ℕ) → List ℕ → Type 0
@@ -34,42 +36,6 @@ pub record AgreesIn (g : Graph) (m k : Making) : Type 0 where
   pub in_turn : IdleInTurn g m.goals m.done
 
 -- lists of numbers
-
-pub has_is : (ns : List ℕ) (n : ℕ) → has ns n ≡ true → Has ns n
-has_is [] n e = absurd cc
-has_is (m ∷ ns) n e = at (nat_eq m n) refl e (has_is ns n)
-  where
-    at : (b : Bool) → nat_eq m n ≡ b → (b || has ns n) ≡ true → (has ns n ≡ true → Has ns n) → Has (m ∷ ns) n
-    at true t k ih = inl (eqb-true m n t)
-    at false t k ih = inr (ih k)
-
-pub has_not : (ns : List ℕ) (n : ℕ) → has ns n ≡ false → ¬ (Has ns n)
-has_not [] n e h = h
-has_not (m ∷ ns) n e h = at (nat_eq m n) refl e h (has_not ns n)
-  where
-    at : (b : Bool) → nat_eq m n ≡ b → (b || has ns n) ≡ false → Has (m ∷ ns) n → (has ns n ≡ false → ¬ (Has ns n)) → ⊥
-    at true t k h ih = absurd cc
-    at false t k (inl same) ih = true≢false (sym (eq-eqb m n same) ∙ t)
-    at false t k (inr r) ih = ih k r
-
-pub within_all : (ns ms : List ℕ) → HasAll ns ms → IsWithin ms ns
-within_all ns [] all n h = absurd h
-within_all ns (m ∷ ms) all n (inl here) = subst (λ k. Has ns k) here all.0
-within_all ns (m ∷ ms) all n (inr there) = within_all ns ms all.1 n there
-
-pub all_within : (ns ms : List ℕ) → IsWithin ms ns → HasAll ns ms
-all_within ns [] h = tt
-all_within ns (m ∷ ms) h = (h m (inl refl), all_within ns ms (λ k t. h k (inr t)))
-
--- what is left of the running ones was there
-pub filter_has : (p : ℕ → Bool) (xs : List ℕ) (n : ℕ) → Has (filter p xs) n → Has xs n
-filter_has p [] n h = h
-filter_has p (x ∷ xs) n h = at (p x) h (filter_has p xs n)
-  where
-    at : (b : Bool) → Has (cond b (x ∷ filter p xs) (filter p xs)) n → (Has (filter p xs) n → Has xs n) → Has (x ∷ xs) n
-    at true (inl e) ih = inl e
-    at true (inr r) ih = inr (ih r)
-    at false r ih = inr (ih r)
 
 -- a node that doesn't run is taken out of nothing
 pub nothing_out : (n : ℕ) (xs : List ℕ) → ¬ (Has xs n) → filter (λ r. not (nat_eq n r)) xs ≡ xs
@@ -98,14 +64,9 @@ changed_beside at n new t apart = both (nat_eq n t) refl
 
 -- wanted nodes are nodes
 
-pub open_joined : (done : List ℕ) (groups : List (List ℕ)) (n : ℕ) → InOpenGroup done groups n → Has (flat_map (λ group. group) groups) n
-open_joined done [] n h = absurd h
-open_joined done (group ∷ groups) n (inl here) = has_left group (flat_map (λ l. l) groups) n here
-open_joined done (group ∷ groups) n (inr later) = has_right group (flat_map (λ l. l) groups) n (open_joined done groups n later.1)
-
 pub wanted_low : (g : Graph) (goals done : List ℕ) → IsGraph g → IsWithin goals g.goals → (n : ℕ) → Wanted g goals done n → n < length g.nodes
 wanted_low g goals done is within n (goal h) = is.sound.goals n (within n h)
-wanted_low g goals done is within n (onward {p = p} w stands) = is.sound.edges p n (open_joined done (node g p).groups n stands)
+wanted_low g goals done is within n (onward {p = p} w stands) = is.sound.edges p n (InOpenGroup-Has done (node g p).groups n stands)
 
 -- a node with a recipe is none without
 pub on_off : {b : Bool} → b ≡ true → b ≡ false → ⊥
@@ -135,11 +96,6 @@ idle_passed g m k n agrees idle =
       in_turn = agrees.in_turn;
     }
 
--- the first idle node is one
-pub first_is_idle : (g : Graph) (m : Making) (xs : List ℕ) (n : ℕ) → IsFirstIdle g m xs n → IsIdle g m n
-first_is_idle g m [] n h = absurd h
-first_is_idle g m (x ∷ xs) n h = elim h [ inl here ↦ subst (IsIdle g m) (sym here.1) here.0 | inr later ↦ first_is_idle g m xs n later.1 ]
-
 -- and so are several
 pub passes_agree : (g : Graph) (m k : Making) (ns : List ℕ) (end : Making) → AgreesIn g m k → Passes g k ns end → AgreesIn g m end
 passes_agree g m k [] end agrees h = subst (AgreesIn g m) (sym h) agrees
@@ -167,8 +123,8 @@ module _ (stay : CanStartStays) (reaches : SerialReachesEachOnce) where
       here false e rest = there (has k.done n) refl rest e
         where
           there : (b : Bool) → has k.done n ≡ b → IsWithin ns k.done → (node g n).recipe ≡ false → Has k.done n
-          there true t rest off = has_is k.done n t
-          there false t rest off = absurd (idle rest off (has_not k.done n t))
+          there true t rest off = Has-from_has k.done n t
+          there false t rest off = absurd (idle rest off (not-from_has k.done n t))
 
   pub all_done : (g : Graph) (m k : Making) → IsGraph g → AgreesIn g m k → AreNotIdle g k (serial_order g) → IsWithin m.done k.done
   all_done g m k is agrees none = done_too g m k m.done is agrees none agrees.in_turn agrees.done

@@ -2,11 +2,11 @@
 use Rattle.std.proofs.Common.{◌≡◌, ℕ, ◌<◌, Bool, true, false, cond, not, List, [], ◌∷◌, length, map, filter, nat_eq, Option, None, Some, unwrap_or, refl, sym, ap, ◌∙◌, subst, inl, inr, ap₂}
 use Rattle.std.specs.Prelude.{IfSome}
 use Rattle.std.specs.Option.{option_flatten}
-use Rattle.std.proofs.lemmas.Bool.{cases_lt}
-use Rattle.std.proofs.lemmas.List.{get_or_past}
-use Rattle.mk_graph.specs.declared.node.Node.{Node}
+use Rattle.mk_lemmas.proofs.Members.{Has-from_filter}
+use Rattle.mk_world.proofs.Idle.{first_is_idle}
+use Rattle.mk_graph.proofs.Parts.{Has-from_HasAll, HasAll-from_Has}
 use Rattle.mk_graph.specs.Membership.{Has, IsWithin}
-use Rattle.mk_graph.specs.Graph.{Graph, IsGraph, node, no_node}
+use Rattle.mk_graph.specs.Graph.{Graph, IsGraph, node}
 use Rattle.mk_graph.specs.Serial.{serial_order}
 use Rattle.mk_graph.specs.Laws.{SerialReachesEachOnce}
 use Rattle.mk_build.specs.BuildLaws.{NamesHaveOneNumber}
@@ -21,7 +21,7 @@ use Rattle.mk_world.specs.Running.{Passes, PassesAll, goals_among}
 use Rattle.mk_world_plan.specs.PlanText.{are_all_named}
 use Rattle.mk_world_plan.specs.PlanLaws.{is_idle_pass, named_goals, run_goals}
 use Rattle.mk_world_plan.proofs.Numbers.{all_named}
-use Rattle.mk_world_plan.proofs.Agreeing.{AgreesIn, all_done, all_within, changed_beside, changed_same, filter_has, first_is_idle, nothing_out, on_off, passes_agree, ready_too, within_all}
+use Rattle.mk_world_plan.proofs.Agreeing.{AgreesIn, all_done, changed_beside, changed_same, nothing_out, on_off, passes_agree, ready_too}
 
 -- The world of a run agrees with that of the history.
 pub data Agrees (g : Graph) : World → World → Type 0 where
@@ -68,13 +68,6 @@ passes_leave : (g : Graph) (s : Setting) (d : Disk) (k : Making) (ns : List ℕ)
 passes_leave g s d k [] end h = ap (λ (j : Making). Busy j d) h
 passes_leave g s d k (n ∷ ns) end h = passes_leave g s d (finished k n) ns end h.1
 
--- a running recipe's node is one
-pub recipe_low : (g : Graph) (n : ℕ) → (node g n).recipe ≡ true → n < length g.nodes
-recipe_low g n on = elim (cases_lt n (length g.nodes)) [
-  | inl low ↦ low
-  | inr high ↦ absurd (on_off on (ap (λ (v : Node). v.recipe) (get_or_past g.nodes n no_node high)))
-]
-
 -- makes
 
 made : (g : Graph) (jobs : ℕ) (xs ys : List ℕ) → IsWithin xs ys → IsWithin ys xs → IsWithin ys g.goals → AgreesIn g (make_of jobs xs) (make_of jobs ys)
@@ -114,12 +107,12 @@ pub make_goes : (one : NamesHaveOneNumber) (g : Graph) (s : Setting) (d : Disk) 
 make_goes one g s d jobs names is allowed = at (are_all_named g names) refl
   where
     within : IsWithin (map (number_of g) names) g.goals
-    within = within_all g.goals (map (number_of g) names) allowed.1.within
+    within = Has-from_HasAll g.goals (map (number_of g) names) allowed.1.within
 
     at : (b : Bool) → are_all_named g names ≡ b → GoesOn g s (Idle d) (Idle d) (Idle d) (model.Make jobs (map (number_of g) names)) (model.Make jobs (cond b g.goals (map (number_of g) names)))
     at true e = record {
       prepared = not_prepared g s (Idle d);
-      allowed = (allowed.0, record { not_empty = some_goals (map (number_of g) names) g.goals allowed.1; within = all_within g.goals g.goals (λ n h. h) });
+      allowed = (allowed.0, record { not_empty = some_goals (map (number_of g) names) g.goals allowed.1; within = HasAll-from_Has g.goals g.goals (λ n h. h) });
       agrees = in_make (made g jobs (map (number_of g) names) g.goals within (λ n h. all_named one g names n is e h) (λ n h. h));
       counted = refl;
     }
@@ -195,10 +188,10 @@ finished_agrees g m k n agrees on = record {
   of_graph = agrees.of_graph;
   running = ap (filter (λ r. not (nat_eq n r))) agrees.running;
   broken = agrees.broken;
-  recipes = λ t h. agrees.recipes t (filter_has (λ r. not (nat_eq n r)) m.running t h);
+  recipes = λ t h. agrees.recipes t ((Has-from_filter (λ r. not (nat_eq n r)) m.running t h).0);
   broken_recipes = agrees.broken_recipes;
-  seen = λ t h. changed_same k.seen m.seen n (λ f. None) (λ f. None) t refl (λ apart. agrees.seen t (filter_has (λ r. not (nat_eq n r)) m.running t h));
-  put = λ t h. changed_same k.put m.put n (λ f. None) (λ f. None) t refl (λ apart. agrees.put t (filter_has (λ r. not (nat_eq n r)) m.running t h));
+  seen = λ t h. changed_same k.seen m.seen n (λ f. None) (λ f. None) t refl (λ apart. agrees.seen t ((Has-from_filter (λ r. not (nat_eq n r)) m.running t h).0));
+  put = λ t h. changed_same k.put m.put n (λ f. None) (λ f. None) t refl (λ apart. agrees.put t ((Has-from_filter (λ r. not (nat_eq n r)) m.running t h).0));
   done = λ t runs h. elim h [ inl e ↦ inl e | inr r ↦ inr (agrees.done t runs r) ];
   no_more_done = λ t runs h. elim h [ inl e ↦ inl e | inr r ↦ inr (agrees.no_more_done t runs r) ];
   in_turn = (λ off. absurd (on_off on off), agrees.in_turn);
@@ -213,10 +206,10 @@ broken_agrees g m k n agrees on = record {
   of_graph = agrees.of_graph;
   running = ap (filter (λ r. not (nat_eq n r))) agrees.running;
   broken = ap (λ l. n ∷ l) agrees.broken;
-  recipes = λ t h. agrees.recipes t (filter_has (λ r. not (nat_eq n r)) m.running t h);
+  recipes = λ t h. agrees.recipes t ((Has-from_filter (λ r. not (nat_eq n r)) m.running t h).0);
   broken_recipes = λ t h. elim h [ inl e ↦ subst (λ i. (node g i).recipe ≡ true) e on | inr r ↦ agrees.broken_recipes t r ];
-  seen = λ t h. changed_same k.seen m.seen n (λ f. None) (λ f. None) t refl (λ apart. agrees.seen t (filter_has (λ r. not (nat_eq n r)) m.running t h));
-  put = λ t h. changed_same k.put m.put n (λ f. None) (λ f. None) t refl (λ apart. agrees.put t (filter_has (λ r. not (nat_eq n r)) m.running t h));
+  seen = λ t h. changed_same k.seen m.seen n (λ f. None) (λ f. None) t refl (λ apart. agrees.seen t ((Has-from_filter (λ r. not (nat_eq n r)) m.running t h).0));
+  put = λ t h. changed_same k.put m.put n (λ f. None) (λ f. None) t refl (λ apart. agrees.put t ((Has-from_filter (λ r. not (nat_eq n r)) m.running t h).0));
   done = agrees.done;
   no_more_done = agrees.no_more_done;
   in_turn = agrees.in_turn;
@@ -226,7 +219,7 @@ broken_agrees g m k n agrees on = record {
 pub passed_agrees : (g : Graph) (m k : Making) (n : ℕ) → AgreesIn g m k → model.Ready g m n → (node g n).recipe ≡ false → AgreesIn g (finished m n) k
 passed_agrees g m k n agrees ready off =
     let same = nothing_out n m.running ready.1 in
-    let runs : (t : ℕ) → Has (filter (λ r. not (nat_eq n r)) m.running) t → Has m.running t = λ t h. filter_has (λ r. not (nat_eq n r)) m.running t h in
+    let runs : (t : ℕ) → Has (filter (λ r. not (nat_eq n r)) m.running) t → Has m.running t = λ t h. (Has-from_filter (λ r. not (nat_eq n r)) m.running t h).0 in
     let apart : (t : ℕ) → Has m.running t → ¬ (n ≡ t) = λ t h e. ready.1 (subst (Has m.running) (sym e) h) in
     record {
       jobs = agrees.jobs;
@@ -336,10 +329,10 @@ module _ (one : NamesHaveOneNumber) (stay : CanStartStays) (reaches : SerialReac
   pub end_make_goes : (g : Graph) (s : Setting) (m k : Making) (d : Disk) (behind : World) → IsGraph g → AgreesIn g m k → PassesAll g k d behind → Allowed g s (Busy m d) model.EndMake → GoesOn g s (Busy m d) (Busy k d) behind model.EndMake model.EndMake
   end_make_goes g s m k d behind is agrees all allowed =
       let p = passed g s m k d behind is agrees all in
-      let done : IsWithin p.end.goals p.end.done = λ n h. p.within n (within_all m.done m.goals allowed.0 n (p.agrees.no_more_goals n h)) in
+      let done : IsWithin p.end.goals p.end.done = λ n h. p.within n (Has-from_HasAll m.done m.goals allowed.0 n (p.agrees.no_more_goals n h)) in
       subst (λ w. GoesOn g s (Busy m d) (Busy k d) w model.EndMake model.EndMake) (sym p.is) (record {
         prepared = p.prepared;
-        allowed = (all_within p.end.done p.end.goals done, p.agrees.running ∙ allowed.1);
+        allowed = (HasAll-from_Has p.end.done p.end.goals done, p.agrees.running ∙ allowed.1);
         agrees = at_rest;
         counted = refl;
       })

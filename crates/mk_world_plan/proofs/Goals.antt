@@ -1,8 +1,9 @@
 -- Goals of a graph by their places.
-use Rattle.std.proofs.Common.{◌≡◌, ◌∙◌, ◌+◌, ◌<◌, ◌&&◌, ℕ, true, false, List, [], ◌∷◌, zero, suc, length, get_or, take, refl, sym, ap, inl, inr, subst, arith}
+use Rattle.std.proofs.Common.{◌≡◌, ◌∙◌, ◌+◌, ◌<◌, ◌&&◌, ℕ, true, false, List, length, get_or, take, sym, ap, subst}
 use Rattle.std.specs.List.{list_all}
 use Rattle.std.proofs.lemmas.List.{get_or_default}
 use Rattle.std.proofs.lemmas.List.Folds.{list_all_at, list_all_more}
+use Rattle.mk_lemmas.proofs.Members.{Has-get_or}
 use Rattle.mk_lines.specs.Names.{has_name}
 use Rattle.mk_graph.specs.declared.node.Node.{Node}
 use Rattle.mk_graph.specs.Membership.{Has}
@@ -10,15 +11,9 @@ use Rattle.mk_graph.specs.Graph.{Graph, IsGraph, no_node}
 use Rattle.mk_build.specs.Setting.{name}
 use Rattle.mk_world_plan.specs.PlanText.{are_all_named}
 
--- what stands at a place is a member
-pub at : (xs : List ℕ) (i d : ℕ) → i < length xs → Has xs (get_or xs i d)
-at [] i d lt = absurd (omega (arith, lt))
-at (x ∷ xs) zero d lt = inl refl
-at (x ∷ xs) (suc i) d lt = inr (at xs i d (omega (arith, lt)))
-
 -- a goal is the number of a node
 pub goal_low : (g : Graph) (goals : List ℕ) (i : ℕ) → IsGraph g → goals ≡ g.goals → i < length goals → get_or goals i 0 < length g.nodes
-goal_low g goals i is same lt = is.sound.goals (get_or goals i 0) (subst (λ (l : List ℕ). Has l (get_or goals i 0)) same (at goals i 0 lt))
+goal_low g goals i is same lt = is.sound.goals (get_or goals i 0) (subst (λ (l : List ℕ). Has l (get_or goals i 0)) same (Has-get_or goals i 0 lt))
 
 -- the name of the node at a number
 pub name_at : (g : Graph) (nodes : List Node) (n : ℕ) (v : Node) → nodes ≡ g.nodes → n < length nodes → (get_or nodes n v).name ≡ name g n

@@ -1,34 +1,19 @@
 -- The numbers of names.
 use Rattle.std.proofs.Common.{◌≡◌, ◌⊎◌, ℕ, zero, suc, ◌+◌, ◌<◌, Bool, true, false, cond, not, ◌&&◌, ◌||◌, List, [], ◌∷◌, length, map, get_or, Some, None, unwrap_or, bytes_eq, refl, sym, ap, ◌∙◌, subst, inl, inr, arith}
-use Rattle.std.specs.List.{list_any, list_all}
+use Rattle.std.specs.List.{list_any}
 use Rattle.std.proofs.lemmas.Bool.{false≢true, and_parts, or_cases, or_left, or_right}
 use Rattle.std.proofs.lemmas.Slice.Eq.{bytes_eq-Decides}
+use Rattle.mk_lemmas.proofs.Members.{Has-map, list_all-Has}
+use Rattle.mk_lines.proofs.NameTests.{Has-from_has_name}
 use Rattle.mk_lines.specs.Names.{has_name, place_from}
 use Rattle.mk_graph.specs.declared.node.Node.{Node}
 use Rattle.mk_graph.specs.Membership.{Has}
-use Rattle.mk_graph.specs.Lists.{has_mapped}
 use Rattle.mk_graph.specs.Graph.{Graph, IsGraph, no_node, node}
 use Rattle.mk_build.specs.Setting.{FileName, IsNumberOf, name}
 use Rattle.mk_build.specs.BuildLaws.{NamesHaveOneNumber}
 use Rattle.mk_world.specs.State.{number_of}
 use Rattle.mk_world.specs.Running.{is_node}
 use Rattle.mk_world_plan.specs.PlanText.{are_all_named, is_idle, is_idle_at}
-
--- a name stands in a list where the test finds it
-pub name_there : (names : List FileName) (f : FileName) → has_name names f ≡ true → Has names f
-name_there [] f e = absurd cc
-name_there (h ∷ names) f e = at (bytes_eq f h) refl e (name_there names f)
-  where
-    at : (b : Bool) → bytes_eq f h ≡ b → (b || has_name names f) ≡ true → (has_name names f ≡ true → Has names f) → Has (h ∷ names) f
-    at true t k ih = inl (sym ((bytes_eq-Decides f h).0 t))
-    at false t k ih = inr (ih k)
-
-pub there_name : (names : List FileName) (f : FileName) → Has names f → has_name names f ≡ true
-there_name [] f h = absurd h
-there_name (n ∷ names) f h = elim h [
-  | inl e ↦ or_left (bytes_eq f n) (has_name names f) ((bytes_eq-Decides f n).1 (sym e))
-  | inr r ↦ or_right (bytes_eq f n) (has_name names f) (there_name names f r)
-]
 
 abbrev names_of : List Node → List FileName
 names_of nodes = map (λ (v : Node). v.name) nodes
@@ -138,13 +123,8 @@ busy_is g t low e = at (node g (number_of g t)).recipe refl
     at true h = refl
     at false h = absurd (false≢true (sym e ∙ place_idle g.nodes t (number_of g t) low (low_number g t low).1 h))
 
-all_at : (p : ℕ → Bool) (ns : List ℕ) (n : ℕ) → list_all p ns ≡ true → Has ns n → p n ≡ true
-all_at p [] n e h = absurd h
-all_at p (m ∷ ns) n e (inl same) = subst (λ k. p k ≡ true) same (and_parts (p m) (list_all p ns) e).0
-all_at p (m ∷ ns) n e (inr r) = all_at p ns n (and_parts (p m) (list_all p ns) e).1 r
-
 -- where all goals are named, each is the number of a named one
 pub all_named : (one : NamesHaveOneNumber) (g : Graph) (names : List FileName) (n : ℕ) → IsGraph g → are_all_named g names ≡ true → Has g.goals n → Has (map (number_of g) names) n
 all_named one g names n is e h =
-    let there = name_there names (name g n) (all_at (λ k. has_name names (name g k)) g.goals n e h) in
-    subst (Has (map (number_of g) names)) (number_is one g n is (is.sound.goals n h)) (has_mapped (number_of g) names (name g n) there)
+    let there = Has-from_has_name names (name g n) (list_all-Has (λ k. has_name names (name g k)) g.goals n e h) in
+    subst (Has (map (number_of g) names)) (number_is one g n is (is.sound.goals n h)) (Has-map (number_of g) names (name g n) there)

@@ -1,7 +1,10 @@
 -- All nodes without recipe that are ready can be passed, one after another.
-use Rattle.std.proofs.Common.{◌≡◌, ◌⊎◌, ℕ, zero, suc, ◌+◌, ◌<◌, ◌≤◌, Bool, true, false, cond, ◌||◌, List, [], ◌∷◌, length, nat_eq, refl, sym, ◌∙◌, subst, inl, inr, arith}
-use Rattle.std.proofs.lemmas.Bool.{cases_Bool, cases_lt, eqb-true, eq-eqb, true≢false}
+use Rattle.std.proofs.Common.{◌≡◌, ◌⊎◌, ℕ, zero, suc, ◌+◌, ◌<◌, ◌≤◌, Bool, true, false, List, [], ◌∷◌, length, refl, subst, inl, inr, arith}
+use Rattle.std.proofs.lemmas.Bool.{cases_lt, true≢false}
 use Rattle.std.proofs.lemmas.List.{get_or_past}
+use Rattle.mk_lemmas.proofs.Members.{Has-from_has, not-from_has}
+use Rattle.mk_graph.proofs.OpenGroups.{InOpenGroup-Has}
+use Rattle.mk_world.proofs.Idle.{fewer_missing, first_is_idle, missing}
 use Rattle.mk_graph.specs.declared.node.Node.{Node}
 use Rattle.mk_graph.specs.Membership.{Has, has, IsWithin}
 use Rattle.mk_graph.specs.Graph.{Graph, IsGraph, node, no_node, prerequisites}
@@ -12,7 +15,7 @@ use Rattle.mk_build.specs.Steps.{finished}
 use Rattle.mk_world.specs.declared.plan.PlanCommand.{PlanCommand}
 use Rattle.mk_world.specs.declared.plan.PlanCommand.TheVariants as order
 use Rattle.mk_world.specs.Running.{IsIdle, IsFirstIdle, AreNotIdle, Passes, PassesAll, PassesAllIn, PassesBefore}
-use Rattle.mk_world_plan.proofs.Agreeing.{first_is_idle, has_is, has_not, open_joined, wanted_low}
+use Rattle.mk_world_plan.proofs.Agreeing.{wanted_low}
 
 -- it holds, or it doesn't
 abbrev IsDecided : Type 0 → Type 0
@@ -22,8 +25,8 @@ has_decided : (ns : List ℕ) (n : ℕ) → IsDecided (Has ns n)
 has_decided ns n = at (has ns n) refl
   where
     at : (b : Bool) → has ns n ≡ b → IsDecided (Has ns n)
-    at true e = inl (has_is ns n e)
-    at false e = inr (has_not ns n e)
+    at true e = inl (Has-from_has ns n e)
+    at false e = inr (not-from_has ns n e)
 
 all_decided : (ns ms : List ℕ) → IsDecided (HasAll ns ms)
 all_decided ns [] = inl tt
@@ -71,7 +74,7 @@ module _ (g : Graph) (goals done : List ℕ) (is : IsGraph g) (within : IsWithin
     | inl r ↦ inl (r.0, (let low = r.1 in omega arith), r.2, r.3)
     | inr none ↦ elim (open_decided done (node g j).groups n) [
       | inl stands ↦
-          let falls = is.no_cycle.falls j n (open_joined done (node g j).groups n stands) in
+          let falls = is.no_cycle.falls j n (InOpenGroup-Has done (node g j).groups n stands) in
           elim (above j (omega arith)) [
             | inl w ↦ inl (j, omega arith, w, stands)
             | inr not ↦ inr (λ h. elim (cases_lt h.0 j) [
@@ -134,50 +137,6 @@ first_decided g m is within (x ∷ xs) = elim (idle_decided g m is within x) [
     | inr none ↦ inr (λ n h. elim h [ inl e ↦ subst (λ k. ¬ (IsIdle g m k)) e not | inr r ↦ none n r ])
   ]
 ]
-
--- how many of the first numbers aren't in a list
-missing : ℕ → List ℕ → ℕ
-missing zero done = 0
-missing (suc k) done = cond (has done k) 0 1 + missing k done
-
-fewer_or_same : (k n : ℕ) (done : List ℕ) → missing k (n ∷ done) ≤ missing k done
-unfolding missing
-fewer_or_same zero n done = omega arith
-fewer_or_same (suc k) n done = at (nat_eq n k) (has done k) (fewer_or_same k n done)
-  where
-    at : (a b : Bool) → missing k (n ∷ done) ≤ missing k done → cond (a || b) 0 1 + missing k (n ∷ done) ≤ cond b 0 1 + missing k done
-    at true true h = omega arith
-    at true false h = omega arith
-    at false true h = omega arith
-    at false false h = omega arith
-
--- fewer are missing where one that was missing came
-fewer_missing : (k n : ℕ) (done : List ℕ) → n < k → ¬ (Has done n) → missing k (n ∷ done) < missing k done
-unfolding missing
-fewer_missing zero n done lt not = absurd (omega arith)
-fewer_missing (suc k) n done lt not = elim (cases_Bool (nat_eq n k)) [
-  | inl e ↦
-      let is : n ≡ k = eqb-true n k e in
-      here (nat_eq n k) (has done k) e (not_has (has done k) refl is) (fewer_or_same k n done)
-  | inr f ↦ later (nat_eq n k) (has done k) f (fewer_missing k n done (lower n k lt f) not)
-]
-  where
-    not_has : (b : Bool) → has done k ≡ b → n ≡ k → has done k ≡ false
-    not_has true t is = absurd (not (subst (Has done) (sym is) (has_is done k t)))
-    not_has false t is = t
-
-    lower : (a b : ℕ) → a < suc b → nat_eq a b ≡ false → a < b
-    lower a b l f = let apart : ¬ (a ≡ b) = λ is. true≢false (sym (eq-eqb a b is) ∙ f) in omega arith
-
-    here : (a b : Bool) → a ≡ true → b ≡ false → missing k (n ∷ done) ≤ missing k done → cond (a || b) 0 1 + missing k (n ∷ done) < cond b 0 1 + missing k done
-    here true true ea eb h = absurd cc
-    here true false ea eb h = omega arith
-    here false b ea eb h = absurd cc
-
-    later : (a b : Bool) → a ≡ false → missing k (n ∷ done) < missing k done → cond (a || b) 0 1 + missing k (n ∷ done) < cond b 0 1 + missing k done
-    later true b e h = absurd cc
-    later false true e h = omega arith
-    later false false e h = omega arith
 
 -- They are passed until none is left.
 record PassesOut (g : Graph) (m : Making) : Type 0 where

@@ -14,7 +14,7 @@ use Rattle.mk_world.specs.declared.plan.PlanFault.{PlanFault}
 use Rattle.mk_world.specs.declared.plan.PlanFault.TheVariants.{Line}
 
 -- what stands before others is no empty last piece
-front_stays : (piece : List ℕ) (pieces : List (List ℕ)) → 0 < length pieces → without_empty_last (piece ∷ pieces) ≡ piece ∷ without_empty_last pieces
+pub front_stays : (piece : List ℕ) (pieces : List (List ℕ)) → 0 < length pieces → without_empty_last (piece ∷ pieces) ≡ piece ∷ without_empty_last pieces
 front_stays piece [] lt = absurd (omega arith)
 front_stays piece (next ∷ pieces) lt = refl
 
@@ -22,7 +22,7 @@ whole_stays : (text : List ℕ) → 0 < length text → without_empty_last (text
 whole_stays [] lt = absurd (omega arith)
 whole_stays (b ∷ text) lt = refl
 
-parts_there : (text : List ℕ) → 0 < length (slice_split (is_byte 10) text)
+pub parts_there : (text : List ℕ) → 0 < length (slice_split (is_byte 10) text)
 parts_there text = omega (arith, length-slice_split (is_byte 10) text)
 
 one_value : {a b : ℕ} → Some a ≡ Some b → a ≡ b

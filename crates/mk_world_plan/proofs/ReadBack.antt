@@ -1,14 +1,16 @@
 -- The text of steps is read as their orders.
-use Rattle.std.proofs.Common.{◌≡◌, ℕ, ◌+◌, ◌<◌, ◌≤◌, ◌^◌, Bool, true, false, cond, not, ◌&&◌, ◌||◌, List, [], ◌∷◌, ◌++◌, All, IsAscii, zero, suc, get_or, length, map, codes, nat_lt, nat_le, find, filter_map, decimal, Option, Some, None, Ok, option_map, option_and_then, refl, sym, ap, ◌∙◌, subst, arith, append_assoc, inl, inr, is_none}
+use Rattle.std.proofs.Common.{◌≡◌, ℕ, ◌+◌, ◌<◌, ◌≤◌, ◌^◌, Bool, true, false, cond, not, ◌&&◌, ◌||◌, List, [], ◌∷◌, ◌++◌, All, IsAscii, length, map, codes, nat_lt, nat_le, find, filter_map, decimal, Option, Some, None, Ok, option_map, option_and_then, refl, sym, ap, ◌∙◌, subst, arith, append_assoc, inl, inr, is_none}
 use Rattle.std.specs.List.{slice_split, list_all, enumerate_from, cons_option}
 use Rattle.std.specs.Str.{is_utf8}
 use Rattle.std.specs.Str.Parse.{digits_value}
 use Rattle.std.specs.Char.{is_ascii_digit}
-use Rattle.std.proofs.lemmas.Bool.{and_parts, and_from, ltb-true, cond-true, cond-false, lt-ltb, le-leb, le-ltb}
-use Rattle.std.proofs.lemmas.List.Splits.{slice_split_at, length-slice_split}
+use Rattle.std.proofs.lemmas.Bool.{and_from, cond-true, cond-false, lt-ltb, le-leb, le-ltb}
+use Rattle.std.proofs.lemmas.List.Splits.{slice_split_at}
 use Rattle.std.proofs.lemmas.List.Elements.{All-append, All-cons, All-nil}
 use Rattle.std.proofs.lemmas.Fmt.{decimal_is_IsNumeral, decimal_nonempty}
 use Rattle.std.proofs.lemmas.Str.{IsUtf8-from_ascii, is_utf8-from_IsUtf8}
+use Rattle.mk_lemmas.proofs.Texts.{IsAscii-from_list_all}
+use Rattle.mk_world_plan.proofs.PlanTexts.{front_stays, parts_there}
 use Rattle.mk_lines.specs.Bytes.{is_byte}
 use Rattle.mk_graph.specs.Membership.{Has}
 use Rattle.mk_graph.specs.Graph.{Graph}
@@ -22,14 +24,6 @@ use Rattle.mk_world_plan.specs.PlanText.{are_all_named, goals_text, names_text, 
 use Rattle.mk_world_plan.specs.Spelling.{is_of_word, IsWellSpelled}
 use Rattle.mk_world_plan.specs.PlanLaws.{IsReadable, named_goals, command_of_step, plan_line, WrittenTextIsRead}
 use Rattle.mk_world_plan.proofs.Spelling.{AreSpelled, joined, words_joined, joined_names, decimal_spelled, decimal_digits, no_newline}
-
--- what stands before others is no empty last piece
-front_stays : (piece : List ℕ) (pieces : List (List ℕ)) → 0 < length pieces → without_empty_last (piece ∷ pieces) ≡ piece ∷ without_empty_last pieces
-front_stays piece [] lt = absurd (omega arith)
-front_stays piece (next ∷ pieces) lt = refl
-
-parts_there : (text : List ℕ) → 0 < length (slice_split (is_byte 10) text)
-parts_there text = omega (arith, length-slice_split (is_byte 10) text)
 
 -- the line before a newline is cut off
 line_cut : (line rest : List ℕ) → All (λ b. is_byte 10 b ≡ false) line → lines_of (line ++ 10 ∷ rest) ≡ line ∷ lines_of rest
@@ -122,50 +116,38 @@ jobs_read n some few =
 keyword_spelled : (w : List ℕ) → 0 < length w → IsAscii w → list_all is_of_word w ≡ true → IsWellSpelled w
 keyword_spelled w some ascii one = record { not_empty = some; utf8 = is_utf8-from_IsUtf8 w (IsUtf8-from_ascii w ascii); one_word = one }
 
-ascii_word : (w : List ℕ) → list_all (λ b. nat_lt b 128) w ≡ true → IsAscii w
-ascii_word [] h = λ i. omega arith
-ascii_word (b ∷ w) h =
-    let parts = and_parts (nat_lt b 128) (list_all (λ c. nat_lt c 128) w) h in
-    let here : b < 128 = ltb-true b 128 parts.0 in
-    let rest = ascii_word w parts.1 in
-    λ i. at i here rest
-  where
-    at : (i : ℕ) → b < 128 → IsAscii w → get_or (b ∷ w) i 0 < 128
-    at zero here rest = here
-    at (suc i) here rest = rest i
-
 make_spelled : IsWellSpelled (codes "make")
-make_spelled = keyword_spelled (codes "make") (omega arith) (ascii_word (codes "make") refl) refl
+make_spelled = keyword_spelled (codes "make") (omega arith) (IsAscii-from_list_all (codes "make") refl) refl
 
 edit_spelled : IsWellSpelled (codes "edit")
-edit_spelled = keyword_spelled (codes "edit") (omega arith) (ascii_word (codes "edit") refl) refl
+edit_spelled = keyword_spelled (codes "edit") (omega arith) (IsAscii-from_list_all (codes "edit") refl) refl
 
 begin_spelled : IsWellSpelled (codes "begin")
-begin_spelled = keyword_spelled (codes "begin") (omega arith) (ascii_word (codes "begin") refl) refl
+begin_spelled = keyword_spelled (codes "begin") (omega arith) (IsAscii-from_list_all (codes "begin") refl) refl
 
 look_spelled : IsWellSpelled (codes "look")
-look_spelled = keyword_spelled (codes "look") (omega arith) (ascii_word (codes "look") refl) refl
+look_spelled = keyword_spelled (codes "look") (omega arith) (IsAscii-from_list_all (codes "look") refl) refl
 
 put_spelled : IsWellSpelled (codes "put")
-put_spelled = keyword_spelled (codes "put") (omega arith) (ascii_word (codes "put") refl) refl
+put_spelled = keyword_spelled (codes "put") (omega arith) (IsAscii-from_list_all (codes "put") refl) refl
 
 done_spelled : IsWellSpelled (codes "done")
-done_spelled = keyword_spelled (codes "done") (omega arith) (ascii_word (codes "done") refl) refl
+done_spelled = keyword_spelled (codes "done") (omega arith) (IsAscii-from_list_all (codes "done") refl) refl
 
 break_spelled : IsWellSpelled (codes "break")
-break_spelled = keyword_spelled (codes "break") (omega arith) (ascii_word (codes "break") refl) refl
+break_spelled = keyword_spelled (codes "break") (omega arith) (IsAscii-from_list_all (codes "break") refl) refl
 
 removed_spelled : IsWellSpelled (codes "removed")
-removed_spelled = keyword_spelled (codes "removed") (omega arith) (ascii_word (codes "removed") refl) refl
+removed_spelled = keyword_spelled (codes "removed") (omega arith) (IsAscii-from_list_all (codes "removed") refl) refl
 
 pass_spelled : IsWellSpelled (codes "pass")
-pass_spelled = keyword_spelled (codes "pass") (omega arith) (ascii_word (codes "pass") refl) refl
+pass_spelled = keyword_spelled (codes "pass") (omega arith) (IsAscii-from_list_all (codes "pass") refl) refl
 
 stop_spelled : IsWellSpelled (codes "stop")
-stop_spelled = keyword_spelled (codes "stop") (omega arith) (ascii_word (codes "stop") refl) refl
+stop_spelled = keyword_spelled (codes "stop") (omega arith) (IsAscii-from_list_all (codes "stop") refl) refl
 
 end_spelled : IsWellSpelled (codes "end")
-end_spelled = keyword_spelled (codes "end") (omega arith) (ascii_word (codes "end") refl) refl
+end_spelled = keyword_spelled (codes "end") (omega arith) (IsAscii-from_list_all (codes "end") refl) refl
 
 -- the lines of steps
 

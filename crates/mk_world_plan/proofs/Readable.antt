@@ -1,6 +1,10 @@
 -- Legal histories speak of names of the world alone.
 use Rattle.std.proofs.Common.{◌≡◌, ℕ, ◌<◌, true, not, List, [], ◌∷◌, length, map, nat_eq, refl, sym, ap, subst, inl, inr, arith}
 use Rattle.std.proofs.lemmas.Bool.{and_parts}
+use Rattle.mk_lemmas.proofs.Members.{Has-from_filter}
+use Rattle.mk_graph.proofs.Parts.{Has-from_HasAll}
+use Rattle.mk_graph.proofs.Nodes.{recipe_is_node}
+use Rattle.mk_lines.proofs.NameTests.{Has-from_has_name}
 use Rattle.mk_lines.specs.Names.{has_name}
 use Rattle.mk_graph.specs.Membership.{Has, IsWithin}
 use Rattle.mk_graph.specs.Graph.{Graph, IsGraph, node}
@@ -15,9 +19,8 @@ use Rattle.mk_world.specs.Steps.{step_of}
 use Rattle.mk_world.specs.Running.{stage_of}
 use Rattle.mk_world_plan.specs.Spelling.{IsWellSpelled, PlainPathsAreWellSpelled}
 use Rattle.mk_world_plan.specs.PlanLaws.{EachRunIsAsWritten, HasARun, IsHistory, HasReadableNumbers, IsReadable, LegalStepsAreReadable, WrittenHistoryRuns, WrittenPlanRuns, WrittenTextIsRead, plan_of_steps}
-use Rattle.mk_world_plan.proofs.Numbers.{low_number, name_there}
-use Rattle.mk_world_plan.proofs.Agreeing.{filter_has, wanted_low, within_all}
-use Rattle.mk_world_plan.proofs.Following.{recipe_low}
+use Rattle.mk_world_plan.proofs.Numbers.{low_number}
+use Rattle.mk_world_plan.proofs.Agreeing.{wanted_low}
 
 -- the make's goals are of the graph, and what runs are recipes
 abbrev IsOfGraph : Graph → World → Type 0
@@ -27,7 +30,7 @@ IsOfGraph g (Busy m d) = IsWithin m.goals g.goals × ((t : ℕ) → Has m.runnin
 -- a step leaves it so
 stays : (g : Graph) (s : Setting) (w : World) (x : model.Step) → IsOfGraph g w → Allowed g s w x → IsOfGraph g (after g s w x)
 stays g s (Idle d) (model.Edit f c) of a = tt
-stays g s (Idle d) (model.Make jobs goals) of a = (within_all g.goals goals a.1.within, λ t h. absurd h)
+stays g s (Idle d) (model.Make jobs goals) of a = (Has-from_HasAll g.goals goals a.1.within, λ t h. absurd h)
 stays g s (Idle d) (model.Begin t) of a = absurd a
 stays g s (Idle d) (model.Look t f) of a = absurd a
 stays g s (Idle d) (model.Put t f c) of a = absurd a
@@ -41,9 +44,9 @@ stays g s (Busy m d) (model.Make jobs goals) of a = absurd a
 stays g s (Busy m d) (model.Begin t) of a = (of.0, λ n h. elim h [ inl e ↦ subst (λ i. (node g i).recipe ≡ true) e a.1 | inr r ↦ of.1 n r ])
 stays g s (Busy m d) (model.Look t f) of a = of
 stays g s (Busy m d) (model.Put t f c) of a = of
-stays g s (Busy m d) (model.End t) of a = (of.0, λ n h. of.1 n (filter_has (λ r. not (nat_eq t r)) m.running n h))
-stays g s (Busy m d) (model.Break t removed) of a = (of.0, λ n h. of.1 n (filter_has (λ r. not (nat_eq t r)) m.running n h))
-stays g s (Busy m d) (model.Pass t) of a = (of.0, λ n h. of.1 n (filter_has (λ r. not (nat_eq t r)) m.running n h))
+stays g s (Busy m d) (model.End t) of a = (of.0, λ n h. of.1 n ((Has-from_filter (λ r. not (nat_eq t r)) m.running n h).0))
+stays g s (Busy m d) (model.Break t removed) of a = (of.0, λ n h. of.1 n ((Has-from_filter (λ r. not (nat_eq t r)) m.running n h).0))
+stays g s (Busy m d) (model.Pass t) of a = (of.0, λ n h. of.1 n ((Has-from_filter (λ r. not (nat_eq t r)) m.running n h).0))
 stays g s (Busy m d) model.Stop of a = tt
 stays g s (Busy m d) model.EndMake of a = tt
 
@@ -52,7 +55,7 @@ module _ (g : Graph) (s : Setting) (is : IsGraph g) (spelled : (f : FileName) �
   node_spelled t low = spelled t (inl (number_of g t, low_number g t low))
 
   runs_spelled : (m : Making) (d : Disk) (t : FileName) → IsOfGraph g (Busy m d) → Has m.running (number_of g t) → IsWellSpelled t
-  runs_spelled m d t of runs = node_spelled t (recipe_low g (number_of g t) (of.1 (number_of g t) runs))
+  runs_spelled m d t of runs = node_spelled t (recipe_is_node g (number_of g t) (of.1 (number_of g t) runs))
 
   goals_spelled : (goals : List FileName) → IsWithin (map (number_of g) goals) g.goals → (f : FileName) → Has goals f → IsWellSpelled f
   goals_spelled [] within f h = absurd h
@@ -61,8 +64,8 @@ module _ (g : Graph) (s : Setting) (is : IsGraph g) (spelled : (f : FileName) �
 
   -- an allowed step can be read
   one_readable : (w : World) (step : Step) → IsOfGraph g w → Allowed g s w (step_of g step) → HasReadableNumbers step → IsReadable step
-  one_readable (Idle d) (Edit f c) of a small = (spelled f (inr (inl (name_there s.sources f (and_parts (has_name s.sources f) _ a.0).0))), small)
-  one_readable (Idle d) (Make jobs goals) of a small = (omega (arith, a.0), small, goals_spelled goals (within_all g.goals (map (number_of g) goals) a.1.within))
+  one_readable (Idle d) (Edit f c) of a small = (spelled f (inr (inl (Has-from_has_name s.sources f (and_parts (has_name s.sources f) _ a.0).0))), small)
+  one_readable (Idle d) (Make jobs goals) of a small = (omega (arith, a.0), small, goals_spelled goals (Has-from_HasAll g.goals (map (number_of g) goals) a.1.within))
   one_readable (Idle d) (Begin t) of a small = absurd a
   one_readable (Idle d) (Look t f) of a small = absurd a
   one_readable (Idle d) (Put t f c) of a small = absurd a
@@ -73,7 +76,7 @@ module _ (g : Graph) (s : Setting) (is : IsGraph g) (spelled : (f : FileName) �
   one_readable (Idle d) EndMake of a small = absurd a
   one_readable (Busy m d) (Edit f c) of a small = absurd a
   one_readable (Busy m d) (Make jobs goals) of a small = absurd a
-  one_readable (Busy m d) (Begin t) of a small = node_spelled t (recipe_low g (number_of g t) a.1)
+  one_readable (Busy m d) (Begin t) of a small = node_spelled t (recipe_is_node g (number_of g t) a.1)
   one_readable (Busy m d) (Look t f) of a small = (runs_spelled m d t of a.0, spelled f (inr (inr (number_of g t, inl a.1))))
   one_readable (Busy m d) (Put t f c) of a small = (runs_spelled m d t of a.0, spelled f (inr (inr (number_of g t, inr a.1))), small)
   one_readable (Busy m d) (End t) of a small = runs_spelled m d t of a.runs

@@ -2,6 +2,10 @@
 use Rattle.std.proofs.Common.{◌≡◌, ℕ, ◌+◌, ◌<◌, Bool, true, false, cond, not, List, [], ◌∷◌, ◌++◌, length, map, filter_map, Option, None, Some, Ok, Err, refl, sym, ap, ◌∙◌, subst, inl, inr}
 use Rattle.std.specs.List.{list_all, enumerate_from, cons_option}
 use Rattle.std.proofs.lemmas.Bool.{and_from, and_parts, true≢false}
+use Rattle.mk_world.proofs.Fronts.{none_fails}
+use Rattle.mk_graph.proofs.Parts.{Has-from_HasAll}
+use Rattle.mk_graph.proofs.Nodes.{recipe_is_node}
+use Rattle.mk_lines.proofs.NameTests.{Has-from_has_name}
 use Rattle.mk_lines.specs.Names.{has_name}
 use Rattle.mk_graph.specs.Membership.{Has, IsWithin}
 use Rattle.mk_graph.specs.Graph.{Graph, IsGraph, node}
@@ -20,14 +24,14 @@ use Rattle.mk_world.specs.declared.fault.StepFault.TheVariants.{Memory}
 use Rattle.mk_world.specs.State.{number_of}
 use Rattle.mk_world.specs.Steps.{step_of}
 use Rattle.mk_world.specs.StepLaws.{AllowedWhereAllHolds}
-use Rattle.mk_world.specs.Faults.{Check, checks, AllHold, FirstFails}
+use Rattle.mk_world.specs.Faults.{checks}
 use Rattle.mk_world.specs.Running.{Follows, Stage, PassesBefore, IsRefusal, RunsTo, ends, follows, refused, TakesInTurn, takes, is_known, is_node, own_steps, printed}
 use Rattle.mk_world_plan.specs.PlanText.{are_all_named, is_idle}
 use Rattle.mk_world_plan.specs.PlanLaws.{HasARun, WrittenPlanRuns, is_idle_pass, named_goals, command_of_step, plan_line, run_step_of, without_idle_passes}
-use Rattle.mk_world_plan.proofs.Numbers.{busy_is, idle_is, low_known, name_there}
-use Rattle.mk_world_plan.proofs.Agreeing.{AgreesIn, wanted_low, within_all}
+use Rattle.mk_world_plan.proofs.Numbers.{busy_is, idle_is, low_known}
+use Rattle.mk_world_plan.proofs.Agreeing.{AgreesIn, wanted_low}
 use Rattle.mk_world_plan.proofs.Passing.{HasGoalsOf, passed_before}
-use Rattle.mk_world_plan.proofs.Following.{Agrees, GoesOn, at_rest, begin_goes, break_goes, edit_goes, end_goes, end_make_goes, goals_read, in_make, look_goes, make_goes, pass_goes, passed_agrees, put_goes, recipe_low, stop_goes}
+use Rattle.mk_world_plan.proofs.Following.{Agrees, GoesOn, at_rest, begin_goes, break_goes, edit_goes, end_goes, end_make_goes, goals_read, in_make, look_goes, make_goes, pass_goes, passed_agrees, put_goes, stop_goes}
 
 -- the names of the world are known
 abbrev AreKnown : Stage → Type 0
@@ -65,7 +69,7 @@ module _ (one : NamesHaveOneNumber) (stay : CanStartStays) (reaches : SerialReac
   ready_low g m k n is agrees ready = wanted_low g m.goals m.done is (λ i h. agrees.of_graph i (agrees.goals i h)) n ready.0.wanted
 
   runs_known : (g : Graph) (m k : Making) (t : FileName) → AgreesIn g m k → Has m.running (number_of g t) → is_node g t ≡ true
-  runs_known g m k t agrees runs = low_known g t (recipe_low g (number_of g t) (agrees.recipes (number_of g t) runs))
+  runs_known g m k t agrees runs = low_known g t (recipe_is_node g (number_of g t) (agrees.recipes (number_of g t) runs))
 
   pass_done : (stage : Stage) (m k : Making) (d : Disk) (t : FileName) (b : Bool) → IsGraph stage.graph
       → AgreesIn stage.graph m k → Allowed stage.graph stage.setting (Busy m d)
@@ -86,12 +90,12 @@ module _ (one : NamesHaveOneNumber) (stay : CanStartStays) (reaches : SerialReac
 
   idle_done : (stage : Stage) (d : Disk) (step : Step) → IsGraph stage.graph → AreKnown stage → Allowed stage.graph stage.setting (Idle d) (step_of stage.graph step) → IsDone stage (Idle d) (Idle d) step (command_of_step stage.graph step)
   idle_done stage d (Edit f c) is known allowed = record {
-    known = known f (inr (inl (name_there stage.setting.sources f (and_parts (has_name stage.setting.sources f) _ allowed.0).0)));
+    known = known f (inr (inl (Has-from_has_name stage.setting.sources f (and_parts (has_name stage.setting.sources f) _ allowed.0).0)));
     own = λ e. refl;
     goes = λ behind passes. subst (λ w. GoesOn stage.graph stage.setting (Idle d) (Idle d) w (model.Edit f c) (model.Edit f c)) (sym passes) (edit_goes stage.graph stage.setting d f c allowed);
   }
   idle_done stage d (Make jobs goals) is known allowed = record {
-    known = named_known stage.graph goals is (within_all stage.graph.goals (map (number_of stage.graph) goals) allowed.1.within);
+    known = named_known stage.graph goals is (Has-from_HasAll stage.graph.goals (map (number_of stage.graph) goals) allowed.1.within);
     own = λ e. ap (λ l. model.Make jobs l ∷ []) (goals_read stage.graph goals allowed.1.not_empty);
     goes = λ behind passes. subst (λ w. GoesOn stage.graph stage.setting (Idle d) (Idle d) w (step_of stage.graph (Make jobs goals)) (run_step_of stage.graph (Make jobs goals))) (sym passes) (make_goes one stage.graph stage.setting d jobs goals is allowed);
   }
@@ -108,7 +112,7 @@ module _ (one : NamesHaveOneNumber) (stay : CanStartStays) (reaches : SerialReac
   busy_done stage m k d (Edit f c) is known agrees allowed = absurd allowed
   busy_done stage m k d (Make jobs goals) is known agrees allowed = absurd allowed
   busy_done stage m k d (Begin t) is known agrees allowed = record {
-    known = low_known stage.graph t (recipe_low stage.graph (number_of stage.graph t) allowed.1);
+    known = low_known stage.graph t (recipe_is_node stage.graph (number_of stage.graph t) allowed.1);
     own = λ e. refl;
     goes = λ behind passes. begin_goes one stay reaches stage.graph stage.setting m k d behind (number_of stage.graph t) is agrees passes allowed;
   }
@@ -147,11 +151,6 @@ module _ (one : NamesHaveOneNumber) (stay : CanStartStays) (reaches : SerialReac
   step_done : (stage : Stage) (past old : World) (step : Step) → IsGraph stage.graph → AreKnown stage → Agrees stage.graph past old → Allowed stage.graph stage.setting past (step_of stage.graph step) → IsDone stage past old step (command_of_step stage.graph step)
   step_done stage past old step is known (at_rest {d = d}) allowed = idle_done stage d step is known allowed
   step_done stage past old step is known (in_make {m = m} {k = k} {d = d} agrees) allowed = busy_done stage m k d step is known agrees allowed
-
--- what holds throughout has no first that fails
-none_fails : (cs : List Check) (fault : StepFault) → AllHold cs → FirstFails cs fault → ⊥
-none_fails [] fault h none = none
-none_fails (c ∷ cs) fault h fails = elim fails [ inl f ↦ f.0 h.0 | inr later ↦ none_fails cs fault h.1 later.1 ]
 
 -- a step that is taken leaves the world after it
 one_taken : (g : Graph) (s : Setting) (old new : World) (x : model.Step) → TakesInTurn g s old new (x ∷ []) (Ok tt) → new ≡ after g s old x

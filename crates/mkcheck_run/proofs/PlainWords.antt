@@ -1,5 +1,5 @@
 -- What the command line makes of words that are no options.
-use Rattle.std.proofs.Common.{◌≡◌, ◌∙◌, ◌<◌, ◌≤◌, ◌^◌, Bool, true, false, List, [], ◌∷◌, ◌++◌, length, codes, refl, sym, ap, ap₂, append_assoc, arith, Option, Some, None, ◌||◌, nat_lt, ◌==◌, true≢false, append-nil, le-ltb, is_some}
+use Rattle.std.proofs.Common.{◌≡◌, ◌∙◌, ◌<◌, ◌≤◌, ◌^◌, Bool, true, false, List, [], ◌∷◌, ◌++◌, length, codes, refl, sym, ap, ap₂, append_assoc, arith, Option, Some, None, nat_lt, ◌==◌, append-nil, le-ltb, is_some}
 use Rattle.std.specs.Prelude.{fold}
 use Rattle.std.specs.List.{list_any}
 use Rattle.std.specs.Str.{bytes_eq}
@@ -14,6 +14,7 @@ use Rattle.clap.specs.declared.parser.matches.ValueSource.TheVariants.{CommandLi
 use Rattle.clap.proofs.OnLiterals.{clap_on_literals}
 use Rattle.clap.proofs.WalkLemmas.{walk_stopped}
 use Rattle.std.specs.Prelude.{slice_index_or}
+use Rattle.std.proofs.lemmas.Bool.{or_parts}
 use Rattle.mkcheck_run.specs.CommandLine.{HasNoOption, command_line, graph_words, is_option}
 use Rattle.mk_core.specs.declared.request.Request.{Request}
 use Rattle.mkcheck_run.specs.Invocation.{invocation_of, asked_with, asking, faults_of, requested}
@@ -63,10 +64,6 @@ first_turn word p = rw (p.dashes, p.long, p.short) refl
 next_turn : (rows : List Row) (seen : List Text) (word : Text) → IsPlain word → turn_fault graph_shape [] (at rows seen) word ≡ []
 next_turn rows seen word p = rw (p.dashes, p.long, p.short) refl
 
-neither : (a b : Bool) → (a || b) ≡ false → (a ≡ false) × (b ≡ false)
-neither true b h = (h, absurd (true≢false h))
-neither false b h = (refl, h)
-
 -- no word is an option
 abbrev AreWords : List Text → Type 0
 AreWords words = list_any is_option words ≡ false
@@ -74,7 +71,7 @@ AreWords words = list_any is_option words ≡ false
 walk_on : (rows : List Row) (seen words : List Text) → AreWords words → fold (walked graph_shape.rules []) (at rows seen) words ≡ at rows (seen ++ words)
 walk_on rows seen [] h = ap (at rows) (sym (append-nil seen))
 walk_on rows seen (word ∷ words) h =
-    let parts = neither (is_option word) (list_any is_option words) h in
+    let parts = or_parts (is_option word) (list_any is_option words) h in
     ap (λ (s : Walk). fold (walked graph_shape.rules []) s words) (next_word rows seen word (plain_word word parts.0))
     ∙ (walk_on rows (seen ++ word ∷ []) words parts.1 ∙ ap (at rows) (append_assoc seen (word ∷ []) words))
 
@@ -82,7 +79,7 @@ fault_on : (rows : List Row) (seen words : List Text) → AreWords words → wal
 unfolding walk_fault
 fault_on rows seen [] h = refl
 fault_on rows seen (word ∷ words) h =
-    let parts = neither (is_option word) (list_any is_option words) h in
+    let parts = or_parts (is_option word) (list_any is_option words) h in
     ap (λ (k : Kinds). or_else k (walk_fault graph_shape [] (walked graph_shape.rules [] (at rows seen) word) words)) (next_turn rows seen word (plain_word word parts.0))
     ∙ (ap (λ (s : Walk). walk_fault graph_shape [] s words) (next_word rows seen word (plain_word word parts.0)) ∙ fault_on rows (seen ++ word ∷ []) words parts.1)
 
@@ -120,13 +117,13 @@ record Begins (s : Walk) (rows : List Row) : Type 0 where
 module _ (s : Walk) (rows : List Row) (b : Begins s rows) where
   walk_all : (word : Text) (words : List Text) → AreWords (word ∷ words) → fold (walked graph_shape.rules []) s (word ∷ words) ≡ at rows (word ∷ words)
   walk_all word words h =
-      let parts = neither (is_option word) (list_any is_option words) h in
+      let parts = or_parts (is_option word) (list_any is_option words) h in
       ap (λ (t : Walk). fold (walked graph_shape.rules []) t words) (b.walks word (plain_word word parts.0)) ∙ walk_on rows (word ∷ []) words parts.1
 
   fault_all : (word : Text) (words : List Text) → AreWords (word ∷ words) → walk_fault graph_shape [] s (word ∷ words) ≡ []
   unfolding walk_fault
   fault_all word words h =
-      let parts = neither (is_option word) (list_any is_option words) h in
+      let parts = or_parts (is_option word) (list_any is_option words) h in
       ap (λ (k : Kinds). or_else k (walk_fault graph_shape [] (walked graph_shape.rules [] s word) words)) (b.turns word (plain_word word parts.0))
       ∙ (ap (λ (t : Walk). walk_fault graph_shape [] t words) (b.walks word (plain_word word parts.0)) ∙ fault_on rows (word ∷ []) words parts.1)
 

@@ -1,24 +1,19 @@
 -- What the fixtures are tested for makes them sound.
-use Rattle.std.proofs.Common.{◌≡◌, ℕ, zero, suc, ◌+◌, ◌<◌, List, [], ◌∷◌, ◌⊎◌, length, map, take, get_or, Vec, inl, inr, ⊎_elim, refl, sym, ap, subst, ◌∙◌, arith}
+use Rattle.std.proofs.Common.{◌≡◌, ℕ, zero, suc, ◌+◌, ◌<◌, List, [], ◌∷◌, length, map, take, get_or, Vec, inl, inr, ⊎_elim, sym, ap, subst, ◌∙◌, arith}
 use Rattle.std.specs.declared.alloc.Global.{Global}
 use Rattle.std.proofs.lemmas.List.{length-map, map_more, get_or-map}
 use mathlib.Core.Path.{fun_ext}
+use Rattle.mk_lemmas.proofs.Members.{Has-cases}
+use Rattle.mk_lemmas.proofs.Lists.{get_or-map_default}
 use Rattle.mk_graph.specs.declared.node.Node.{Node}
 use Rattle.mk_graph.specs.Membership.{Has, IsDistinct}
-use Rattle.mk_graph.specs.Lists.{has_cases}
 use Rattle.mk_graph.specs.Graph.{Graph, Reached, goal, onward, no_node, prerequisites, IsSound}
 use Rattle.tests_model.specs.Rows.{items_of, row, needs, AreRows, HaveParents}
-
--- the element at a place stands in the list
-pub Has-get_or : (xs : List ℕ) (i d : ℕ) → i < length xs → Has xs (get_or xs i d)
-Has-get_or [] i d within = absurd (omega arith)
-Has-get_or (x ∷ xs) zero d within = inl refl
-Has-get_or (x ∷ xs) (suc i) d within = inr (Has-get_or xs i d (omega arith))
 
 -- one more element whose image is another adds nothing
 pub not_Has-map_more : {X Y : Type 0} (f : X → Y) (xs : List X) (i : ℕ) (x : X) (y : Y) → i < length xs → x ≡ get_or xs i x → (f x ≡ y → ⊥) → ¬ (Has (map f (take i xs)) y) → ¬ (Has (map f (take (i + 1) xs)) y)
 not_Has-map_more f xs i x y within is ne out h =
-    ⊎_elim out (λ last. ⊎_elim (λ e. ne (ap f is ∙ e)) (λ none. none) last) (has_cases (map f (take i xs)) (f (get_or xs i x) ∷ []) y (subst (λ l. Has l y) (map_more f xs i x within) h))
+    ⊎_elim out (λ last. ⊎_elim (λ e. ne (ap f is ∙ e)) (λ none. none) last) (Has-cases (map f (take i xs)) (f (get_or xs i x) ∷ []) y (subst (λ l. Has l y) (map_more f xs i x within) h))
 
 -- what holds at each place holds of all that stands in the list
 pub Has-from_All : (P : ℕ → Type 0) (xs : List ℕ) → ((k : ℕ) → k < length xs → P (get_or xs k 0)) → (n : ℕ) → Has xs n → P n
@@ -29,12 +24,6 @@ Has-from_All P (x ∷ xs) h n (inr there) = Has-from_All P xs (λ k low. h (suc 
 -- a row at its place
 pub row_is : (rows : List (Vec ℕ Global)) (n : ℕ) (r : Vec ℕ Global) → n < length rows → r ≡ get_or rows n r → row rows n ≡ r.items
 row_is rows n r low is = get_or-map (λ (v : Vec ℕ Global). v.items) rows n r [] low ∙ ap (λ (v : Vec ℕ Global). v.items) (sym is)
-
--- a mapped list at a place, with the mapped default
-get_or-map_default : {X Y : Type 0} (f : X → Y) (xs : List X) (n : ℕ) (d : X) → get_or (map f xs) n (f d) ≡ f (get_or xs n d)
-get_or-map_default f [] n d = refl
-get_or-map_default f (x ∷ xs) zero d = refl
-get_or-map_default f (x ∷ xs) (suc n) d = get_or-map_default f xs n d
 
 module _ (g : Graph) (rows : List (Vec ℕ Global)) (are : items_of rows ≡ map needs g.nodes) where
   -- a row is what its node needs

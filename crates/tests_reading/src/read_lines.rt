@@ -2,7 +2,7 @@
 
 use mk_lines::{Name, uncomment};
 use mk_macros::Op;
-use mk_read::{KindFault, Place, ReadFault, Special};
+use mk_read::{KindFault, Place, ReadFault, Special, has_reserved};
 use mk_read_parse::{Kind, is_special, is_suffix, kind_of, name_of, names_of, special_of};
 use std::alloc::{AllocError, Global};
 use std::process::Abort;
@@ -214,6 +214,12 @@ fn knows_names(rt: HostRuntime) -> Result<(), Fail> {
         assert_eq!(rt; str::from_utf8(&found).unwrap_or("?"), wanted, "at {text}");
     }
     Ok(())
+}
+
+#[test]
+fn knows_reserved_bytes(rt: HostRuntime) {
+    assert!(rt; has_reserved("a%b".as_bytes()));
+    assert!(rt; !has_reserved("a-b".as_bytes()));
 }
 
 /// Returns the `Debug` text of a fault.

@@ -3,6 +3,7 @@ use Rattle.std.specs.List.{flat_map}
 use Rattle.std.proofs.lemmas.Bool.{true≢false, cases_Bool}
 use Rattle.std.proofs.lemmas.List.{drop_more, get_or-map, length-map}
 use Rattle.std.proofs.lemmas.List.Elements.{All-get_or}
+use Rattle.mk_lemmas.proofs.Members.{Has-flat_map, Has-map}
 use Rattle.mk_lines.specs.Names.{has_name}
 use Rattle.mk_graph.specs.Membership.{Has}
 use Rattle.mk_graph.specs.Serial.{serial_order}
@@ -16,7 +17,6 @@ use Rattle.mk_cert.specs.Checks.{AnswersReads, reads_by}
 use Rattle.mk_find.proofs.Adding.{drop_past}
 use Rattle.mk_find.proofs.Decided.{name_is}
 use Rattle.mk_find.proofs.FirstOf.{Left, left_all, left_in, left_part, left_none}
-use Rattle.mk_graph.specs.Lists.{joined_to, has_mapped}
 use Rattle.mk_subject.proofs.InOrder.{reader_has_recipe, reader_in_order}
 use Rattle.mk_cert.proofs.Walks.{recipe_is_node}
 use Rattle.mk_cert.proofs.lacking.check_reads.Goals as goal
@@ -78,6 +78,6 @@ returns c = λ ways seen.
     let none = left_none (LacksWay x ways) (all_reads x) (subst (λ (ns : List ℕ). Left (LacksWay x ways) (flat_map (reads_by x) ns) (all_reads x)) (drop_past numbers i past) (c.loop-entry.invariant ways seen)) in
     inr (λ r needs.
     let read = λ (f : List ℕ). let one : Read = record { recipe = r.recipe; file = f } in one in
-    let stands : Has (all_reads x) r = joined_to (reads_by x) (serial_order x.graph) r.recipe r (reader_in_order x is reaches r.recipe r.file needs.0) (has_mapped read (reads_of x r.recipe) r.file needs.0) in
+    let stands : Has (all_reads x) r = Has-flat_map (reads_by x) (serial_order x.graph) r.recipe r (reader_in_order x is reaches r.recipe r.file needs.0) (Has-map read (reads_of x r.recipe) r.file needs.0) in
     let told = seen r.recipe (recipe_is_node x r.recipe (reader_has_recipe x is reaches r.recipe r.file needs.0)) r.file in
     ⊎_elim (λ t. told.0 t) (λ out. absurd (none r stands (needs, λ h. true≢false (sym (told.1 h) ∙ out)))) (cases_Bool (has_name (get_or c.args.seen.now r.recipe []) r.file)))

@@ -1,9 +1,9 @@
 use Rattle.std.proofs.Common.{◌≡◌, ◌∷◌, ◌++◌, [], None, Some, refl, arith}
 use Rattle.json.specs.Json.{after_end_array}
+use Rattle.mk_json.proofs.Turns.{refused_items}
 use Rattle.mk_json.specs.Tokens.{next_value}
 use Rattle.mk_cert_text.specs.Reading.{way_in}
 use Rattle.mk_cert_text.specs.Steps.{each}
-use Rattle.mk_cert_text.proofs.Read.{refused_items}
 use Rattle.mk_cert_text.proofs.reading_ways.read_list.Goals as goal
 
 pub items-init : goal.items-init

@@ -1,7 +1,7 @@
 use Rattle.std.proofs.Common.{◌≡◌, None, Some, arith}
 use Rattle.json.specs.Json.{read_key}
 use Rattle.serde_json.specs.Data.{put}
-use Rattle.mk_cert_text.proofs.Read.{refused_members}
+use Rattle.mk_json.proofs.Turns.{refused_members}
 use Rattle.mk_cert_text.proofs.reading_ways.read_way_parts.Goals as goal
 
 pub returns-in_err-key : goal.returns-in_err-key

@@ -1,6 +1,6 @@
 use Rattle.std.proofs.Common.{◌≡◌, map, take}
+use Rattle.mk_lemmas.proofs.Texts.{texts}
 use Rattle.mk_core.specs.Words.{operands_of, goals_of}
-use Rattle.mk_core.proofs.NameLists.{texts}
 use Rattle.mk_core.proofs.request.split_words.Given as goal
 
 -- the words so far, parted

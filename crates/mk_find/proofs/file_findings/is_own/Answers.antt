@@ -2,6 +2,7 @@
 use Rattle.std.proofs.Common.{◌≡◌, ◌∙◌, ℕ, List, false, ⊎_elim, ap, sym, subst}
 use Rattle.std.proofs.lemmas.Bool.{cases_Bool}
 use Rattle.std.proofs.lemmas.Result.{IfOk-weaker}
+use Rattle.mk_lemmas.proofs.Members.{Has-filter, not-from_has}
 use Rattle.mk_lines.specs.Names.{has_name}
 use Rattle.mk_graph.specs.Graph.{IsGraph}
 use Rattle.mk_graph.specs.Laws.{SerialReachesEachOnce}
@@ -12,14 +13,13 @@ use Rattle.mk_subject.specs.Subject.{Subject, writes_of}
 use Rattle.mk_subject.specs.Target.{Target}
 use Rattle.mk_subject.proofs.Decided.{has_decides}
 use Rattle.mk_subject.proofs.Entries.{same_writes}
-use Rattle.mk_subject.proofs.FileDecided.{kept, number_out}
 use Rattle.mk_find.proofs.FileDecided.{own_there}
 use Rattle.mk_subject.proofs.InOrder.{writer_in_order}
 use Rattle.mk_find.proofs.file_findings.is_own.Goals as goal
 
 not_written : (x : Subject) (t : ℕ) (f : List ℕ) (ns : List ℕ) (n : ℕ) → IsGraph x.graph → SerialReachesEachOnce → ns ≡ writers_of x f → n ≡ t → has ns n ≡ false → ¬ (Has (writes_of x t) f)
 not_written x t f ns n is reaches same number out wrote =
-    number_out ns n out (subst (λ (k : ℕ). Has ns k) (sym number) (subst (λ (l : List ℕ). Has l t) (sym same) (kept (λ o. has_name (writes_of x o) f) (serial_order x.graph) t (writer_in_order x is reaches t f wrote) ((has_decides (writes_of x t) f).1 wrote))))
+    not-from_has ns n out (subst (λ (k : ℕ). Has ns k) (sym number) (subst (λ (l : List ℕ). Has l t) (sym same) (Has-filter (λ o. has_name (writes_of x o) f) (serial_order x.graph) t (writer_in_order x is reaches t f wrote) ((has_decides (writes_of x t) f).1 wrote))))
 
 pub returns-then-writers-le-FEW_NUMBERS-clause-own : goal.returns-then-writers-le-FEW_NUMBERS-clause-own
 returns-then-writers-le-FEW_NUMBERS-clause-own c =

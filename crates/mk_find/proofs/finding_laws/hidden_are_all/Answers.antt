@@ -2,6 +2,7 @@
 use Rattle.std.proofs.Common.{◌≡◌, ◌∙◌, ℕ, List, [], ◌∷◌, ◌++◌, Bool, false, cond, map, ap, refl, subst, inl, inr}
 use Rattle.std.specs.List.{flat_map}
 use Rattle.std.proofs.lemmas.Bool.{false_from_ne_true}
+use Rattle.mk_lines.proofs.NameTests.{Has-from_has_name}
 use Rattle.mk_lines.specs.Names.{has_name}
 use Rattle.mk_graph.specs.Membership.{Has}
 use Rattle.mk_graph.specs.Serial.{serial_order}
@@ -10,14 +11,13 @@ use Rattle.mk_find.specs.Listed.{Adds}
 use Rattle.mk_subject.specs.Subject.{Subject, reads_of, writes_of}
 use Rattle.mk_find.specs.Findings.{hidden_read, hidden_reads}
 use Rattle.mk_find.proofs.Noting.{reader_writes_not}
-use Rattle.mk_find.proofs.Trying.{stands}
 use Rattle.mk_find.proofs.finding_laws.hidden_are_all.Goals as goal
 
 -- of files that the recipe doesn't write none is left out
 none_left_out : (x : Subject) (t : ℕ) (files : List (List ℕ)) → ((f : List ℕ) → Has files f → ¬ (Has (writes_of x t) f)) → flat_map (hidden_read x t) files ≡ map (λ f. stale t f) files
 none_left_out x t [] others = refl
 none_left_out x t (f ∷ files) others =
-    let lacks : has_name (writes_of x t) f ≡ false = false_from_ne_true _ (λ has. others f (inl refl) (stands (writes_of x t) f has)) in
+    let lacks : has_name (writes_of x t) f ≡ false = false_from_ne_true _ (λ has. others f (inl refl) (Has-from_has_name (writes_of x t) f has)) in
     ap (λ (b : Bool). cond b [] (stale t f ∷ []) ++ flat_map (hidden_read x t) files) lacks ∙ ap (λ (l : List Candidate). stale t f ∷ l) (none_left_out x t files (λ g h. others g (inr h)))
 
 -- so all are there, node by node

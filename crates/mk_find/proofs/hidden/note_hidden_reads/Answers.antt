@@ -1,6 +1,8 @@
 -- Each read is judged in its turn.
 use Rattle.std.proofs.Common.{◌≡◌, ◌∙◌, ◌<◌, ◌≤◌, [], refl, ℕ, List, ap, sym, subst, length, get_or, drop, arith}
 use Rattle.std.specs.List.{flat_map}
+use Rattle.mk_lemmas.proofs.Members.{Has-get_or}
+use Rattle.mk_subject.proofs.Entries.{same_reads}
 use Rattle.mk_graph.specs.Membership.{Has}
 use Rattle.mk_graph_search.specs.Places.{SearchInput}
 use Rattle.mk_graph_search.specs.Ways.{successors}
@@ -12,7 +14,6 @@ use Rattle.mk_find.specs.Listed.{Adds}
 use Rattle.mk_subject.specs.Subject.{reads_of}
 use Rattle.mk_subject.specs.Target.{Target, target_of}
 use Rattle.mk_find.proofs.Adding.{drop_past, leads_each, leads_done}
-use Rattle.mk_find.proofs.Noting.{at_place, same_reads}
 use Rattle.mk_find.proofs.Trying.{always_none_before_first}
 use Rattle.mk_find.proofs.hidden.note_hidden_reads.Goals as goal
 
@@ -44,7 +45,7 @@ note_hidden_read-requires-clause-read c =
     let i = c.loop-place.place in
     let count = c.count_of_reads-place-end.ensures ∙ ap (λ (k : NodeRow). length (reads_of x k.number)) c.entry.view_is in
     let low : i < length (reads_of x e.number) = omega (arith, c.loop-place-test.true, count) in
-    subst (λ (v : Target). Has (reads_of x e.number) v.file) (sym c.read-file.ensures) (at_place (reads_of x e.number) i [] low)
+    subst (λ (v : Target). Has (reads_of x e.number) v.file) (sym c.read-file.ensures) (Has-get_or (reads_of x e.number) i [] low)
 
 pub loop-place-preserved : goal.loop-place-preserved
 loop-place-preserved c =

@@ -2,6 +2,7 @@ use Rattle.std.proofs.Common.{◌≡◌, ◌∙◌, ℕ, List, map, ap, sym, sub
 use Rattle.std.specs.Prelude.{filter}
 use Rattle.std.proofs.lemmas.Bool.{true≢false}
 use Rattle.std.proofs.lemmas.Result.{on_ok_weaker}
+use Rattle.mk_lemmas.proofs.Members.{Has-from_filter}
 use Rattle.mk_graph.specs.Membership.{Has}
 use Rattle.mk_graph.specs.Serial.{serial_order}
 use Rattle.mk_lines.specs.Names.{has_name}
@@ -14,8 +15,6 @@ use Rattle.mk_subject.specs.Target.{Target}
 use Rattle.mk_find.proofs.Adding.{adds_lifted}
 use Rattle.mk_find.proofs.Behind.{behind_other, behind_filter}
 use Rattle.mk_subject.proofs.Decided.{has_decides}
-use Rattle.mk_subject.proofs.FileDecided.{passing}
-use Rattle.mk_find.proofs.FileDecided.{filtered_in}
 use Rattle.mk_find.proofs.pairs.note_file.Goals as goal
 
 pub note_pairs_with-requires : goal.note_pairs_with-requires
@@ -36,7 +35,7 @@ note_pairs_with-requires c =
       entry = c.requires.entry;
       written = λ t h.
           let kept = subst (λ (ns : List ℕ). Has ns t) same h in
-          (behind_other e.number order t distinct (filtered_in writes (behind e.number order) t kept), c.requires.written, (has_decides (writes_of x t) f).0 (passing writes (behind e.number order) t kept));
+          (behind_other e.number order t distinct ((Has-from_filter writes (behind e.number order) t kept).0), c.requires.written, (has_decides (writes_of x t) f).0 ((Has-from_filter writes (behind e.number order) t kept).1));
     }
 
 pub returns : goal.returns

@@ -1,7 +1,7 @@
 use Rattle.std.proofs.Common.{◌<◌, ◌≤◌, ap, length, map, drop, arith}
+use Rattle.mk_lemmas.proofs.Members.{Has-get_or}
 use Rattle.mk_find.specs.Candidates.{two_writers}
 use Rattle.mk_find.proofs.Adding.{drop_past, leads_map, leads_done}
-use Rattle.mk_find.proofs.FileDecided.{number_at}
 use Rattle.mk_find.proofs.pairs.note_pairs_with.Goals as goal
 
 pub loop-other-init : goal.loop-other-init
@@ -10,7 +10,7 @@ loop-other-init c = λ last h. h
 pub note_pair-requires-clause-written : goal.note_pair-requires-clause-written
 note_pair-requires-clause-written c =
     let lt : c.loop-other.other-index < length c.args.others.now = omega arith in
-    c.requires.written _ (number_at c.args.others.now c.loop-other.other-index 0 lt)
+    c.requires.written _ (Has-get_or c.args.others.now c.loop-other.other-index 0 lt)
 
 pub loop-other-preserved : goal.loop-other-preserved
 loop-other-preserved c =

@@ -1,8 +1,8 @@
 use Rattle.std.proofs.Common.{◌<◌, ◌≤◌, ◌∙◌, ap, refl, length, map, drop, arith}
+use Rattle.mk_lemmas.proofs.Members.{Has-get_or}
 use Rattle.mk_find.specs.Candidates.{race}
 use Rattle.mk_find.specs.HappensBefore.{NodeInGraph}
 use Rattle.mk_find.proofs.Adding.{drop_past, leads_map, leads_done}
-use Rattle.mk_find.proofs.FileDecided.{number_at}
 use Rattle.mk_find.proofs.race_findings.note_races_with.Goals as goal
 
 pub loop-writer-init : goal.loop-writer-init
@@ -17,7 +17,7 @@ note_race-requires-clause-number c = ap (λ (p : NodeInGraph). p.number) c.loop-
 pub note_race-requires-clause-written : goal.note_race-requires-clause-written
 note_race-requires-clause-written c =
     let lt : c.loop-writer.writer-index < length c.args.writers.now = omega arith in
-    c.requires.written _ (number_at c.args.writers.now c.loop-writer.writer-index 0 lt)
+    c.requires.written _ (Has-get_or c.args.writers.now c.loop-writer.writer-index 0 lt)
 
 pub loop-writer-preserved : goal.loop-writer-preserved
 loop-writer-preserved c =

@@ -2,6 +2,8 @@
 -- repeats.
 use Rattle.std.proofs.Common.{◌≡◌, ◌∙◌, ◌<◌, ◌≤◌, ◌+◌, ◌∷◌, [], refl, ℕ, List, Option, MatchOption, ap, sym, subst, length, get_or, map, drop, take, arith}
 use Rattle.std.proofs.lemmas.List.{take_all}
+use Rattle.mk_lemmas.proofs.Members.{Has-get_or}
+use Rattle.mk_subject.proofs.Entries.{same_reads}
 use Rattle.mk_lines.specs.Names.{once}
 use Rattle.mk_graph.specs.Membership.{Has}
 use Rattle.mk_graph_search.specs.Places.{SearchInput}
@@ -17,7 +19,7 @@ use Rattle.mk_subject.specs.Target.{Target, target_of}
 use Rattle.mk_find.specs.Certifying.{ReadNeedsWay, IsEntryFor, AddsEntries}
 use Rattle.mk_find.proofs.Adding.{drop_past, leads_map, leads_done}
 use Rattle.mk_find.proofs.AddingEntries.{reads_of_files, adds_entry, adds_next, adds_no_entries, adds_no_entry, nothing_before}
-use Rattle.mk_find.proofs.Noting.{at_place, reader_writes_not, reads_distinct, same_reads}
+use Rattle.mk_find.proofs.Noting.{reader_writes_not, reads_distinct}
 use Rattle.mk_find.proofs.Trying.{always_none_before_first}
 use Rattle.mk_find.proofs.stale_findings.judge_reads.Goals as goal
 use Rattle.mk_find.proofs.stale_findings.judge_reads.Goals.{in-Some+in_ok-push, in_default}
@@ -50,7 +52,7 @@ judge_read-requires-clause-read c =
     let i = c.loop-place.place in
     let count = c.count_of_reads-place-end.ensures ∙ ap (λ (k : NodeRow). length (reads_of x k.number)) c.entry.view_is in
     let low : i < length (reads_of x e.number) = omega (arith, c.loop-place-test.true, count) in
-    subst (λ (v : Target). Has (reads_of x e.number) v.file) (sym c.read-file.ensures) (at_place (reads_of x e.number) i [] low)
+    subst (λ (v : Target). Has (reads_of x e.number) v.file) (sym c.read-file.ensures) (Has-get_or (reads_of x e.number) i [] low)
 
 pub judge_read-requires-clause-out : goal.judge_read-requires-clause-out
 judge_read-requires-clause-out c =
@@ -59,7 +61,7 @@ judge_read-requires-clause-out c =
     let i = c.loop-place.place in
     let count = c.count_of_reads-place-end.ensures ∙ ap (λ (k : NodeRow). length (reads_of x k.number)) c.entry.view_is in
     let low : i < length (reads_of x e.number) = omega (arith, c.loop-place-test.true, count) in
-    let reads : Has (reads_of x e.number) c.read-file.result.file = subst (λ (v : Target). Has (reads_of x e.number) v.file) (sym c.read-file.ensures) (at_place (reads_of x e.number) i [] low) in
+    let reads : Has (reads_of x e.number) c.read-file.result.file = subst (λ (v : Target). Has (reads_of x e.number) v.file) (sym c.read-file.ensures) (Has-get_or (reads_of x e.number) i [] low) in
     reader_writes_not c.nothing_found_is_sound.ensures x c.graph-graph.ensures.graph c.graph-graph.ensures.subject c.requires.nothing e.number c.read-file.result.file reads
 
 pub push-requires : goal.push-requires
@@ -74,7 +76,7 @@ push-requires c =
     let low : i < length (reads_of x t) = omega (arith, c.loop-place-test.true, count) in
     let told = λ (o : Option FirstPath). MatchOption o (c.judge_read.new.found.items ≡ [] → ¬ (ReadNeedsWay x (record { recipe = t; file = f }))) (λ path. (c.judge_read.new.found.items ≡ []) × ReadNeedsWay x (record { recipe = t; file = f }) × IsAlongFirstPath x f t path.nodes.items path.finish) in
     let (none, needs, first) = subst told c.in-Some.is c.in_ok-path.ensures.path in
-    let reads : Has (reads_of x t) f = subst (λ (v : Target). Has (reads_of x t) v.file) (sym c.read-file.ensures) (at_place (reads_of x t) i [] low) in
+    let reads : Has (reads_of x t) f = subst (λ (v : Target). Has (reads_of x t) v.file) (sym c.read-file.ensures) (Has-get_or (reads_of x t) i [] low) in
     record {
       entry = c.requires.entry;
       read = subst (λ (k : List ℕ). Has (reads_of x t) k) (sym is) reads;

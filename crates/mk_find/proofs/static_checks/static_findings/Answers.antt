@@ -1,5 +1,6 @@
 use Rattle.std.proofs.Common.{◌≡◌, ◌++◌, [], List, sym, subst, take, drop}
 use Rattle.std.proofs.lemmas.Grind.{flat_map-append}
+use Rattle.mk_lemmas.proofs.Members.{Has-map}
 use Rattle.mk_graph.specs.Serial.{serial_order}
 use Rattle.mk_find.specs.declared.finding.Finding.{Finding}
 use Rattle.mk_graph.specs.Membership.{Has}
@@ -9,7 +10,6 @@ use Rattle.mk_find.specs.Listed.{Adds, HasNoSelection, named}
 use Rattle.mk_find.specs.Listing.{Lists}
 use Rattle.mk_find.specs.NodeChecks.{candidates_before_pairs, candidates_after_pairs}
 use Rattle.mk_find.proofs.Adding.{adds_append}
-use Rattle.mk_graph.specs.Lists.{has_mapped}
 use Rattle.mk_find.proofs.static_checks.static_findings.Goals as goal
 
 -- without findings there is no selection among them
@@ -37,7 +37,7 @@ returns c =
     let joined : static_candidates x ≡ first ++ (pairs ++ then) = flat_map-append (λ (part : List Candidate). part) (take 4 (by_number x)) (drop 4 (by_number x)) in
     let adds : Adds x (static_candidates x) [] found = subst (λ (l : List Candidate). Adds x l [] found) (sym joined) (subst (λ (old : List Finding). Adds x (first ++ (pairs ++ then)) old found) c.new-found.ensures.items all) in
     let stays = λ (none : HasNoSelection found). c.nothing_found_is_selected.ensures x c.graph-graph.ensures.graph c.graph-graph.ensures.subject adds.kept adds.right
-    (λ n chosen stands. none (name_of x n) chosen (subst (λ (l : List Finding). Has l (named x (selection n chosen))) (sym adds.added) (has_mapped (named x) adds.kept (selection n chosen) stands))) in
+    (λ n chosen stands. none (name_of x n) chosen (subst (λ (l : List Finding). Has l (named x (selection n chosen))) (sym adds.added) (Has-map (named x) adds.kept (selection n chosen) stands))) in
     record {
       found = adds;
       selected = λ none. (stays none).0;

@@ -1,7 +1,7 @@
 use Rattle.std.proofs.Common.{◌<◌, ◌≤◌, ap, length, map, drop, arith}
+use Rattle.mk_lemmas.proofs.Members.{Has-get_or}
 use Rattle.mk_find.specs.Candidates.{loose}
 use Rattle.mk_find.proofs.Adding.{drop_past, leads_map, leads_done}
-use Rattle.mk_find.proofs.FileDecided.{number_at}
 use Rattle.mk_find.proofs.writer_findings.note_loose_writers.Goals as goal
 
 pub loop-writer-init : goal.loop-writer-init
@@ -10,7 +10,7 @@ loop-writer-init c = λ last h. h
 pub note_loose_writer-requires-clause-written : goal.note_loose_writer-requires-clause-written
 note_loose_writer-requires-clause-written c =
     let lt : c.loop-writer.writer-index < length c.args.writers.now = omega arith in
-    c.requires.written _ (number_at c.args.writers.now c.loop-writer.writer-index 0 lt)
+    c.requires.written _ (Has-get_or c.args.writers.now c.loop-writer.writer-index 0 lt)
 
 pub loop-writer-preserved : goal.loop-writer-preserved
 loop-writer-preserved c =

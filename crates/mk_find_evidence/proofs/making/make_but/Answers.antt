@@ -1,8 +1,8 @@
 use Rattle.std.proofs.Common.{◌≡◌, ◌<◌, length, get_or, true, false, refl, sym, ap, ◌∙◌, subst, ◌⊎◌}
+use Rattle.mk_lemmas.proofs.Members.{Has-get_or}
 use Rattle.mk_graph.specs.Graph.{Graph, node}
 use Rattle.mk_graph.specs.Membership.{Has}
 use Rattle.mk_world.specs.State.{Scene}
-use Rattle.mk_find_evidence.proofs.Names.{at_place}
 use Rattle.mk_find_evidence.proofs.Texts.{next_number, no_number}
 use Rattle.mk_find_evidence.proofs.Histories.{all_unmade, pass_may, pass_taken, run_may, run_taken, none_unmade}
 use Rattle.mk_find_evidence.proofs.making.make_but.Goals as goal
@@ -12,12 +12,12 @@ pub loop-number-init : goal.loop-number-init
 loop-number-init c = all_unmade _ _ _ c.requires.legal
 
 pub is_to_run-requires : goal.is_to_run-requires
-is_to_run-requires c = c.requires.nodes _ (at_place c.args.order.now c.loop-number.number-index 0 c.loop-number-test.true)
+is_to_run-requires c = c.requires.nodes _ (Has-get_or c.args.order.now c.loop-number.number-index 0 c.loop-number-test.true)
 
 pub run-requires-clause-node : goal.run-requires-clause-node
 run-requires-clause-node c =
     let same = c.requires.graph ∙ ap (λ (k : Scene). k.graph) (sym c.loop-number.invariant.scene) in
-    subst (λ (k : Graph). get_or c.args.order.now c.loop-number.number-index 0 < length k.nodes) same (c.requires.nodes _ (at_place c.args.order.now c.loop-number.number-index 0 c.loop-number-test.true))
+    subst (λ (k : Graph). get_or c.args.order.now c.loop-number.number-index 0 < length k.nodes) same (c.requires.nodes _ (Has-get_or c.args.order.now c.loop-number.number-index 0 c.loop-number-test.true))
 
 pub run-requires-clause-legal : goal.run-requires-clause-legal
 run-requires-clause-legal c =
@@ -29,7 +29,7 @@ run-requires-clause-legal c =
 pub pass-requires-clause-node : goal.pass-requires-clause-node
 pass-requires-clause-node c =
     let same = c.requires.graph ∙ ap (λ (k : Scene). k.graph) (sym c.loop-number.invariant.scene) in
-    subst (λ (k : Graph). get_or c.args.order.now c.loop-number.number-index 0 < length k.nodes) same (c.requires.nodes _ (at_place c.args.order.now c.loop-number.number-index 0 c.loop-number-test.true))
+    subst (λ (k : Graph). get_or c.args.order.now c.loop-number.number-index 0 < length k.nodes) same (c.requires.nodes _ (Has-get_or c.args.order.now c.loop-number.number-index 0 c.loop-number-test.true))
 
 pub pass-requires-clause-legal : goal.pass-requires-clause-legal
 pass-requires-clause-legal c =

@@ -1,5 +1,6 @@
 use Rattle.std.proofs.Common.{◌+◌, ◌*◌, ◌<◌, ◌≤◌, List, ℕ, length, reverse, refl, sym, ap, ◌∙◌, subst}
 use Rattle.std.proofs.lemmas.Bool.{false≢true}
+use Rattle.mk_lemmas.proofs.Results.{MatchOption-at_some}
 use Rattle.mk_graph.specs.Graph.{Graph}
 use Rattle.mk_graph.specs.Schedules.{Before, IsScheduleWithout}
 use Rattle.mk_graph.specs.Serial.{serial_order}
@@ -8,7 +9,7 @@ use Rattle.mk_build.specs.World.{last_stamp}
 use Rattle.mk_subject.specs.Subject.{footprints}
 use Rattle.mk_world.specs.State.{Scene, disk_of}
 use Rattle.mk_find_evidence.proofs.Races.{turns_are_nodes}
-use Rattle.mk_find_evidence.proofs.RaceHistories.{some_of, none_of, may_start, may_make, may_begin, ends_in_race}
+use Rattle.mk_find_evidence.proofs.RaceHistories.{none_of, may_start, may_make, may_begin, ends_in_race}
 use Rattle.mk_find_evidence.proofs.race.make_until_begin.Goals as goal
 
 pub returns-in_default : goal.returns-in_default
@@ -24,7 +25,7 @@ pub start-requires : goal.start-requires
 start-requires c =
     let x = c.args.subject.now in
     let room = subst (λ (n : ℕ). n + (2 * writings x.graph (footprints x.setting) (serial_order x.graph) + 1) ≤ last_stamp) c.clock.ensures (c.if-not-has_stamps.ensures.0 refl) in
-    let past = subst (λ (k : Graph). IsScheduleWithout k c.args.o c.args.t (reverse c.in-Some.turns.items)) c.graph-graph.ensures.value (some_of _ _ c.in-Some.is c.in_ok-turns.ensures) in
+    let past = subst (λ (k : Graph). IsScheduleWithout k c.args.o c.args.t (reverse c.in-Some.turns.items)) c.graph-graph.ensures.value (MatchOption-at_some _ _ c.in-Some.is c.in_ok-turns.ensures) in
     may_start x.graph x.setting c.args.history.now c.requires.first c.requires.steps c.args.o c.args.t c.in-Some.turns.items c.graph-graph.ensures.graph c.schedules_run.ensures c.serial_reaches_each_once.ensures c.first_is_a_start.ensures past c.requires.recipe room
 
 pub make_but-requires-clause-graph : goal.make_but-requires-clause-graph
@@ -36,7 +37,7 @@ pub make_but-requires-clause-nodes : goal.make_but-requires-clause-nodes
 make_but-requires-clause-nodes c = λ n has.
     let x = c.args.subject.now in
     let turns = c.deref.result.now in
-    let found = subst (λ (k : Graph). IsScheduleWithout k c.args.o c.args.t (reverse c.in-Some.turns.items)) c.graph-graph.ensures.value (some_of _ _ c.in-Some.is c.in_ok-turns.ensures) in
+    let found = subst (λ (k : Graph). IsScheduleWithout k c.args.o c.args.t (reverse c.in-Some.turns.items)) c.graph-graph.ensures.value (MatchOption-at_some _ _ c.in-Some.is c.in_ok-turns.ensures) in
     let past = subst (λ (l : List ℕ). IsScheduleWithout x.graph c.args.o c.args.t (reverse l)) (sym c.deref.ensures.value) found in
     subst (λ (k : Graph). n < length k.nodes) (sym c.graph-graph.ensures.value) (turns_are_nodes x.graph c.args.o c.args.t turns c.graph-graph.ensures.graph past n has)
 
@@ -45,7 +46,7 @@ make_but-requires-clause-legal c =
     let x = c.args.subject.now in
     let room = subst (λ (n : ℕ). n + (2 * writings x.graph (footprints x.setting) (serial_order x.graph) + 1) ≤ last_stamp) c.clock.ensures (c.if-not-has_stamps.ensures.0 refl) in
     let turns = c.deref.result.now in
-    let found = subst (λ (k : Graph). IsScheduleWithout k c.args.o c.args.t (reverse c.in-Some.turns.items)) c.graph-graph.ensures.value (some_of _ _ c.in-Some.is c.in_ok-turns.ensures) in
+    let found = subst (λ (k : Graph). IsScheduleWithout k c.args.o c.args.t (reverse c.in-Some.turns.items)) c.graph-graph.ensures.value (MatchOption-at_some _ _ c.in-Some.is c.in_ok-turns.ensures) in
     let past = subst (λ (l : List ℕ). IsScheduleWithout x.graph c.args.o c.args.t (reverse l)) (sym c.deref.ensures.value) found in
     may_make x.graph x.setting c.args.history.now c.requires.first c.requires.steps c.args.o c.args.t turns
     c.graph-graph.ensures.graph c.schedules_run.ensures c.serial_reaches_each_once.ensures
@@ -63,7 +64,7 @@ begin-requires-clause-legal c =
     let x = c.args.subject.now in
     let room = subst (λ (n : ℕ). n + (2 * writings x.graph (footprints x.setting) (serial_order x.graph) + 1) ≤ last_stamp) c.clock.ensures (c.if-not-has_stamps.ensures.0 refl) in
     let turns = c.deref.result.now in
-    let found = subst (λ (k : Graph). IsScheduleWithout k c.args.o c.args.t (reverse c.in-Some.turns.items)) c.graph-graph.ensures.value (some_of _ _ c.in-Some.is c.in_ok-turns.ensures) in
+    let found = subst (λ (k : Graph). IsScheduleWithout k c.args.o c.args.t (reverse c.in-Some.turns.items)) c.graph-graph.ensures.value (MatchOption-at_some _ _ c.in-Some.is c.in_ok-turns.ensures) in
     let past = subst (λ (l : List ℕ). IsScheduleWithout x.graph c.args.o c.args.t (reverse l)) (sym c.deref.ensures.value) found in
     may_begin x.graph x.setting c.args.history.now c.requires.first c.requires.steps c.args.o c.args.t turns
     c.graph-graph.ensures.graph c.schedules_run.ensures c.serial_reaches_each_once.ensures
@@ -75,7 +76,7 @@ returns c =
     let x = c.args.subject.now in
     let room = subst (λ (n : ℕ). n + (2 * writings x.graph (footprints x.setting) (serial_order x.graph) + 1) ≤ last_stamp) c.clock.ensures (c.if-not-has_stamps.ensures.0 refl) in
     let turns = c.deref.result.now in
-    let found = subst (λ (k : Graph). IsScheduleWithout k c.args.o c.args.t (reverse c.in-Some.turns.items)) c.graph-graph.ensures.value (some_of _ _ c.in-Some.is c.in_ok-turns.ensures) in
+    let found = subst (λ (k : Graph). IsScheduleWithout k c.args.o c.args.t (reverse c.in-Some.turns.items)) c.graph-graph.ensures.value (MatchOption-at_some _ _ c.in-Some.is c.in_ok-turns.ensures) in
     let past = subst (λ (l : List ℕ). IsScheduleWithout x.graph c.args.o c.args.t (reverse l)) (sym c.deref.ensures.value) found in
     ends_in_race x.graph x.setting c.args.history.now c.requires.first c.requires.steps c.args.o c.args.t
     turns c.graph-graph.ensures.graph c.schedules_run.ensures c.serial_reaches_each_once.ensures

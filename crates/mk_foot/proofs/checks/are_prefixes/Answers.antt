@@ -2,10 +2,10 @@ use Rattle.std.proofs.Common.{◌∙◌, sym, rules, tests, string_bytes, String
 use Rattle.mk_foot.specs.Names.{is_prefix}
 use Rattle.std.proofs.lemmas.Iterator.{YieldsList-from_slice}
 use Rattle.std.proofs.lemmas.Iterator.Search.{all_from_yields_List}
-use Rattle.mk_foot.proofs.ListTests.{list_all_map}
+use Rattle.mk_lemmas.proofs.Lists.{list_all-map}
 use Rattle.mk_foot.proofs.checks.are_prefixes.Goals as goal
 
 pub returns : goal.returns
 returns c =
     all_from_yields_List (λ (text : String Global). is_prefix (string_bytes text)) _ _ _ c.all.ensures.ran (YieldsList-from_slice c.args.texts.now cc) (λ x b q k. search (rules, tests))
-    ∙ sym (list_all_map (is_prefix) (λ (text : String Global). string_bytes text) c.args.texts.now)
+    ∙ sym (list_all-map (is_prefix) (λ (text : String Global). string_bytes text) c.args.texts.now)

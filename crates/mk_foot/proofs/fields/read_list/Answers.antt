@@ -1,8 +1,8 @@
 use Rattle.std.proofs.Common.{◌≡◌, ◌∷◌, ◌++◌, [], None, Some, refl, arith}
 use Rattle.json.specs.Json.{after_end_array}
+use Rattle.mk_json.proofs.Turns.{refused_items}
 use Rattle.mk_json.specs.Tokens.{next_value}
 use Rattle.mk_foot.specs.Steps.{each}
-use Rattle.mk_foot.proofs.Read.{refused_items}
 use Rattle.mk_foot.proofs.fields.read_list.Goals as goal
 
 pub items-init : goal.items-init

@@ -1,7 +1,7 @@
 use Rattle.std.proofs.Common.{◌≡◌, None, Some, arith}
 use Rattle.json.specs.Json.{read_key}
 use Rattle.serde_json.specs.Data.{no_members, put}
-use Rattle.mk_foot.proofs.Read.{refused_members}
+use Rattle.mk_json.proofs.Turns.{refused_members}
 use Rattle.mk_foot.proofs.lists.read_members.Goals as goal
 
 pub members-init : goal.members-init

@@ -1,5 +1,5 @@
 use Rattle.std.proofs.Common.{◌≡◌, map, take, string_bytes}
-use Rattle.mk_foot.proofs.Sets.{texts}
+use Rattle.mk_lemmas.proofs.Texts.{texts}
 use Rattle.mk_foot.proofs.names.copied.Given as goal
 
 -- the texts so far

@@ -1,10 +1,11 @@
+use Rattle.mk_json.proofs.Arrays.{next_value-array}
 use Rattle.mk_json.specs.Kinds.{array_of}
 use Rattle.mk_foot.specs.declared.key.Key.TheVariants as keys
-use Rattle.mk_foot.proofs.Read.{array_read, listed}
+use Rattle.mk_foot.proofs.Read.{listed}
 use Rattle.mk_foot.proofs.records.read_entries.Goals as goal
 
 pub returns : goal.returns
 returns c =
     let found = c.in_ok-entries.ensures in
-    let value = array_read c.args.depth c.args.reader.now c.enter_array.new.reader c.read_list.new.reader c.in_ok-enter_array.field-0 found.0 c.if-not-branch.false c.in_ok-enter_array.ensures found.1 in
+    let value = next_value-array c.args.depth c.args.reader.now c.enter_array.new.reader c.read_list.new.reader c.in_ok-enter_array.field-0 found.0 c.if-not-branch.false c.in_ok-enter_array.ensures found.1 in
     (array_of found.0, value, (found.0, listed keys.Records found.0, found.2))

@@ -1,7 +1,7 @@
 use Rattle.std.proofs.Common.{◌≡◌, None, Some, arith}
 use Rattle.json.specs.Json.{read_key}
 use Rattle.serde_json.specs.Data.{put}
-use Rattle.mk_foot.proofs.Read.{refused_members}
+use Rattle.mk_json.proofs.Turns.{refused_members}
 use Rattle.mk_foot.proofs.records.read_members.Goals as goal
 
 pub returns-in_err-key : goal.returns-in_err-key

@@ -1,9 +1,10 @@
 use Rattle.std.proofs.Common.{◌<◌, ◌≤◌, List, length, map, arith, ap, ◌∙◌}
 use Rattle.std.proofs.lemmas.List.{take_all}
+use Rattle.mk_lines.proofs.Places.{none_in}
 use Rattle.mk_lines.specs.Places.{place_in}
 use Rattle.mk_foot.specs.Book.{Record}
 use Rattle.mk_foot.specs.Names.{place_from}
-use Rattle.mk_foot.proofs.TargetPlaces.{next_place, none_in}
+use Rattle.mk_foot.proofs.TargetPlaces.{next_place}
 use Rattle.mk_foot.proofs.setting.targets_of.Goals as goal
 
 pub loop-i-init : goal.loop-i-init

@@ -2,7 +2,7 @@ use Rattle.std.proofs.Common.{◌≡◌, None, Some, arith}
 use Rattle.json.specs.Json.{read_key}
 use Rattle.json.proofs.Grammar.{read_key-shorter}
 use Rattle.serde_json.specs.Data.{put}
-use Rattle.mk_foot.proofs.Read.{refused_members}
+use Rattle.mk_json.proofs.Turns.{refused_members}
 use Rattle.mk_foot.proofs.shapes.read_members.Goals as goal
 
 pub returns-in_err-key : goal.returns-in_err-key

@@ -2,8 +2,7 @@ use Rattle.std.proofs.Common.{ℕ, drop}
 use Rattle.std.specs.Prelude.{◌↔◌}
 use Rattle.mk_graph.specs.Membership.{Has}
 use Rattle.mk_graph.specs.Without.{joined}
-use Rattle.mk_graph.specs.BitRows.{RowLacks}
-use Rattle.mk_graph.proofs.Loops.{lists}
+use Rattle.mk_graph.specs.BitRows.{RowLacks, lists}
 use Rattle.mk_graph.proofs.bit_rows.groups_have.Given as goal
 
 abbrev pub invariant-loop-group : goal.invariant-loop-group

@@ -4,8 +4,7 @@ use Rattle.std.specs.Prelude.{◌↔◌}
 use Rattle.mk_graph.specs.Membership.{Has}
 use Rattle.mk_graph.specs.Graph.{node}
 use Rattle.mk_graph.specs.Without.{joined}
-use Rattle.mk_graph.specs.BitRows.{RowLacks, IsOpenTo}
-use Rattle.mk_graph.proofs.Loops.{lists}
+use Rattle.mk_graph.specs.BitRows.{RowLacks, IsOpenTo, lists}
 use Rattle.mk_graph.proofs.Rounds.{at_place, groups_are}
 use Rattle.mk_graph.proofs.Settling.{IsPassedFrom, has_row, gates_more, all_gates}
 use Rattle.mk_graph.proofs.bit_rows.pass_backwards.Goals as goal

@@ -1,7 +1,6 @@
 use Rattle.std.proofs.Common.{ℕ, drop, ◌⊎◌}
 use Rattle.std.specs.Prelude.{◌↔◌}
-use Rattle.mk_graph.specs.BitRows.{Lacks, RowLacks, IsOpenTo}
-use Rattle.mk_graph.proofs.Loops.{lists}
+use Rattle.mk_graph.specs.BitRows.{Lacks, RowLacks, IsOpenTo, lists}
 use Rattle.mk_graph.proofs.bit_rows.pass_gates.Given as goal
 
 abbrev pub invariant-loop-place : goal.invariant-loop-place

@@ -2,8 +2,7 @@ use Rattle.std.proofs.Common.{ℕ, drop}
 use Rattle.std.specs.Prelude.{◌↔◌}
 use Rattle.mk_graph.specs.Membership.{Has}
 use Rattle.mk_graph.specs.Without.{joined}
-use Rattle.mk_graph.specs.BitRows.{Lacks, RowLacks}
-use Rattle.mk_graph.proofs.Loops.{lists}
+use Rattle.mk_graph.specs.BitRows.{Lacks, RowLacks, lists}
 use Rattle.mk_graph.proofs.bit_rows.unite_groups.Given as goal
 
 abbrev pub invariant-loop-group : goal.invariant-loop-group

@@ -1,5 +1,5 @@
 use Rattle.std.proofs.Common.{arith}
-use Rattle.mk_graph.proofs.Members.{Has-get_or}
+use Rattle.mk_lemmas.proofs.Members.{Has-get_or}
 use Rattle.mk_graph.proofs.RowBits.{met_more}
 use Rattle.mk_graph.proofs.rows.meet_rows.Goals as goal
 

@@ -1,4 +1,4 @@
-use Rattle.mk_graph.proofs.Members.{Has-get_or}
+use Rattle.mk_lemmas.proofs.Members.{Has-get_or}
 use Rattle.mk_graph.proofs.rows.some_has.Goals as goal
 
 pub has-requires : goal.has-requires

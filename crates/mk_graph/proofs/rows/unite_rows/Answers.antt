@@ -1,7 +1,7 @@
 use Rattle.std.proofs.Common.{ℕ, List, get_or, subst, arith}
 use Rattle.std.specs.Prelude.{◌↔◌}
+use Rattle.mk_lemmas.proofs.Members.{Has-get_or}
 use Rattle.mk_graph.specs.BitRows.{Lacks, RowLacks}
-use Rattle.mk_graph.proofs.Members.{Has-get_or}
 use Rattle.mk_graph.proofs.RowBits.{lacks_united, united_more}
 use Rattle.mk_graph.proofs.rows.unite_rows.Goals as goal
 

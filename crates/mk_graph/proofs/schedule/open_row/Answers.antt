@@ -1,8 +1,9 @@
 -- What is left of the groups gives what is left of the row.
 use Rattle.std.proofs.Common.{◌≡◌, ◌++◌, ◌∙◌, ap, refl, drop, List, ℕ, ◌+◌, sym}
 use Rattle.std.proofs.lemmas.Bool.{false≢true}
+use Rattle.mk_graph.specs.BitRows.{lists}
 use Rattle.mk_graph.specs.Without.{opened}
-use Rattle.mk_graph.proofs.Loops.{lists, lists_more}
+use Rattle.mk_graph.proofs.Loops.{lists_more}
 use Rattle.mk_graph.proofs.TurnLoops.{goes_on, ends_with, all_joined}
 use Rattle.mk_graph.proofs.schedule.open_row.Goals as goal
 use Rattle.mk_graph.proofs.schedule.open_row.Goals.{else-loop-group-test, then-loop-group-test+in_ok-extend_from_slice+then-not-has_all}

@@ -1,6 +1,6 @@
 use Rattle.std.proofs.Common.{◌≡◌, ◌++◌, drop}
+use Rattle.mk_graph.specs.BitRows.{lists}
 use Rattle.mk_graph.specs.Without.{opened}
-use Rattle.mk_graph.proofs.Loops.{lists}
 use Rattle.mk_graph.proofs.schedule.open_row.Given as goal
 
 abbrev pub invariant-loop-group : goal.invariant-loop-group

@@ -1,9 +1,9 @@
 -- What stands in open groups are nodes.
 use Rattle.std.proofs.Common.{◌≡◌, ℕ, List, map, ap, ◌∙◌}
 use Rattle.std.proofs.lemmas.List.{take_all}
+use Rattle.mk_graph.specs.BitRows.{lists}
 use Rattle.mk_graph.specs.declared.node.Node.{Node}
 use Rattle.mk_graph.specs.Without.{opened}
-use Rattle.mk_graph.proofs.Loops.{lists}
 use Rattle.mk_graph.proofs.TurnLoops.{rows_hold_numbers}
 use Rattle.mk_graph.proofs.schedule.open_rows.Goals as goal
 

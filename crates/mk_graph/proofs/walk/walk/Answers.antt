@@ -1,10 +1,10 @@
 -- The walks from the goals are one walk.
 use Rattle.std.proofs.Common.{◌≡◌, ◌+◌, List, ◌∷◌, [], length, get_or, reverse, IfNone, subst, sym, arith}
 use Rattle.std.proofs.lemmas.List.{with_items_is}
+use Rattle.mk_lemmas.proofs.Members.{Has-get_or}
 use Rattle.mk_graph.specs.declared.walk.Mark.{Mark}
 use Rattle.mk_graph.specs.Walk.{Walks}
 use Rattle.mk_graph.specs.Progress.{row, AreMarks, ending}
-use Rattle.mk_graph.proofs.Members.{Has-get_or}
 use Rattle.mk_graph.proofs.Goals.{HasWalked, one_more, path_closed, all_walked}
 use Rattle.mk_graph.proofs.walk.walk.Goals as goal
 

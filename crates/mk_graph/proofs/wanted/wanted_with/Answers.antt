@@ -2,11 +2,11 @@
 use Rattle.std.proofs.Common.{◌≡◌, ℕ, ◌+◌, ◌-◌, ◌<◌, ◌⊎◌, List, length, get_or, inl, ⊎_elim, subst, refl, arith}
 use Rattle.std.specs.Prelude.{◌↔◌}
 use Rattle.std.proofs.lemmas.Bool.{false≢true}
+use Rattle.mk_graph.specs.BitRows.{lists}
 use Rattle.mk_graph.specs.Membership.{Has}
 use Rattle.mk_graph.specs.Graph.{node}
 use Rattle.mk_graph.specs.Schedules.{InOpenGroup}
 use Rattle.mk_graph.specs.Without.{joined}
-use Rattle.mk_graph.proofs.Loops.{lists}
 use Rattle.mk_graph.proofs.Rounds.{AreWantedFrom, at_place, goals_wanted, opens_this, passes_this, all_wanted, groups_are}
 use Rattle.mk_graph.proofs.wanted.wanted_with.Goals as goal
 

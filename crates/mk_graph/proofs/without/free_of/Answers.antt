@@ -1,10 +1,10 @@
 -- The nodes are met in the serial order, and each is kept where it is free.
 use Rattle.std.proofs.Common.{◌≡◌, ℕ, ◌<◌, List, length, get_or, subst, sym, refl, arith}
 use Rattle.std.proofs.lemmas.Bool.{false≢true}
+use Rattle.mk_graph.specs.BitRows.{lists}
 use Rattle.mk_graph.specs.Schedules.{HasAll}
 use Rattle.mk_graph.specs.Graph.{node}
 use Rattle.mk_graph.specs.Without.{joined}
-use Rattle.mk_graph.proofs.Loops.{lists}
 use Rattle.mk_graph.proofs.Rounds.{at_place, free_joins, free_stays, all_free, groups_are}
 use Rattle.mk_graph.proofs.without.free_of.Goals as goal
 use Rattle.mk_graph.proofs.without.free_of.Goals.{then-has_groups, else-has_groups}

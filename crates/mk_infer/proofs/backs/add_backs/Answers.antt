@@ -2,9 +2,10 @@ use Rattle.std.proofs.Common.{◌≡◌, ◌∙◌, ◌<◌, ◌++◌, ◌||◌,
 use Rattle.std.specs.String.{string_bytes}
 use Rattle.std.proofs.lemmas.Bool.{eqb-true}
 use Rattle.std.proofs.lemmas.List.{nil_from_length}
+use mathlib.Core.Bool.{or-false}
 use Rattle.mk_lines.specs.Names.{has_name}
 use Rattle.mk_infer.specs.Table.{texts_at}
-use Rattle.mk_infer.proofs.Sources.{back_added, not_behind, one_back, or_false}
+use Rattle.mk_infer.proofs.Sources.{back_added, not_behind, one_back}
 use Rattle.mk_infer.proofs.backs.add_backs.Goals as goal
 use Rattle.mk_infer.proofs.backs.add_backs.Goals.{then-not-is_empty+in_ok-add_back, else-not-is_empty}
 
@@ -25,6 +26,6 @@ loop-name-preserved c = λ front back some is.
           ap (λ t. has_name (texts_at t front) back) w.backs-is ∙ back_added string_bytes names i c.name-item.result name whole had before (has_name (texts_at w.add_back.new.backs front) back) named one so_far lt
       | else-not-is_empty w ↦
           let none : length c.cut.result.1.now ≡ 0 = eqb-true (length c.cut.result.1.now) 0 (sym c.is_empty.ensures ∙ w.if-not-is_empty.false) in
-          let same : before ≡ (before || _) = sym (ap (λ b. before || b) (not_behind name c.cut.result.0.now c.cut.result.1.now front back c.cut.ensures.parts (nil_from_length c.cut.result.1.now none) some is) ∙ or_false before) in
+          let same : before ≡ (before || _) = sym (ap (λ b. before || b) (not_behind name c.cut.result.0.now c.cut.result.1.now front back c.cut.ensures.parts (nil_from_length c.cut.result.1.now none) some is) ∙ or-false before) in
           ap (λ t. has_name (texts_at t front) back) w.backs-is ∙ back_added string_bytes names i c.name-item.result name whole had before before named same so_far lt
     ]

@@ -1,6 +1,6 @@
 use Rattle.std.proofs.Common.{take}
+use Rattle.mk_lemmas.proofs.Texts.{texts}
 use Rattle.mk_infer.specs.Table.{HasBacks}
-use Rattle.mk_infer.proofs.NameLists.{texts}
 use Rattle.mk_infer.proofs.backs.backs_among.Given as goal
 
 -- the names so far

@@ -1,9 +1,9 @@
 use Rattle.std.proofs.Common.{◌≡◌, ◌∙◌, Bool, cond, ℕ, List, Option, [], None, sym, subst, ap}
 use Rattle.std.specs.Prelude.{find, IfOk}
 use Rattle.std.specs.Option.{option_map}
+use Rattle.mk_lemmas.proofs.Texts.{texts}
 use Rattle.mk_infer.specs.Inference.{ending, fits, stem}
 use Rattle.mk_infer.specs.Choosing.{chosen_by, fits_by}
-use Rattle.mk_infer.proofs.NameLists.{texts}
 use Rattle.mk_infer.proofs.FirstFound.{first_fits}
 use Rattle.mk_infer.proofs.inference.inferred.Goals as goal
 

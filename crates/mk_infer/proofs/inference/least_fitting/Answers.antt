@@ -1,8 +1,8 @@
 use Rattle.std.proofs.Common.{◌≡◌, ◌∙◌, ◌++◌, ◌∷◌, ◌+◌, ◌<◌, [], List, ℕ, take, length, get_or, sym, subst, ap, arith}
 use Rattle.std.specs.Borrow.{Bor}
 use Rattle.std.proofs.lemmas.List.{take_more, map_push}
+use Rattle.mk_lemmas.proofs.Texts.{texts}
 use Rattle.mk_infer.specs.Choosing.{IsLeast, chosen_by, fits_by}
-use Rattle.mk_infer.proofs.NameLists.{texts}
 use Rattle.mk_infer.proofs.inference.least_fitting.Goals as goal
 
 pub loop-suffix-init : goal.loop-suffix-init

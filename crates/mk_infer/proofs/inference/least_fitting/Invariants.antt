@@ -1,6 +1,6 @@
 use Rattle.std.proofs.Common.{take}
+use Rattle.mk_lemmas.proofs.Texts.{texts}
 use Rattle.mk_infer.specs.Choosing.{IsLeast, chosen_by, fits_by}
-use Rattle.mk_infer.proofs.NameLists.{texts}
 use Rattle.mk_infer.proofs.inference.least_fitting.Given as goal
 
 -- the least of the suffixes so far

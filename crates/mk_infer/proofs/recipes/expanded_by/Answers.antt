@@ -2,6 +2,7 @@ use Rattle.std.proofs.Common.{◌≡◌, ◌∙◌, ◌++◌, false, List, ℕ, 
 use Rattle.std.specs.Prelude.{option_to_list, slice_get}
 use Rattle.std.specs.Borrow.{Bor}
 use Rattle.std.specs.Option.{option_map}
+use Rattle.mk_lemmas.proofs.Texts.{texts}
 use Rattle.mk_read.specs.Reading.{Makefile}
 use Rattle.mk_infer.specs.declared.fault.InferFault.{InferFault}
 use Rattle.mk_infer.specs.Commands.{Commands}
@@ -10,7 +11,6 @@ use Rattle.mk_infer.specs.Selection.{needs}
 use Rattle.mk_infer.specs.Steps.{Gives}
 use Rattle.mk_infer.specs.Choosing.{ResolvedRule}
 use Rattle.mk_infer.specs.Table.{prerequisites_in}
-use Rattle.mk_infer.proofs.NameLists.{texts}
 use Rattle.mk_infer.proofs.CommandRecipes.{commands_are, first_text, no_commands_are}
 use Rattle.mk_infer.proofs.recipes.expanded_by.Goals as goal
 

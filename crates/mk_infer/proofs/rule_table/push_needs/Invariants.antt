@@ -1,8 +1,8 @@
 use Rattle.std.proofs.Common.{◌≡◌, ◌++◌, map, take, not}
 use Rattle.std.specs.Prelude.{filter}
 use Rattle.std.specs.String.{string_bytes}
+use Rattle.mk_lemmas.proofs.Texts.{texts}
 use Rattle.mk_read.specs.Needs.{is_wait}
-use Rattle.mk_infer.proofs.NameLists.{texts}
 use Rattle.mk_infer.proofs.rule_table.push_needs.Given as goal
 
 -- those of the words so far

@@ -1,8 +1,8 @@
 use Rattle.std.proofs.Common.{◌≡◌, ◌++◌, drop, not}
 use Rattle.std.specs.Prelude.{filter}
+use Rattle.mk_lemmas.proofs.Texts.{texts}
 use Rattle.mk_read.specs.Needs.{is_wait}
 use Rattle.mk_infer.specs.Table.{lines_at, words_in}
-use Rattle.mk_infer.proofs.NameLists.{texts}
 use Rattle.mk_infer.proofs.rule_table.push_needs_at.Given as goal
 
 -- those so far, and those of the rule lines that are left

@@ -1,6 +1,6 @@
 use Rattle.std.proofs.Common.{◌≡◌, ◌++◌, map, take}
 use Rattle.std.specs.String.{string_bytes}
-use Rattle.mk_infer.proofs.NameLists.{texts}
+use Rattle.mk_lemmas.proofs.Texts.{texts}
 use Rattle.mk_infer.proofs.rule_table.push_words.Given as goal
 
 -- the words so far

@@ -1,6 +1,6 @@
 use Rattle.std.proofs.Common.{◌≡◌, ◌++◌, ℕ, List, take}
+use Rattle.mk_lemmas.proofs.Texts.{texts}
 use Rattle.mk_infer.specs.Table.{given, texts_at}
-use Rattle.mk_infer.proofs.NameLists.{texts}
 use Rattle.mk_infer.proofs.source_suffixes.add_sources.Given as goal
 
 -- the endings so far have the suffix

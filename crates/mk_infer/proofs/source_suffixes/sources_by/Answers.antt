@@ -3,8 +3,8 @@ use Rattle.std.specs.Borrow.{Bor}
 use Rattle.std.specs.declared.alloc.Global.{Global}
 use Rattle.std.specs.Option.{option_map_or}
 use Rattle.std.specs.String.{string_bytes}
+use Rattle.mk_lemmas.proofs.Texts.{texts}
 use Rattle.mk_infer.specs.Table.{given, texts_at}
-use Rattle.mk_infer.proofs.NameLists.{texts}
 use Rattle.mk_infer.proofs.Sources.{sources_more}
 use Rattle.mk_infer.proofs.source_suffixes.sources_by.Goals as goal
 use Rattle.mk_infer.proofs.source_suffixes.sources_by.Goals.{in-Some+in_ok-add_sources, in_default}

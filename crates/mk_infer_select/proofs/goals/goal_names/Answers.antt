@@ -1,8 +1,8 @@
 use Rattle.std.proofs.Common.{◌≡◌, List, ℕ, Ok, sym, ap, subst, ◌∙◌}
 use Rattle.std.specs.Option.{option_copied}
+use Rattle.mk_lemmas.proofs.Texts.{texts}
 use Rattle.mk_infer.specs.Goals.{given_or_first}
 use Rattle.mk_infer_select.proofs.GoalsDiffer.{are_goals}
-use Rattle.mk_infer_select.proofs.NameLists.{texts}
 use Rattle.mk_infer_select.proofs.goals.goal_names.Goals as goal
 
 pub invariant_of-result : goal.invariant_of-result

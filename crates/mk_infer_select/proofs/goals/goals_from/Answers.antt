@@ -1,9 +1,9 @@
 use Rattle.std.proofs.Common.{◌<◌, ◌≤◌, ◌+◌, length, ap, sym, subst, ◌∙◌, List, ℕ, arith}
 use Rattle.std.proofs.lemmas.List.{map_push}
 use Rattle.std.proofs.lemmas.Result.{err_from_is_err_and}
+use Rattle.mk_lemmas.proofs.Texts.{texts}
 use Rattle.mk_infer.specs.Steps.{Fails}
 use Rattle.mk_infer.specs.Goals.{goal_of}
-use Rattle.mk_infer_select.proofs.NameLists.{texts}
 use Rattle.mk_infer_select.proofs.GoalLists.{goals_more, goals_fail, goals_end}
 use Rattle.mk_infer_select.proofs.goals.goals_from.Goals as goal
 

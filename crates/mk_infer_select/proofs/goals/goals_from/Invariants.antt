@@ -1,6 +1,6 @@
 use Rattle.std.proofs.Common.{◌≡◌, ◌+◌, drop}
+use Rattle.mk_lemmas.proofs.Texts.{texts}
 use Rattle.mk_infer.specs.Goals.{goals_from}
-use Rattle.mk_infer_select.proofs.NameLists.{texts}
 use Rattle.mk_infer_select.proofs.WithFront.{with_front}
 use Rattle.mk_infer_select.proofs.goals.goals_from.Given as goal
 

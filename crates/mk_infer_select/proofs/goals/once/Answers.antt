@@ -1,5 +1,5 @@
 use Rattle.std.proofs.Common.{◌<◌, length, arith}
-use Rattle.mk_infer_select.proofs.NameLists.{texts}
+use Rattle.mk_lemmas.proofs.Texts.{texts}
 use Rattle.mk_infer_select.proofs.Once.{next_into, none_there}
 use Rattle.mk_infer_select.proofs.goals.once.Goals as goal
 

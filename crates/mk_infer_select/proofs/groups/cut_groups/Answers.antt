@@ -1,9 +1,9 @@
 use Rattle.std.proofs.Common.{◌≡◌, ◌∙◌, ◌<◌, ◌≤◌, ◌++◌, ◌∷◌, [], List, ℕ, sym, ap, length, map, arith}
 use Rattle.std.specs.Prelude.{filter, Vec}
 use Rattle.std.specs.declared.alloc.Global.{Global}
+use Rattle.mk_lemmas.proofs.Texts.{texts}
 use Rattle.mk_infer_select.specs.Walked.{has_numbers}
 use Rattle.mk_infer_select.proofs.GroupLists.{at_first, left_closes, left_grows, left_ends}
-use Rattle.mk_infer_select.proofs.NameLists.{texts}
 use Rattle.mk_infer_select.proofs.groups.cut_groups.Goals as goal
 use Rattle.mk_infer_select.proofs.groups.cut_groups.Goals.{then-eq+in_ok-push_group, else-eq+in_ok-push}
 

@@ -1,8 +1,8 @@
 use Rattle.std.proofs.Common.{◌≡◌, false, map, drop}
+use Rattle.mk_lemmas.proofs.Texts.{texts}
 use Rattle.mk_read.specs.Needs.{groups}
 use Rattle.mk_infer.specs.Selection.{in_node_numbers}
 use Rattle.mk_infer_select.proofs.GroupLists.{with_left}
-use Rattle.mk_infer_select.proofs.NameLists.{texts}
 use Rattle.mk_infer_select.proofs.groups.cut_groups.Given as goal
 
 -- the groups that are closed, and those of the words that are left

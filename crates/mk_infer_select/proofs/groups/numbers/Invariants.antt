@@ -1,6 +1,6 @@
 use Rattle.std.proofs.Common.{◌≡◌, map, take}
+use Rattle.mk_lemmas.proofs.Texts.{texts}
 use Rattle.mk_lines.specs.Names.{number_of}
-use Rattle.mk_infer_select.proofs.NameLists.{texts}
 use Rattle.mk_infer_select.proofs.groups.numbers.Given as goal
 
 -- the numbers of the names so far

@@ -1,11 +1,11 @@
 use Rattle.std.proofs.Common.{◌≡◌, ◌∙◌, ◌++◌, ◌∷◌, [], List, ℕ, Bool, sym, ap, map, subst}
 use Rattle.std.specs.Prelude.{IfOk}
+use Rattle.mk_lemmas.proofs.Texts.{texts}
 use Rattle.mk_read.specs.Needs.{groups}
 use Rattle.mk_lines.specs.Names.{number_of}
 use Rattle.mk_infer.specs.Selection.{in_node_numbers}
 use Rattle.mk_infer.specs.Table.{prerequisites_in, words_in}
 use Rattle.mk_infer_select.proofs.GroupLists.{single_numbered}
-use Rattle.mk_infer_select.proofs.NameLists.{texts}
 use Rattle.mk_infer_select.proofs.groups.rule_groups.Goals as goal
 
 pub returns-then-apart : goal.returns-then-apart

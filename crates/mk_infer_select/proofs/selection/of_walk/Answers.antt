@@ -2,12 +2,12 @@ use Rattle.std.proofs.Common.{◌≡◌, ◌≤◌, List, ℕ, Ok, Err, Some, le
 use Rattle.std.specs.Option.{option_map}
 use Rattle.std.proofs.lemmas.List.{length-map}
 use Rattle.std.proofs.lemmas.Result.{err_from_is_err_and}
+use Rattle.mk_lemmas.proofs.Texts.{texts}
 use Rattle.mk_graph.specs.declared.node.Node.{Node}
 use Rattle.mk_graph.specs.Build.{Builds}
 use Rattle.mk_graph.specs.Graph.{Graph, IsSound}
 use Rattle.mk_lines.specs.Names.{number_of}
 use Rattle.mk_infer_select.specs.Walked.{Walked, node_with}
-use Rattle.mk_infer_select.proofs.NameLists.{texts}
 use Rattle.mk_infer_select.proofs.Selecting.{built_err, built_ok, first_of, handed, one_lacks, sound_handed, too_many_met}
 use Rattle.mk_infer_select.proofs.selection.of_walk.Goals as goal
 

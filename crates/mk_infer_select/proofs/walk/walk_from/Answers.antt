@@ -2,13 +2,13 @@ use Rattle.std.proofs.Common.{◌≡◌, ◌∙◌, ◌++◌, ◌∷◌, [], ◌
 use Rattle.std.specs.Prelude.{option_to_list}
 use Rattle.std.proofs.lemmas.Bool.{not-false, not-true}
 use Rattle.std.proofs.lemmas.List.{length-map, map_push, nil_from_length}
+use Rattle.mk_lemmas.proofs.Texts.{texts}
 use Rattle.mk_read.specs.Names.{has_name}
 use Rattle.mk_infer.specs.Selection.{needs}
 use Rattle.mk_infer.specs.Choosing.{ResolvedRule}
 use Rattle.mk_infer_select.specs.Walked.{VisitedName, met_of}
 use Rattle.mk_infer.specs.Table.{prerequisites_in}
 use Rattle.mk_infer_select.proofs.Keeping.{walked_all, walked_enough}
-use Rattle.mk_infer_select.proofs.NameLists.{texts}
 use Rattle.mk_infer_select.proofs.Walking.{walk_start, walk_known, walk_new, less_new}
 use Rattle.mk_infer_select.proofs.walk.walk_from.Goals as goal
 

@@ -1,7 +1,7 @@
 use Rattle.std.proofs.Common.{◌≡◌, ◌+◌, ◌≤◌, length, map}
+use Rattle.mk_lemmas.proofs.Texts.{texts}
 use Rattle.mk_infer.specs.Selection.{needs}
 use Rattle.mk_infer_select.specs.Walked.{met_of}
-use Rattle.mk_infer_select.proofs.NameLists.{texts}
 use Rattle.mk_infer.specs.Ends.{needing, weight}
 use Rattle.mk_infer_select.proofs.Walking.{Continues}
 use Rattle.mk_infer_select.proofs.walk.walk_from.Given as goal

@@ -1,5 +1,6 @@
 use Rattle.std.proofs.Common.{◌≤◌, length, arith}
-use Rattle.mk_lines.proofs.Tidy.{behind_first, tidy_ends}
+use Rattle.mk_lines.proofs.Hashes.{behind_first}
+use Rattle.mk_lines.proofs.Tidy.{tidy_ends}
 use Rattle.mk_lines.proofs.paths.passes_fast_test.Goals as goal
 
 pub returns-clause-visible : goal.returns-clause-visible

@@ -1,5 +1,6 @@
 use Rattle.std.proofs.Common.{◌<◌, ◌≤◌, ◌∙◌, ap, length, arith}
-use Rattle.mk_macros.proofs.Distinct.{texts, and_new, next_into, none_there, all_there}
+use Rattle.mk_lemmas.proofs.Texts.{texts}
+use Rattle.mk_macros.proofs.Distinct.{and_new, next_into, none_there, all_there}
 use Rattle.mk_macros.specs.Locals.{distinct}
 use Rattle.mk_macros.proofs.locals.distinct.Goals as goal
 

@@ -6,10 +6,10 @@ use Rattle.std.specs.List.{join_with_byte}
 use Rattle.std.specs.declared.alloc.Global.{Global}
 use Rattle.std.specs.declared.alloc.AllocError.{AllocError}
 use Rattle.std.proofs.lemmas.Bool.{ne_eqb}
+use Rattle.mk_lemmas.proofs.Texts.{texts}
 use Rattle.mk_macros.specs.declared.locals.Locals as code
 use Rattle.mk_macros.specs.declared.locals.Locals.TheVariants as variant
 use Rattle.mk_macros.specs.Locals.{Part, Recipe, named, named_in, distinct, part_of, internal_value, recipe_of}
-use Rattle.mk_macros.proofs.Distinct.{texts}
 use Rattle.mk_macros.proofs.locals.internal_value.Goals as goal
 
 -- the command of these parts

@@ -1,10 +1,10 @@
 use Rattle.std.proofs.Common.{◌≡◌, ◌-◌, cond, length, Ok, None, Some, sym, ap, subst, ◌∙◌, inr, take, drop}
 use Rattle.std.proofs.lemmas.List.{take_rest}
+use Rattle.mk_lines.proofs.Rules.{first_decisive}
 use Rattle.mk_lines.specs.References.{first_outside}
 use Rattle.mk_lines.specs.RuleLines.{is_decisive}
 use Rattle.mk_read.specs.Kinds.{Comment, include_line, by_word, by_byte, by_parts, of_trimmed}
 use Rattle.mk_read_parse.specs.KindViews.{GivesKind, kind_view}
-use Rattle.mk_read_parse.proofs.FirstBytes.{first_decisive}
 use Rattle.mk_read_parse.proofs.kinds.of_trimmed.Goals as goal
 
 pub returns-in-Some : goal.returns-in-Some

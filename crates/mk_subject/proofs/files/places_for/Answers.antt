@@ -3,8 +3,9 @@ use Rattle.std.proofs.Common.{◌≡◌, ◌∙◌, ◌+◌, ◌<◌, ◌≤◌,
 use Rattle.std.specs.Borrow.{Bor}
 use Rattle.std.specs.String.{string_bytes}
 use Rattle.std.proofs.lemmas.List.{take_more, take_all, map_push}
+use Rattle.mk_lemmas.proofs.Texts.{texts}
 use Rattle.mk_subject.specs.FileInfo.{StandAt}
-use Rattle.mk_subject.proofs.KnownFiles.{keys_more, spelled, stand_push}
+use Rattle.mk_subject.proofs.KnownFiles.{keys_more, stand_push}
 use Rattle.mk_subject.proofs.files.places_for.Goals as goal
 
 pub place_for-requires : goal.place_for-requires
@@ -26,11 +27,11 @@ loop-file-preserved c =
     let keys = c.place_for.new.files.keys in
     let (rest, grown) = c.in_ok-place.ensures.more in
     let (first, begun) = inv.more in
-    let here : StandAt (spelled keys) c.loop-file.places.items before = keys_more c.loop-file.files.keys rest keys c.loop-file.places.items before grown inv.here in
+    let here : StandAt (texts keys) c.loop-file.places.items before = keys_more c.loop-file.files.keys rest keys c.loop-file.places.items before grown inv.here in
     record {
       all = c.in_ok-place.ensures.all;
       more = (first ++ rest, grown ∙ (ap (λ (l : List (Bor (List ℕ))). l ++ rest) begun ∙ append_assoc c.args.files.now.keys first rest));
-      here = stand_push (spelled keys) c.loop-file.places.items c.push.new.self.items c.in_ok-place.place before (map string_bytes (take (i + 1) listed)) f c.in_ok-push.ensures.items after c.in_ok-place.ensures.here here;
+      here = stand_push (texts keys) c.loop-file.places.items c.push.new.self.items c.in_ok-place.place before (map string_bytes (take (i + 1) listed)) f c.in_ok-push.ensures.items after c.in_ok-place.ensures.here here;
     }
 
 pub returns : goal.returns
@@ -42,5 +43,5 @@ returns c =
     record {
       all = inv.all;
       more = inv.more;
-      here = subst (λ (l : List (List ℕ)). StandAt (spelled c.loop-file.files.keys) c.loop-file.places.items l) all inv.here;
+      here = subst (λ (l : List (List ℕ)). StandAt (texts c.loop-file.files.keys) c.loop-file.places.items l) all inv.here;
     }

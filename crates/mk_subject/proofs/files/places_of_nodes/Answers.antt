@@ -1,9 +1,10 @@
 -- Each name has its place in its turn, and those before keep theirs.
 use Rattle.std.proofs.Common.{◌≡◌, ◌∙◌, ◌+◌, ◌<◌, ◌≤◌, ◌++◌, ◌∷◌, [], ℕ, List, ap, sym, subst, get_or, length, map, take}
 use Rattle.std.proofs.lemmas.List.{take_more, take_all, map_push}
+use Rattle.mk_lemmas.proofs.Texts.{texts}
 use Rattle.mk_graph.specs.declared.node.Node.{Node}
 use Rattle.mk_subject.specs.FileInfo.{StandAt}
-use Rattle.mk_subject.proofs.KnownFiles.{keys_more, spelled, stand_push}
+use Rattle.mk_subject.proofs.KnownFiles.{keys_more, stand_push}
 use Rattle.mk_subject.proofs.files.places_of_nodes.Goals as goal
 
 pub place_for-requires : goal.place_for-requires
@@ -21,10 +22,10 @@ loop-node-preserved c =
     let inv = c.loop-node.invariant in
     let keys = c.place_for.new.files.keys in
     let (rest, grown) = c.in_ok-place.ensures.more in
-    let here : StandAt (spelled keys) c.loop-node.places.items before = keys_more c.loop-node.files.keys rest keys c.loop-node.places.items before grown inv.here in
+    let here : StandAt (texts keys) c.loop-node.places.items before = keys_more c.loop-node.files.keys rest keys c.loop-node.places.items before grown inv.here in
     record {
       all = c.in_ok-place.ensures.all;
-      here = stand_push (spelled keys) c.loop-node.places.items c.push.new.self.items c.in_ok-place.place before (map name (take (i + 1) nodes)) f c.in_ok-push.ensures.items after c.in_ok-place.ensures.here here;
+      here = stand_push (texts keys) c.loop-node.places.items c.push.new.self.items c.in_ok-place.place before (map name (take (i + 1) nodes)) f c.in_ok-push.ensures.items after c.in_ok-place.ensures.here here;
     }
 
 pub returns : goal.returns
@@ -36,5 +37,5 @@ returns c =
     let all : map name (take c.loop-node.node-index nodes) ≡ map name nodes = ap (map name) (take_all c.loop-node.node-index nodes past) in
     record {
       all = inv.all;
-      here = subst (λ (l : List (List ℕ)). StandAt (spelled c.loop-node.files.keys) c.loop-node.places.items l) all inv.here;
+      here = subst (λ (l : List (List ℕ)). StandAt (texts c.loop-node.files.keys) c.loop-node.places.items l) all inv.here;
     }

@@ -1,6 +1,7 @@
 use Rattle.std.proofs.Common.{◌≡◌, ◌∙◌, ℕ, ap, subst, refl, inl, List, map}
 use Rattle.std.specs.Prelude.{filter}
 use Rattle.std.proofs.lemmas.Result.{err_from_is_err_and}
+use Rattle.mk_lemmas.proofs.Texts.{texts}
 use Rattle.mk_lines.specs.Names.{has_name}
 use Rattle.mk_graph.specs.declared.node.Node.{Node}
 use Rattle.mk_graph.specs.Graph.{IsGraph}
@@ -14,7 +15,7 @@ use Rattle.mk_subject.specs.Subject.{footprints, reads_of, subject_of, writes_of
 use Rattle.mk_subject.specs.Writers.{numbers_at}
 use Rattle.mk_subject.specs.NodeRow.{AreEntries, NodeRow, IsFaultOf, entry_writes, writers_of}
 use Rattle.mk_subject.proofs.Entries.{all_told, writers_are}
-use Rattle.mk_subject.proofs.KnownFiles.{known_is, spelled}
+use Rattle.mk_subject.proofs.KnownFiles.{known_is}
 use Rattle.mk_subject.proofs.tables.tables_for.Goals as goal
 
 -- a fault by what was recorded is one by what is the same
@@ -62,7 +63,7 @@ returns c =
     ∙ writers_are x file entries held) in
     let names : c.in_ok-names.names ≡ all_names x = c.in_ok-names.ensures in
     let files = c.in_ok-files.files in
-    let texts = spelled files.names.keys in
+    let texts = texts files.names.keys in
     let by = λ (r : Recorded). known_by m r.setting (numbers_at c.in_ok-writers.writers) c.in_ok-names.names in
     let files_of_it = subst (λ (r : Recorded). AreFiles (by r) (map (λ (n : Node). n.name) r.graph.nodes) (build.writes r.graph (footprints r.setting)) (build.reads r.graph (footprints r.setting)) texts files.known.items files.nodes.items files.writes files.reads) recorded c.in_ok-files.ensures in
     let kept : AreFiles (known_of x) (all_names x) (writes_of x) (reads_of x) texts files.known.items

@@ -1,15 +1,12 @@
-use Rattle.std.proofs.Common.{◌≡◌, ◌<◌, ◌≤◌, ◌∙◌, ◌++◌, ◌∷◌, [], List, ℕ, String, Global, cond, ap, sym, map, length, get_or, arith}
+use Rattle.std.proofs.Common.{◌<◌, ◌≤◌, ◌∙◌, ◌++◌, ◌∷◌, [], List, ℕ, cond, ap, sym, map, length, arith}
 use Rattle.std.specs.Str.{bytes_eq}
 use Rattle.std.specs.String.{string_bytes}
-use Rattle.std.proofs.lemmas.List.{get_or-map, length-map, take_all}
+use Rattle.std.proofs.lemmas.List.{length-map, take_all}
+use Rattle.mk_lemmas.proofs.Texts.{string_bytes-at}
 use Rattle.mk_lines.specs.Names.{has_name}
 use Rattle.mk_subject.specs.Writers.{numbers_at}
 use Rattle.mk_subject.proofs.Writing.{noted_same, noted_more}
 use Rattle.mk_subject.proofs.writers.add_files.Goals as goal
-
--- the name at a place, seen by its bytes
-name_at : (names : List (String Global)) (i : ℕ) (name : String Global) → i < length names → name ≡ get_or names i name → string_bytes name ≡ get_or (map string_bytes names) i []
-name_at names i name low is = ap string_bytes is ∙ sym (get_or-map string_bytes names i name [] low)
 
 pub loop-place-preserved : goal.loop-place-preserved
 loop-place-preserved c =
@@ -17,7 +14,7 @@ loop-place-preserved c =
     let i = c.loop-place.place in
     let lt : i < length files = omega (arith, length-map c.args.files.now string_bytes) in
     let low : i < length c.args.files.now = omega arith in
-    let here = c.as_str.ensures.value ∙ name_at c.args.files.now i c.index-files-place.result low c.index-files-place.is in
+    let here = c.as_str.ensures.value ∙ string_bytes-at c.args.files.now i c.index-files-place.result low c.index-files-place.is in
     record {
       seen = c.in_ok-is_repeated.ensures.seen;
       noted = λ name. noted_more files i name (numbers_at c.loop-place.writers name) (numbers_at c.add_writer.new.writers name) (numbers_at c.args.writers.now name) c.args.number lt (sym c.in_ok-is_repeated.ensures.repeated ∙ c.if-branch.false) (c.loop-place.invariant.noted name)

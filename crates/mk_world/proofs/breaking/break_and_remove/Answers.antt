@@ -1,5 +1,6 @@
 use Rattle.std.proofs.Common.{◌≡◌, List, true, refl, sym, ap, ◌∙◌, subst, inl, inr, arith}
 use Rattle.std.proofs.lemmas.Bool.{false≢true}
+use Rattle.mk_lines.proofs.NameTests.{Has-from_has_name, has_name-from_Has}
 use Rattle.mk_lines.specs.Names.{has_name}
 use Rattle.mk_graph.specs.declared.node.Node.{Node}
 use Rattle.mk_graph.specs.Membership.{Has}
@@ -9,7 +10,6 @@ use Rattle.mk_world.specs.State.{making_of, disk_of, setting}
 use Rattle.mk_world.specs.Fits.{Fits}
 use Rattle.mk_world.specs.declared.footprints.Footprint.{Footprint}
 use Rattle.mk_world.proofs.Judged.{node_is}
-use Rattle.mk_world.proofs.Tables.{name_there, there_name}
 use Rattle.mk_world.proofs.Changes.{broken_leaves, broken_fits}
 use Rattle.mk_world.proofs.breaking.break_and_remove.Goals as goal
 
@@ -31,13 +31,13 @@ returns-then-not-contains-clause-judged c =
     let this = node_is g c.nodes-nodes.result.now c.args.number c.index-nodes-number.result (rw c.graph-graph.ensures at c.nodes-nodes.ensures.value) (rw (c.nodes-nodes.ensures.value, c.graph-graph.ensures) low) c.index-nodes-number.is in
     let same : c.as_str-target.result.now ≡ name g c.args.number = c.as_str-target.ensures ∙ ap (λ (v : Node). v.name) this in
     let own = ap (λ (p : Footprint). p.writes) c.footprint-footprint.ensures.value in
-    inr (inr (runs, inl (λ h. false≢true (c.if-not-contains.ensures ∙ there_name _ c.as_str-target.result.now (rw own (subst (λ (f : FileName). Has (writes g (setting c.args.scene.now) c.args.number) f) (sym same) h))), refl)))
+    inr (inr (runs, inl (λ h. false≢true (c.if-not-contains.ensures ∙ has_name-from_Has _ c.as_str-target.result.now (rw own (subst (λ (f : FileName). Has (writes g (setting c.args.scene.now) c.args.number) f) (sym same) h))), refl)))
 
 pub remove-requires : goal.remove-requires
 remove-requires c =
     let own = ap (λ (p : Footprint). p.writes) c.footprint-footprint.ensures.value in
     let has = subst (λ (l : List FileName). has_name l c.as_str-target.result.now ≡ true) own (sym c.if-not-contains.ensures) in
-    c.requires.named c.as_str-target.result.now (name_there _ c.as_str-target.result.now has)
+    c.requires.named c.as_str-target.result.now (Has-from_has_name _ c.as_str-target.result.now has)
 
 pub returns-clause-fits : goal.returns-clause-fits
 returns-clause-fits c = subst (Fits c.args.scene.now) (sym c.in_ok-break_off.ensures.ok) (broken_fits c.args.scene.now c.args.making.now c.args.number c.requires.fits (c.if-not-is_running.ensures.0 refl))
@@ -51,7 +51,7 @@ returns-clause-judged c =
     let same : c.as_str-target.result.now ≡ name g c.args.number = c.as_str-target.ensures ∙ ap (λ (v : Node). v.name) this in
     let own = ap (λ (p : Footprint). p.writes) c.footprint-footprint.ensures.value in
     let has = subst (λ (l : List FileName). has_name l c.as_str-target.result.now ≡ true) own (sym c.if-not-contains.ensures) in
-    let wrote = subst (λ (f : FileName). Has (writes g (setting c.args.scene.now) c.args.number) f) same (name_there _ c.as_str-target.result.now has) in
+    let wrote = subst (λ (f : FileName). Has (writes g (setting c.args.scene.now) c.args.number) f) same (Has-from_has_name _ c.as_str-target.result.now has) in
     let makes = ap (making_of c.args.scene.now) c.in_ok-break_off.ensures.ok ∙ broken_leaves c.args.scene.now c.args.making.now c.args.number (rw c.requires.fits.many low) in
     let disks = c.remove.ensures.disk ∙ ap (λ (f : FileName). without (disk_of c.args.disk.now) f) same in
     record { allowed = (runs, wrote); leaves = λ i. Busy (makes i) (disks i) }

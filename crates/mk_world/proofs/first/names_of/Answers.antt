@@ -1,11 +1,12 @@
 use Rattle.std.proofs.Common.{◌≡◌, ℕ, List, length, sym, ap, inl, inr, subst, arith, ◌⊎◌, ◌∙◌}
 use Rattle.std.specs.Prelude.{◌↔◌}
+use Rattle.mk_lemmas.proofs.Results.{IfOk-map}
 use Rattle.mk_graph.specs.declared.node.Node.{Node}
 use Rattle.mk_graph.specs.Membership.{Has}
 use Rattle.mk_graph.specs.Graph.{node}
 use Rattle.mk_world.specs.First.{IsNameOf}
 use Rattle.mk_world.proofs.Judged.{node_is}
-use Rattle.mk_world.proofs.FirstDisk.{next_node, of_world, if_ok}
+use Rattle.mk_world.proofs.FirstDisk.{next_node, of_world}
 use Rattle.mk_world.proofs.Ascending.{all_has}
 use Rattle.mk_world.proofs.first.names_of.Goals as goal
 
@@ -34,4 +35,4 @@ pub returns-clause-all : goal.returns-clause-all
 returns-clause-all c =
     let many : c.loop-node.node-index ≡ length c.args.graph.now.nodes = omega (arith, c.loop-node.auto.node-index-end, c.loop-node-test.false, ap length c.nodes-node-items.ensures.value) in
     let world = λ (f : List ℕ). of_world (Has c.loop-node.names f) c.args.graph.now c.args.setting.now c.loop-node.node-index f many (c.loop-node.invariant f) in
-    if_ok c.in_order.result (λ names all f. (λ h. (world f).0 ((all f).0 h), λ h. (all f).1 ((world f).1 h))) c.in_order.ensures.all
+    IfOk-map c.in_order.result (λ names all f. (λ h. (world f).0 ((all f).0 h), λ h. (all f).1 ((world f).1 h))) c.in_order.ensures.all

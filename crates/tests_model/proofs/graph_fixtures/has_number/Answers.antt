@@ -1,6 +1,6 @@
 use Rattle.std.proofs.Common.{subst}
+use Rattle.mk_lemmas.proofs.Members.{Has-get_or}
 use Rattle.mk_graph.specs.Membership.{Has}
-use Rattle.tests_model.proofs.Sound.{Has-get_or}
 use Rattle.tests_model.proofs.graph_fixtures.has_number.Goals as goal
 
 pub returns-then-n-number : goal.returns-then-n-number

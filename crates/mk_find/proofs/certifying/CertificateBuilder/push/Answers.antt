@@ -2,7 +2,7 @@
 use Rattle.std.proofs.Common.{◌<◌, ℕ, List, length, sym, subst}
 use Rattle.mk_graph.specs.Membership.{Has}
 use Rattle.mk_find.proofs.AddingEntries.{nodes_low}
-use Rattle.mk_find.proofs.Noting.{reader_low}
+use Rattle.mk_find.proofs.Noting.{reader_is_node}
 use Rattle.mk_find.proofs.certifying.CertificateBuilder.push.Goals as goal
 
 pub name_all-requires : goal.name_all-requires
@@ -10,5 +10,5 @@ name_all-requires c =
     let x = c.args.subject.now in
     let f = c.args.file.now in
     let t = c.args.entry.now.number in
-    let low = reader_low x t f c.requires.read in
+    let low = reader_is_node x t f c.requires.read in
     subst (λ (l : List ℕ). (n : ℕ) → Has l n → n < length x.graph.nodes) (sym c.deref.ensures.value) (nodes_low x f t c.args.path.now.nodes.items c.args.path.now.finish low c.requires.first)

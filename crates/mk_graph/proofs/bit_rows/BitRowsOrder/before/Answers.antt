@@ -7,8 +7,7 @@ use Rattle.mk_graph.specs.Membership.{Has}
 use Rattle.mk_graph.specs.Graph.{no_node, node}
 use Rattle.mk_graph.specs.Without.{joined}
 use Rattle.mk_graph.specs.Bits.{is_set}
-use Rattle.mk_graph.specs.BitRows.{row, RowLacks}
-use Rattle.mk_graph.proofs.Loops.{lists}
+use Rattle.mk_graph.specs.BitRows.{row, RowLacks, lists}
 use Rattle.mk_graph.proofs.Settling.{has_row, is_before_by_rows, is_not_before_by_rows}
 use Rattle.mk_graph.proofs.bit_rows.BitRowsOrder.before.Goals as goal
 

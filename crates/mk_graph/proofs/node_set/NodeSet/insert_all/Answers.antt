@@ -1,4 +1,4 @@
-use Rattle.mk_graph.proofs.Members.{Has-get_or}
+use Rattle.mk_lemmas.proofs.Members.{Has-get_or}
 use Rattle.mk_graph.proofs.Loops.{number_joins}
 use Rattle.mk_graph.proofs.node_set.NodeSet.insert_all.Goals as goal
 

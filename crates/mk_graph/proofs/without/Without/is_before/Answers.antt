@@ -1,9 +1,9 @@
 -- What is done without the node tells.
 use Rattle.std.proofs.Common.{◌≡◌, List, get_or, true, refl, sym, ap, ◌∙◌}
 use Rattle.std.proofs.lemmas.Bool.{false≢true}
+use Rattle.mk_graph.specs.BitRows.{lists}
 use Rattle.mk_graph.specs.declared.node.Node.{Node}
 use Rattle.mk_graph.specs.Graph.{no_node, node}
-use Rattle.mk_graph.proofs.Loops.{lists}
 use Rattle.mk_graph.proofs.AllButOne.{is_before}
 use Rattle.mk_graph.proofs.Rounds.{tells}
 use Rattle.mk_graph.proofs.without.Without.is_before.Goals as goal

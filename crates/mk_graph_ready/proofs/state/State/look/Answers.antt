@@ -1,13 +1,13 @@
 use Rattle.std.proofs.Common.{◌≡◌, ℕ, ◌<◌, List, [], false, length, get_or, set, ap, sym, subst, ◌∙◌, arith}
 use Rattle.std.proofs.lemmas.Bool.{true≢false}
 use Rattle.std.specs.Vec.{with_item}
+use Rattle.std.proofs.lemmas.List.{get_or_default}
 use Rattle.mk_graph.specs.Membership.{Has}
 use Rattle.mk_graph.specs.Graph.{Graph, node}
 use Rattle.mk_graph_ready.specs.Rest.{Rest}
 use Rattle.mk_graph_ready.specs.RemainingGroups.{IsLeft}
 use Rattle.mk_graph_ready.specs.Stages.{WantsOpened}
 use Rattle.mk_graph_ready.specs.State.{Stands, no_rest}
-use Rattle.mk_graph_ready.proofs.Lists.{at_any}
 use Rattle.mk_graph_ready.proofs.Standing.{MarksOne, looked, looked_less, behind_low, written_left, marks_none, marks_one}
 use Rattle.mk_graph_ready.proofs.state.State.look.Goals as goal
 use Rattle.mk_graph_ready.proofs.state.State.look.Goals.{else-is_over-via-then-is_over+then-not-has_recipe+else-not-has, else-is_over-via-then-is_over+else-not-has_recipe, else-is_over-via-else-is_over}
@@ -15,7 +15,7 @@ use Rattle.mk_graph_ready.proofs.state.State.look.Goals.{else-is_over-via-then-i
 pub advance-requires : goal.advance-requires
 advance-requires c = λ n h.
     let s = c.args.self.now in
-    let at = c.index_mut.ensures.value ∙ at_any s.left.items c.args.number c.index_mut.result.now no_rest (rw c.requires.stands.lefts c.requires.node) in
+    let at = c.index_mut.ensures.value ∙ get_or_default s.left.items c.args.number c.index_mut.result.now no_rest (rw c.requires.stands.lefts c.requires.node) in
     subst (λ (l : List ℕ). n < length l) (sym c.write.ensures) (behind_low c.args.layout.now s c.args.number n c.index_mut.result.now c.graph-graph.ensures.graph c.requires.stands c.requires.node at h)
 
 pub returns-then-not-has-clause-stands : goal.returns-then-not-has-clause-stands
@@ -24,7 +24,7 @@ returns-then-not-has-clause-stands c =
     let s = c.args.self.now in
     let t = c.args.number in
     let low : t < length s.left.items = rw c.requires.stands.lefts c.requires.node in
-    let at = c.index_mut.ensures.value ∙ at_any s.left.items t c.index_mut.result.now no_rest low in
+    let at = c.index_mut.ensures.value ∙ get_or_default s.left.items t c.index_mut.result.now no_rest low in
     let wants : ¬ (get_or s.stages t 0 ≡ 0) = λ e. let a = c.if-at-ne-WANTED.false in let b : c.at.result ≡ 0 = c.at.ensures ∙ e in omega arith in
     let opened = subst (λ (r : Rest). WantsOpened (set s.stages t 2) c.advance.new.stages s.done r) at (subst (λ (l : List ℕ). WantsOpened l c.advance.new.stages s.done c.index_mut.result.now) c.write.ensures c.advance.ensures.wants) in
     let lefts = subst (λ (r : Rest). (groups : List (List ℕ)) → IsLeft (set s.stages t 2) s.done groups r
@@ -51,7 +51,7 @@ returns-else-is_over-clause-stands c =
     let s = c.args.self.now in
     let t = c.args.number in
     let low : t < length s.left.items = rw c.requires.stands.lefts c.requires.node in
-    let at = c.index_mut.ensures.value ∙ at_any s.left.items t c.index_mut.result.now no_rest low in
+    let at = c.index_mut.ensures.value ∙ get_or_default s.left.items t c.index_mut.result.now no_rest low in
     let wants : ¬ (get_or s.stages t 0 ≡ 0) = λ e. let a = c.if-at-ne-WANTED.false in let b : c.at.result ≡ 0 = c.at.ensures ∙ e in omega arith in
     let opened = subst (λ (r : Rest). WantsOpened (set s.stages t 2) c.advance.new.stages s.done r) at (subst (λ (l : List ℕ). WantsOpened l c.advance.new.stages s.done c.index_mut.result.now) c.write.ensures c.advance.ensures.wants) in
     let lefts = subst (λ (r : Rest). (groups : List (List ℕ)) → IsLeft (set s.stages t 2) s.done groups r

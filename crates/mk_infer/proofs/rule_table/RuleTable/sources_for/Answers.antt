@@ -2,10 +2,10 @@ use Rattle.std.proofs.Common.{◌≡◌, List, ℕ, [], Option, Vec, ap, sym, su
 use Rattle.std.specs.Borrow.{Bor}
 use Rattle.std.specs.declared.alloc.Global.{Global}
 use Rattle.std.specs.Option.{option_map_or}
+use Rattle.mk_lemmas.proofs.Texts.{texts}
 use Rattle.mk_read.specs.Reading.{Makefile}
 use Rattle.mk_infer.specs.Inference.{ending}
 use Rattle.mk_infer.specs.Table.{AreSources, HasSources, texts_at}
-use Rattle.mk_infer.proofs.NameLists.{texts}
 use Rattle.mk_infer.proofs.rule_table.RuleTable.sources_for.Goals as goal
 
 pub returns-in-Some : goal.returns-in-Some

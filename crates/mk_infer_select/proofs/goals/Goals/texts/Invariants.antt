@@ -1,5 +1,5 @@
 use Rattle.std.proofs.Common.{◌≡◌, take}
-use Rattle.mk_infer_select.proofs.NameLists.{texts}
+use Rattle.mk_lemmas.proofs.Texts.{texts}
 use Rattle.mk_infer_select.proofs.goals.Goals.texts.Given as goal
 
 -- the names so far

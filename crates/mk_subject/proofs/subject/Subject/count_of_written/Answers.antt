@@ -1,5 +1,6 @@
 use Rattle.std.proofs.Common.{◌∙◌, [], ℕ, List, ap, get_or, length}
-use Rattle.mk_subject.proofs.KnownFiles.{as_many, spelled}
+use Rattle.mk_lemmas.proofs.Texts.{texts}
+use Rattle.mk_subject.proofs.KnownFiles.{as_many}
 use Rattle.mk_subject.proofs.TablesOf.{files_held}
 use Rattle.mk_subject.specs.Subject.{writes_of}
 use Rattle.mk_subject.proofs.subject.Subject.count_of_written.Goals as goal
@@ -8,4 +9,4 @@ pub returns : goal.returns
 returns c =
     let x = c.args.self.now in
     let t = c.self.inside.tables in
-    ap (λ (l : List ℕ). length l) c.at.ensures ∙ as_many (spelled t.files.names.keys) (get_or t.files.writes c.args.number []) (writes_of x c.args.number) ((files_held _ x t c.self.view_is c.self.invariant).writes_held c.args.number)
+    ap (λ (l : List ℕ). length l) c.at.ensures ∙ as_many (texts t.files.names.keys) (get_or t.files.writes c.args.number []) (writes_of x c.args.number) ((files_held _ x t c.self.view_is c.self.invariant).writes_held c.args.number)

@@ -2,11 +2,12 @@
 use Rattle.std.proofs.Common.{◌≡◌, ◌∙◌, ◌<◌, [], ℕ, ap, Some, get_or, length, arith}
 use Rattle.std.specs.Prelude.{slice_get}
 use Rattle.std.proofs.lemmas.List.{get_or-map, get_or_default, length-map}
+use Rattle.mk_lemmas.proofs.Texts.{texts}
 use Rattle.mk_graph.specs.declared.node.Node.{Node}
 use Rattle.mk_graph.specs.Graph.{no_node}
 use Rattle.mk_subject.specs.FileInfo.{all_names, known_of}
 use Rattle.mk_subject.specs.Subject.{name_of}
-use Rattle.mk_subject.proofs.KnownFiles.{FileAt, file_at, spelled}
+use Rattle.mk_subject.proofs.KnownFiles.{FileAt, file_at}
 use Rattle.mk_subject.proofs.TablesOf.{files_held}
 use Rattle.mk_subject.proofs.subject.Subject.file_of_node.Goals as goal
 
@@ -15,7 +16,7 @@ index-place-requires c =
     let x = c.args.self.now in
     let t = c.self.inside.tables in
     let held = files_held _ x t c.self.view_is c.self.invariant in
-    let names = spelled t.files.names.keys in
+    let names = texts t.files.names.keys in
     let nodes = t.files.nodes.items in
     let n = c.args.number in
     let low : n < length (all_names x) = omega (arith, c.requires, length-map x.graph.nodes (λ (k : Node). k.name)) in
@@ -27,7 +28,7 @@ target_at-requires c =
     let x = c.args.self.now in
     let t = c.self.inside.tables in
     let held = files_held _ x t c.self.view_is c.self.invariant in
-    let names = spelled t.files.names.keys in
+    let names = texts t.files.names.keys in
     let nodes = t.files.nodes.items in
     let n = c.args.number in
     let low : n < length (all_names x) = omega (arith, c.requires, length-map x.graph.nodes (λ (k : Node). k.name)) in
@@ -40,7 +41,7 @@ returns c =
     let x = c.args.self.now in
     let t = c.self.inside.tables in
     let held = files_held _ x t c.self.view_is c.self.invariant in
-    let names = spelled t.files.names.keys in
+    let names = texts t.files.names.keys in
     let nodes = t.files.nodes.items in
     let n = c.args.number in
     let low : n < length (all_names x) = omega (arith, c.requires, length-map x.graph.nodes (λ (k : Node). k.name)) in

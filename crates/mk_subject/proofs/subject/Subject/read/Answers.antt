@@ -1,12 +1,13 @@
 -- The file at the place of a read.
 use Rattle.std.proofs.Common.{◌≡◌, ◌∙◌, ◌<◌, [], ℕ, List, ap, get_or, length, arith}
 use Rattle.std.specs.Prelude.{slice_get}
+use Rattle.mk_lemmas.proofs.Texts.{texts}
 use Rattle.mk_subject.specs.NodeRow.{NodeRow}
 use Rattle.mk_subject.specs.FileInfo.{known_of}
 use Rattle.mk_subject.specs.Subject.{reads_of}
 use Rattle.mk_subject.specs.Target.{target_of}
 use Rattle.mk_subject.proofs.Entries.{same_reads}
-use Rattle.mk_subject.proofs.KnownFiles.{FileAt, file_at, spelled}
+use Rattle.mk_subject.proofs.KnownFiles.{FileAt, file_at}
 use Rattle.mk_subject.proofs.TablesOf.{files_held}
 use Rattle.mk_subject.proofs.subject.Subject.read.Goals as goal
 
@@ -18,7 +19,7 @@ bounds-at-place c =
     let n = c.entry.inside.number in
     let number : n ≡ e.number = ap (λ (k : NodeRow). k.number) c.entry.view_is in
     let held = files_held _ x t c.self.view_is c.self.invariant in
-    let names = spelled t.files.names.keys in
+    let names = texts t.files.names.keys in
     let row = get_or t.files.reads n [] in
     let files = reads_of x n in
     let low : c.args.place < length files = omega (arith, c.requires.place, ap (λ (l : List (List ℕ)). length l) (same_reads x e c.requires.entry), ap (λ (k : ℕ). length (reads_of x k)) number) in
@@ -33,7 +34,7 @@ target_at-requires c =
     let n = c.entry.inside.number in
     let number : n ≡ e.number = ap (λ (k : NodeRow). k.number) c.entry.view_is in
     let held = files_held _ x t c.self.view_is c.self.invariant in
-    let names = spelled t.files.names.keys in
+    let names = texts t.files.names.keys in
     let row = get_or t.files.reads n [] in
     let files = reads_of x n in
     let low : c.args.place < length files = omega (arith, c.requires.place, ap (λ (l : List (List ℕ)). length l) (same_reads x e c.requires.entry), ap (λ (k : ℕ). length (reads_of x k)) number) in
@@ -48,7 +49,7 @@ returns c =
     let n = c.entry.inside.number in
     let number : n ≡ e.number = ap (λ (k : NodeRow). k.number) c.entry.view_is in
     let held = files_held _ x t c.self.view_is c.self.invariant in
-    let names = spelled t.files.names.keys in
+    let names = texts t.files.names.keys in
     let row = get_or t.files.reads n [] in
     let files = reads_of x n in
     let low : c.args.place < length files = omega (arith, c.requires.place, ap (λ (l : List (List ℕ)). length l) (same_reads x e c.requires.entry), ap (λ (k : ℕ). length (reads_of x k)) number) in

@@ -1,11 +1,12 @@
 -- The name of a node stands at its place.
 use Rattle.std.proofs.Common.{◌≡◌, ◌∙◌, ◌<◌, [], ℕ, List, ap, get_or, length, arith}
 use Rattle.std.proofs.lemmas.List.{get_or-map, get_or_default, length-map}
+use Rattle.mk_lemmas.proofs.Texts.{texts}
 use Rattle.mk_graph.specs.declared.node.Node.{Node}
 use Rattle.mk_graph.specs.Graph.{no_node}
 use Rattle.mk_subject.specs.FileInfo.{FileInfo, all_names, known_of}
 use Rattle.mk_subject.specs.Subject.{name_of}
-use Rattle.mk_subject.proofs.KnownFiles.{FileAt, file_at, known_at, spelled}
+use Rattle.mk_subject.proofs.KnownFiles.{FileAt, file_at, known_at}
 use Rattle.mk_subject.proofs.TablesOf.{files_held}
 use Rattle.mk_subject.proofs.subject.Subject.writers_of_node.Goals as goal
 
@@ -14,7 +15,7 @@ index-at-requires c =
     let x = c.args.self.now in
     let t = c.self.inside.tables in
     let held = files_held _ x t c.self.view_is c.self.invariant in
-    let names = spelled t.files.names.keys in
+    let names = texts t.files.names.keys in
     let nodes = t.files.nodes.items in
     let n = c.args.number in
     let low : n < length (all_names x) = omega (arith, c.requires, length-map x.graph.nodes (λ (k : Node). k.name)) in
@@ -26,7 +27,7 @@ index-requires c =
     let x = c.args.self.now in
     let t = c.self.inside.tables in
     let held = files_held _ x t c.self.view_is c.self.invariant in
-    let names = spelled t.files.names.keys in
+    let names = texts t.files.names.keys in
     let nodes = t.files.nodes.items in
     let n = c.args.number in
     let low : n < length (all_names x) = omega (arith, c.requires, length-map x.graph.nodes (λ (k : Node). k.name)) in
@@ -39,7 +40,7 @@ returns c =
     let x = c.args.self.now in
     let t = c.self.inside.tables in
     let held = files_held _ x t c.self.view_is c.self.invariant in
-    let names = spelled t.files.names.keys in
+    let names = texts t.files.names.keys in
     let nodes = t.files.nodes.items in
     let n = c.args.number in
     let low : n < length (all_names x) = omega (arith, c.requires, length-map x.graph.nodes (λ (k : Node). k.name)) in

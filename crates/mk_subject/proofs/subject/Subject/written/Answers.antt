@@ -1,7 +1,8 @@
 use Rattle.std.proofs.Common.{◌≡◌, ◌∙◌, [], ℕ, List, ap, get_or, length, arith}
 use Rattle.std.specs.Prelude.{slice_get}
+use Rattle.mk_lemmas.proofs.Texts.{texts}
 use Rattle.mk_subject.specs.FileInfo.{known_of}
-use Rattle.mk_subject.proofs.KnownFiles.{FileAt, file_at, spelled}
+use Rattle.mk_subject.proofs.KnownFiles.{FileAt, file_at}
 use Rattle.mk_subject.proofs.TablesOf.{files_held}
 use Rattle.mk_subject.specs.Subject.{writes_of}
 use Rattle.mk_subject.proofs.subject.Subject.written.Goals as goal
@@ -11,7 +12,7 @@ bounds-at-place c =
     let x = c.args.self.now in
     let t = c.self.inside.tables in
     let held = files_held _ x t c.self.view_is c.self.invariant in
-    let names = spelled t.files.names.keys in
+    let names = texts t.files.names.keys in
     let row = get_or t.files.writes c.args.number [] in
     let files = writes_of x c.args.number in
     let at : FileAt names t.files.known.items row files c.args.place = file_at (known_of x) names t.files.known.items row files c.args.place held.known_held (held.writes_held c.args.number) c.requires in
@@ -23,7 +24,7 @@ target_at-requires c =
     let x = c.args.self.now in
     let t = c.self.inside.tables in
     let held = files_held _ x t c.self.view_is c.self.invariant in
-    let names = spelled t.files.names.keys in
+    let names = texts t.files.names.keys in
     let row = get_or t.files.writes c.args.number [] in
     let files = writes_of x c.args.number in
     let at : FileAt names t.files.known.items row files c.args.place = file_at (known_of x) names t.files.known.items row files c.args.place held.known_held (held.writes_held c.args.number) c.requires in
@@ -36,7 +37,7 @@ returns c =
     let x = c.args.self.now in
     let t = c.self.inside.tables in
     let held = files_held _ x t c.self.view_is c.self.invariant in
-    let names = spelled t.files.names.keys in
+    let names = texts t.files.names.keys in
     let row = get_or t.files.writes c.args.number [] in
     let files = writes_of x c.args.number in
     let at : FileAt names t.files.known.items row files c.args.place = file_at (known_of x) names t.files.known.items row files c.args.place held.known_held (held.writes_held c.args.number) c.requires in

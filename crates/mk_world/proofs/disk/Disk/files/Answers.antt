@@ -1,14 +1,14 @@
 use Rattle.std.proofs.Common.{◌++◌, List, Bor, ℕ, refl, sym, ap, ◌∙◌}
 use Rattle.std.proofs.lemmas.List.{append-nil}
+use Rattle.mk_lemmas.proofs.Texts.{texts}
 use Rattle.mk_world.specs.State.{DiskState}
 use Rattle.mk_world.specs.Listing.{there_among, entry}
-use Rattle.mk_world.proofs.Ascending.{spelled}
 use Rattle.mk_world.proofs.FirstDisk.{nothing_left}
 use Rattle.mk_world.proofs.Listings.{one_listed}
 use Rattle.mk_world.proofs.disk.Disk.files.Goals as goal
 
 pub loop-name-init : goal.loop-name-init
-loop-name-init c = ap (λ l. l ++ there_among (entry c.args.self.now) (spelled c.as_slice-name-items.result.now)) c.new-files.ensures.items ∙ ap (there_among (entry c.args.self.now)) (c.as_slice-name-items.ensures ∙ ap (λ (d : DiskState). d.names) c.self.view_is)
+loop-name-init c = ap (λ l. l ++ there_among (entry c.args.self.now) (texts c.as_slice-name-items.result.now)) c.new-files.ensures.items ∙ ap (there_among (entry c.args.self.now)) (c.as_slice-name-items.ensures ∙ ap (λ (d : DiskState). d.names) c.self.view_is)
 
 pub loop-name-preserved : goal.loop-name-preserved
 loop-name-preserved c =

@@ -1,18 +1,19 @@
 use Rattle.std.proofs.Common.{◌<◌, List, ℕ, map, length, refl, sym, subst, arith}
+use Rattle.mk_lemmas.proofs.Results.{MatchOption-at_some}
 use Rattle.mk_graph.specs.Membership.{Has}
 use Rattle.mk_build.specs.Steps as model
 use Rattle.mk_graph_ready.specs.Progress.{Starts}
 use Rattle.mk_world.specs.State.{MakeState, setting, world_in, busy, start_of, number_of}
 use Rattle.mk_world.specs.Fits.{Fits}
 use Rattle.mk_world.specs.Steps.{Takes}
-use Rattle.mk_world.proofs.Changes.{some_of, started_fits, started_takes, is_none}
+use Rattle.mk_world.proofs.Changes.{started_fits, started_takes, is_none}
 use Rattle.mk_world.proofs.Keeping.{kept_graph, kept_started}
 use Rattle.mk_world.proofs.world.World.start.Goals as goal
 
 pub start-requires : goal.start-requires
 start-requires c = λ n h.
     let scene = c.self.inside.scene in
-    let found = some_of _ _ c.in-Some.is c.in_ok-numbers.ensures in
+    let found = MatchOption-at_some _ _ c.in-Some.is c.in_ok-numbers.ensures in
     let is = rw c.graph-graph.ensures at c.nodes-many.ensures.graph in
     let same = kept_graph scene c.self.inside.make c.self.inside.readiness c.self.invariant.2 in
     rw same ((started_fits scene c.args.jobs c.in-Some.numbers.items is found.1.within).goals n (subst (λ (l : List ℕ). Has l n) c.deref.ensures.value h))
@@ -20,7 +21,7 @@ start-requires c = λ n h.
 pub invariant_of-self-2 : goal.invariant_of-self-2
 invariant_of-self-2 c =
     let scene = c.self.inside.scene in
-    let found = some_of _ _ c.in-Some.is c.in_ok-numbers.ensures in
+    let found = MatchOption-at_some _ _ c.in-Some.is c.in_ok-numbers.ensures in
     let is = rw c.graph-graph.ensures at c.nodes-many.ensures.graph in
     let same = kept_graph scene c.self.inside.make c.self.inside.readiness c.self.invariant.2 in
     let starts = subst (λ (l : List ℕ). Starts c.self.inside.readiness c.start.new.self l) c.deref.ensures.value c.in_ok-start.ensures.ok in (
@@ -35,7 +36,7 @@ returns c =
     let scene = c.self.inside.scene in
     let disk = c.self.inside.disk in
     let make = c.self.inside.make in
-    let found = some_of _ _ c.in-Some.is c.in_ok-numbers.ensures in
+    let found = MatchOption-at_some _ _ c.in-Some.is c.in_ok-numbers.ensures in
     let none = is_none make (sym c.if-is_some.ensures) in
     let many = length c.nodes-many.result.now in
     let some : 0 < c.args.jobs = omega (arith, c.if-jobs-eq0.false) in
