@@ -1,7 +1,7 @@
 -- A search with its visits: what it keeps, and what its answers are.
-use Rattle.std.proofs.Common.{◌≡◌, ℕ, ◌+◌, ◌<◌, ◌≤◌, suc, zero, List, [], ◌∷◌, ◌++◌, length, get_or, reverse, ◌⊎◌, inl, inr, MatchOption, Option, Some, None, is_some, true, refl, sym, ◌∙◌, ap, subst, arith, append-nil, append_assoc, map-append}
+use Rattle.std.proofs.Common.{◌≡◌, ℕ, ◌+◌, ◌<◌, ◌≤◌, suc, zero, List, [], ◌∷◌, ◌++◌, length, get_or, reverse, ◌⊎◌, inl, inr, MatchOption, Option, Some, None, is_some, true, refl, sym, ◌∙◌, ap, subst, arith, append-nil, append_assoc}
 use Rattle.std.proofs.lemmas.Bool.{false≢true, cases_lt}
-use Rattle.std.proofs.lemmas.List.{length-append, reverse-append, length-map}
+use Rattle.std.proofs.lemmas.List.{length-append, length-map, map-append, reverse-append}
 use Rattle.mk_lemmas.proofs.Members.{Has-from_map, Has-get_or, length-le_distinct}
 use Rattle.mk_graph.specs.Membership.{Has, IsDistinct}
 use Rattle.mk_graph_search.specs.declared.visits.Visit.{Visit}

@@ -2,4 +2,4 @@ pub mod DefaultText
 mod NameSets
 mod Once
 pub mod SuffixLists
-pub mod Kinds
+pub mod RuleBytes

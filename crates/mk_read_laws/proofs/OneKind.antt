@@ -6,7 +6,7 @@ use Rattle.std.specs.Option.{option_map}
 use Rattle.std.specs.Str.{bytes_eq}
 use Rattle.std.proofs.lemmas.Bool.Decides.{nat_tests}
 use Rattle.std.proofs.lemmas.Bool.{both_ways, and_parts, not-true}
-use Rattle.mk_read.proofs.Kinds.{by_parts-rule_line}
+use Rattle.mk_read.proofs.RuleBytes.{by_parts-rule_line}
 use Rattle.mk_lines.specs.Bytes.{is_blank, trimmed, begins_with}
 use Rattle.mk_lines.specs.References.{first_from, first_outside}
 use Rattle.mk_lines.specs.RuleLines.{begins_with_rule_colon, is_decisive, is_include, is_rule_colon_at, is_rule_line}

@@ -5,7 +5,7 @@ use Rattle.std.specs.List.{list_any, list_all, slice_split, onto_first}
 use Rattle.std.specs.Str.{is_utf8}
 use Rattle.std.proofs.lemmas.Bool.{and_parts, or_parts, or_from, both_ways, not-true, cond-true, cond-false, leb-true, ltb-true, eqb-true, ne_eqb, false_from_ne_true}
 use Rattle.std.proofs.lemmas.List.Splits.{slice_split-cons_no}
-use Rattle.mk_read.proofs.Kinds.{is_bracket-not_reserved, is_reserved-differ}
+use Rattle.mk_read.proofs.RuleBytes.{is_bracket-not_reserved, is_reserved-differ}
 use Rattle.mk_lines.specs.Bytes.{is_byte, is_blank}
 use Rattle.mk_lines.specs.Comments.{uncomment}
 use Rattle.mk_lines.specs.Laws.{NothingToUncomment}

@@ -3,7 +3,7 @@ use Rattle.std.proofs.Common.{◌≡◌, ℕ, Bool, true, false, not, ◌&&◌, 
 use Rattle.std.specs.List.{list_any}
 use Rattle.std.proofs.lemmas.Bool.{not-true}
 use Rattle.mk_lemmas.proofs.Bools.{or-false_left, or-false_right}
-use Rattle.mk_read.proofs.Kinds.{is_bracket-not_reserved}
+use Rattle.mk_read.proofs.RuleBytes.{is_bracket-not_reserved}
 use Rattle.mk_lines.specs.Paths.{is_plain_path}
 use Rattle.mk_read.specs.Names.{is_reserved, is_bracket, is_make_name}
 

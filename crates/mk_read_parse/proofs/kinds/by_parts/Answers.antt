@@ -1,6 +1,6 @@
 use Rattle.std.proofs.Common.{rules, sym, subst}
 use Rattle.std.proofs.lemmas.List.{take_rest}
-use Rattle.mk_read.proofs.Kinds.{by_parts-rule_line}
+use Rattle.mk_read.proofs.RuleBytes.{by_parts-rule_line}
 use Rattle.mk_read.specs.Kinds.{rule_line}
 use Rattle.mk_read_parse.specs.KindViews.{GivesKind, kind_view}
 use Rattle.mk_read_parse.proofs.kinds.by_parts.Goals as goal
