@@ -14,7 +14,7 @@ use Rattle.std.proofs.lemmas.Map.Text.{is_eq-slice_cmp}
 use Rattle.std.proofs.lemmas.Slice.Eq.{bytes_eq-Decides}
 use Rattle.std.proofs.lemmas.List.{get_or-map}
 use Rattle.std.proofs.lemmas.List.Sorted.{Contains-permutation, IsPermutation-map, IsPermutation-sym, ranks_by, sorted_far}
-use Rattle.mk_lemmas.proofs.Texts.{texts}
+use Rattle.mk_lemmas.proofs.Texts.{texts as spelled}
 use Rattle.mk_lemmas.proofs.Members.{Has-cases, Has-left, Has-right}
 use Rattle.mk_lines.proofs.NameTests.{Has-from_has_name, has_name-from_Has}
 use Rattle.mk_lines.specs.Names.{has_name, with_name}
@@ -79,7 +79,7 @@ comes_before y name far apart = at (slice_cmp nat_cmp y name) refl
 
 -- the name stands among the first of the texts
 abbrev pub AmongFirst : List (Bor (List ℕ)) → ℕ → List ℕ → Type 0
-AmongFirst texts i f = (k : ℕ) × (k < i) × (get_or (texts texts) k f ≡ f)
+AmongFirst texts i f = (k : ℕ) × (k < i) × (get_or (spelled texts) k f ≡ f)
 
 -- What the first ones of texts in their order leave: the same names, sorted, each once.
 pub record IsSortedTo (texts : List (Bor (List ℕ))) (i : ℕ) (names : List (List ℕ)) : Type 0 where
@@ -96,7 +96,7 @@ pub one_sorted : (texts : List (Bor (List ℕ))) (i : ℕ) (d : Bor (List ℕ)) 
 one_sorted texts i d old new name up lt named added so =
     subst (IsSortedTo texts (i + 1)) (sym added) (record { sorted = at (has_name old name) refl; all = λ f. (there f, back f) })
   where
-    is : (f : List ℕ) → get_or (texts texts) i f ≡ name
+    is : (f : List ℕ) → get_or (spelled texts) i f ≡ name
     is f = get_or-map (λ (text : Bor (List ℕ)). text.now) texts i d f lt ∙ sym named
 
     there : (f : List ℕ) → Has (with_name old name) f → AmongFirst texts (i + 1) f
@@ -108,7 +108,7 @@ one_sorted texts i d old new name up lt named added so =
     back : (f : List ℕ) → AmongFirst texts (i + 1) f → Has (with_name old name) f
     back f p = (one_has old name f).1 (elim (cases_lt p.0 i) [
       | inl low ↦ inl ((so.all f).1 (p.0, low, p.2))
-      | inr ge ↦ inr (sym (is f) ∙ (ap (λ k. get_or (texts texts) k f) (sym (last p.0 p.1 ge)) ∙ p.2))
+      | inr ge ↦ inr (sym (is f) ∙ (ap (λ k. get_or (spelled texts) k f) (sym (last p.0 p.1 ge)) ∙ p.2))
     ])
 
     below : has_name old name ≡ false → (y : List ℕ) → Has old y → slice_cmp nat_cmp y name ≡ Less
@@ -134,11 +134,11 @@ has_contains (x ∷ names) f (inl e) = (0, omega arith, e)
 has_contains (x ∷ names) f (inr h) = let c = has_contains names f h in (suc c.0, omega (arith, c.1), c.2)
 
 -- all of them, where the texts are those of a list in another order
-pub all_sorted : (texts before : List (Bor (List ℕ))) (i : ℕ) (names all : List (List ℕ)) → IsPermutation before texts → texts before ≡ all → i ≡ length (texts texts) → IsSortedTo texts i names → (f : List ℕ) → Has names f ↔ Has all f
+pub all_sorted : (texts before : List (Bor (List ℕ))) (i : ℕ) (names all : List (List ℕ)) → IsPermutation before texts → spelled before ≡ all → i ≡ length (spelled texts) → IsSortedTo texts i names → (f : List ℕ) → Has names f ↔ Has all f
 all_sorted texts before i names all moved is many so f =
     let turned = IsPermutation-map (λ (text : Bor (List ℕ)). text.now) before texts moved in
-    let here : Has names f ↔ Contains (texts texts) f = subst (λ n. Has names f ↔ ((k : ℕ) × (k < n) × (get_or (texts texts) k f ≡ f))) many (so.all f) in
+    let here : Has names f ↔ Contains (spelled texts) f = subst (λ n. Has names f ↔ ((k : ℕ) × (k < n) × (get_or (spelled texts) k f ≡ f))) many (so.all f) in
     subst (λ (l : List (List ℕ)). Has names f ↔ Has l f) is (
-      λ h. contains_has (texts before) f (Contains-permutation (texts texts) (texts before) f (IsPermutation-sym (texts before) (texts texts) turned) (here.0 h)),
-      λ h. here.1 (Contains-permutation (texts before) (texts texts) f turned (has_contains (texts before) f h)),
+      λ h. contains_has (spelled before) f (Contains-permutation (spelled texts) (spelled before) f (IsPermutation-sym (spelled before) (spelled texts) turned) (here.0 h)),
+      λ h. here.1 (Contains-permutation (spelled before) (spelled texts) f turned (has_contains (spelled before) f h)),
     )

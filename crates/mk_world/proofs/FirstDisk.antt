@@ -10,7 +10,7 @@ use Rattle.std.proofs.lemmas.List.Kept.{IsStrictlySortedBy-filter}
 use Rattle.std.specs.Ordering.{nat_cmp}
 use Rattle.std.specs.Cmp.Lexicographic.{slice_cmp}
 use Rattle.std.specs.Str.{bytes_eq}
-use Rattle.mk_lemmas.proofs.Texts.{texts}
+use Rattle.mk_lemmas.proofs.Texts.{texts as spelled}
 use Rattle.mk_lines.specs.Names.{place_from, with_name}
 use Rattle.mk_foot.specs.Setting as recorded
 use Rattle.mk_graph.specs.Membership.{Has}
@@ -90,7 +90,7 @@ is_first g s names sorted all =
 pub rest_is : {A : Type 0} (text : A → FileName) (names : List A) (i : ℕ) (d : A) (name : FileName) → i < length names → name ≡ text (get_or names i d) → map text (drop i names) ≡ name ∷ map text (drop (i + 1) names)
 rest_is text names i d name lt is = ap (map text) (drop_more names i d lt) ∙ ap (λ n. n ∷ map text (drop (i + 1) names)) (sym is)
 
-pub texts_left : (texts : List (Bor FileName)) (i : ℕ) (z : Bor FileName) → i < length texts → texts (drop i texts) ≡ (get_or texts i z).now ∷ texts (drop (i + 1) texts)
+pub texts_left : (texts : List (Bor FileName)) (i : ℕ) (z : Bor FileName) → i < length texts → spelled (drop i texts) ≡ (get_or texts i z).now ∷ spelled (drop (i + 1) texts)
 texts_left texts i z lt = rest_is (λ (text : Bor FileName). text.now) texts i z (get_or texts i z).now lt refl
 
 pub files_pass : (s : recorded.Setting) (n : ℕ) (name : FileName) (texts rest : List FileName) (old new all : List (Option File)) → texts ≡ name ∷ rest → recorded.is_given s name ≡ false → new ≡ old ++ None ∷ [] → old ++ first_files s n texts ≡ all → new ++ first_files s n rest ≡ all

@@ -1,7 +1,7 @@
 use Rattle.std.proofs.Common.{◌≡◌, List, Bor, ℕ, length, refl, sym, subst, arith}
 use Rattle.std.proofs.lemmas.List.{length-map}
 use Rattle.std.specs.List.Sorted.{IsSorted, IsPermutation}
-use Rattle.mk_lemmas.proofs.Texts.{texts}
+use Rattle.mk_lemmas.proofs.Texts.{texts as spelled}
 use Rattle.mk_world.proofs.Ascending.{by_bytes, none_sorted, one_sorted, all_sorted}
 use Rattle.mk_world.proofs.sorted.in_order.Goals as goal
 
@@ -17,7 +17,7 @@ pub returns : goal.returns
 returns c =
     let texts = c.as_slice-text-items.result.now in
     let moved : IsPermutation c.as_slice.result.now texts = subst (IsPermutation c.as_slice.result.now) (sym c.as_slice-text-items.ensures.value) (subst (λ (l : List (Bor (List ℕ))). IsPermutation l c.sort.new.self.items) c.in_ok-texts.ensures.items c.sort.ensures.permutation) in
-    let many : c.loop-text.text-index ≡ length (texts texts) = omega (arith, length-map texts (λ (t : Bor (List ℕ)). t.now), c.loop-text.auto.text-index-end, c.loop-text-test.false) in
+    let many : c.loop-text.text-index ≡ length (spelled texts) = omega (arith, length-map texts (λ (t : Bor (List ℕ)). t.now), c.loop-text.auto.text-index-end, c.loop-text-test.false) in
     record {
       sorted = c.loop-text.invariant.sorted;
       all = λ f. all_sorted texts c.as_slice.result.now c.loop-text.text-index c.loop-text.ordered c.args.names.now moved c.as_slice.ensures many c.loop-text.invariant f;
