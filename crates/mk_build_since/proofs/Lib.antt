@@ -1,0 +1,4 @@
+mod Deciding
+mod Made
+mod Carrying
+mod Unchanged
