@@ -17,7 +17,7 @@ use Rattle.mk_build.proofs.ChainWays.{one_number}
 use Rattle.mk_build_behaviours.specs.Behaviours.{Behaviour, behaviour, path, result}
 use Rattle.mk_build_behaviours.specs.CleanBy.{ArePresent}
 use Rattle.mk_build_behaviours.specs.CoherentBy.{IsAsLeftBy, IsCoherentBy}
-use Rattle.mk_build_since.specs.Named.{Build, Meaning, behaviours, IsWritten, HasFile, WasRecipe, CantStay, is_new, other_commands, other_writes, read_gone, read_text, IsNamed}
+use Rattle.mk_build_since.specs.Named.{Build, Meaning, behaviours, IsWritten, HasFile, WasRecipe, Rule, NewRecipe, OtherCommands, OtherWrites, ReadGone, ReadText, all_rules, HoldsOf, CantStay, IsNamed}
 use Rattle.mk_build_since.specs.Next.{IsAccepted, IsFinished, MayBecome, IsNext}
 use Rattle.mk_build_since.proofs.Deciding.{cases_always, cases_file_of, Stays, stay_cases}
 use Rattle.mk_build_since.proofs.Made.{IsMade, finished_is_made}
@@ -26,7 +26,7 @@ use Rattle.mk_build_since.proofs.Made.{IsMade, finished_is_made}
 text_is_given : (s : Setting) (f : FileName) → Has s.texts f → is_given s f ≡ true
 text_is_given s f among = or_right (has_name s.sources f) _ (or_right (begins_with_any s.fixed f) (has_name s.texts f) (has_name-from_Has s.texts f among))
 
-module _ (meaning : Meaning) (old new : Build) (accepted : IsAccepted old) (graph : IsGraph new.graph) (sound : AreSound new.graph new.setting) (before now : Disk) (made : IsMade old.graph old.setting (behaviours meaning old) before) (next : IsNext old new before now) where
+module _ (meaning : Meaning) (old new : Build) (accepted : IsAccepted old) (graph : IsGraph new.graph) (sound : AreSound new.graph new.setting) (before now : Disk) (made : IsMade old.graph old.setting (behaviours meaning old) before) (next : IsNext all_rules old new before now) where
   -- no given file is written
   not_both : (x : Build) → AreSound x.graph x.setting → (t : ℕ) (f : FileName) → Has (writes x.graph x.setting t) f → ¬ (is_given x.setting f ≡ true)
   not_both x is t f wrote given = true≢false (sym given ∙ is.not_given t f wrote)
@@ -36,7 +36,7 @@ module _ (meaning : Meaning) (old new : Build) (accepted : IsAccepted old) (grap
   writes_target t recipe sometimes = ⊎_elim (λ phony. absurd (sometimes (inl phony))) (λ not_phony. sound.target t recipe not_phony) (cases_Bool (node new.graph t).phony)
 
   -- a file of a recipe that isn't always made and can't stay isn't there
-  anew_is_gone : (t : ℕ) (f : FileName) → Has (writes new.graph new.setting t) f → ¬ (IsAlwaysMade new.graph t) → CantStay old new t → now.files f ≡ None
+  anew_is_gone : (t : ℕ) (f : FileName) → Has (writes new.graph new.setting t) f → ¬ (IsAlwaysMade new.graph t) → CantStay all_rules old new t → now.files f ≡ None
   anew_is_gone t f wrote sometimes anew =
       ⊎_elim (λ has. next.removed f (has, inr (t, wrote, sometimes, anew))) (λ not. next.lacking t f wrote not) (cases_file_of old f)
 
@@ -47,18 +47,21 @@ module _ (meaning : Meaning) (old new : Build) (accepted : IsAccepted old) (grap
         one_number old.graph accepted.graph.sound (name new.graph t) o stays.was (recipe_is_node old.graph o was.0, was.1) (recipe_is_node old.graph stays.was stays.is.0, stays.is.1)
 
     -- what stays can stay
-    can_stay : ¬ (CantStay old new t)
-    can_stay (is_new none) = none stays.was stays.is
-    can_stay (other_commands o was differ) = differ (subst (λ (k : ℕ). old.commands (name old.graph k) ≡ new.commands (name new.graph t)) (sym (same_recipe o was)) stays.commands)
-    can_stay (other_writes o was differ) = differ (subst (λ (k : ℕ). writes old.graph old.setting k ≡ writes new.graph new.setting t) (sym (same_recipe o was)) stays.files)
-    can_stay (read_gone o f was read not) = not (stays.known f (subst (λ (k : ℕ). Has (reads old.graph old.setting k) f) (same_recipe o was) read))
-    can_stay (read_text o f was read text) = stays.no_text f (subst (λ (k : ℕ). Has (reads old.graph old.setting k) f) (same_recipe o was) read) text
+    no_rule : (rule : Rule) → ¬ (HoldsOf rule old new t)
+    no_rule NewRecipe none = none stays.was stays.is
+    no_rule OtherCommands other = other.2 (subst (λ (k : ℕ). old.commands (name old.graph k) ≡ new.commands (name new.graph t)) (sym (same_recipe other.0 other.1)) stays.commands)
+    no_rule OtherWrites other = other.2 (subst (λ (k : ℕ). writes old.graph old.setting k ≡ writes new.graph new.setting t) (sym (same_recipe other.0 other.1)) stays.files)
+    no_rule ReadGone gone = gone.2.2 (stays.known gone.2.0 (subst (λ (k : ℕ). Has (reads old.graph old.setting k) gone.2.0) (same_recipe gone.0 gone.1) gone.2.1))
+    no_rule ReadText text = stays.no_text text.2.0 (subst (λ (k : ℕ). Has (reads old.graph old.setting k) text.2.0) (same_recipe text.0 text.1) text.2.1) text.2.2
+
+    can_stay : ¬ (CantStay all_rules old new t)
+    can_stay anew = no_rule anew.0 anew.2
 
     -- so its files aren't named
-    not_named : (f : FileName) → Has (writes new.graph new.setting t) f → ¬ (IsNamed old new f)
+    not_named : (f : FileName) → Has (writes new.graph new.setting t) f → ¬ (IsNamed all_rules old new f)
     not_named f wrote named =
         ⊎_elim (λ left. left.1 (inr (t, wrote)))
-        (λ anew. can_stay (subst (λ (k : ℕ). CantStay old new k) (sound.one_writer anew.0 t f anew.1 wrote) anew.3))
+        (λ anew. can_stay (subst (λ (k : ℕ). CantStay all_rules old new k) (sound.one_writer anew.0 t f anew.1 wrote) anew.3))
         named.1
 
   -- what a given file may become
@@ -82,11 +85,11 @@ module _ (meaning : Meaning) (old new : Build) (accepted : IsAccepted old) (grap
       become
 
   -- no given file is named
-  given_is_not_named : (f : FileName) → is_given new.setting f ≡ true → ¬ (IsNamed old new f)
+  given_is_not_named : (f : FileName) → is_given new.setting f ≡ true → ¬ (IsNamed all_rules old new f)
   given_is_not_named f given named = ⊎_elim (λ left. left.1 (inl given)) (λ anew. not_both new sound anew.0 f anew.1 given) named.1
 
   -- what a recipe writes and another one has read is named and gone, or not named
-  written_cases : (f : FileName) → HasFile old f → (o : ℕ) → Has (writes new.graph new.setting o) f → (now.files f ≡ None) ⊎ (¬ (IsNamed old new f))
+  written_cases : (f : FileName) → HasFile old f → (o : ℕ) → Has (writes new.graph new.setting o) f → (now.files f ≡ None) ⊎ (¬ (IsNamed all_rules old new f))
   written_cases f has o wrote =
       ⊎_elim (λ always. inr (λ named. ⊎_elim (λ left. left.1 (inr (o, wrote))) (λ anew. anew.2 (subst (λ (k : ℕ). IsAlwaysMade new.graph k) (sound.one_writer o anew.0 f wrote anew.1) always)) named.1))
       (λ not_always. ⊎_elim (λ others. inr (not_named o not_always others f wrote)) (λ anew. inl (anew_is_gone o f wrote not_always anew)) (stay_cases old new o))
@@ -161,6 +164,6 @@ module _ (meaning : Meaning) (old new : Build) (accepted : IsAccepted old) (grap
   }
 
 -- after a finished make of an accepted build the disk is
-pub next_is_coherent : (meaning : Meaning) (old new : Build) → IsAccepted old → IsGraph new.graph → AreSound new.graph new.setting → (first before now : Disk) → IsCoherentBy old.graph old.setting (behaviours meaning old) first → ArePresent old.graph old.setting (behaviours meaning old) first → IsFinished meaning old first before → IsNext old new before now → IsCoherentBy new.graph new.setting (behaviours meaning new) now
+pub next_is_coherent : (meaning : Meaning) (old new : Build) → IsAccepted old → IsGraph new.graph → AreSound new.graph new.setting → (first before now : Disk) → IsCoherentBy old.graph old.setting (behaviours meaning old) first → ArePresent old.graph old.setting (behaviours meaning old) first → IsFinished meaning old first before → IsNext all_rules old new before now → IsCoherentBy new.graph new.setting (behaviours meaning new) now
 next_is_coherent meaning old new accepted graph sound first before now coherent present finished next =
     carried meaning old new accepted graph sound before now (finished_is_made meaning old accepted first before coherent present finished) next

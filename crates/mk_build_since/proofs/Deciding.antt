@@ -8,7 +8,7 @@ use Rattle.mk_build.specs.Setting.{FileName, is_given, name, reads, writes, IsAl
 use Rattle.mk_build.proofs.Changes.{cases_name}
 use Rattle.mk_build.proofs.CleanEnd.{cases_among}
 use Rattle.mk_build.proofs.Sound.{writer_has_recipe}
-use Rattle.mk_build_since.specs.Named.{Build, IsWritten, HasFile, WasRecipe, CantStay, is_new, other_commands, other_writes, read_gone, read_text}
+use Rattle.mk_build_since.specs.Named.{Build, IsWritten, HasFile, WasRecipe, NewRecipe, OtherCommands, OtherWrites, ReadGone, ReadText, all_rules, CantStay}
 
 -- it holds or it doesn't
 abbrev pub Cases : Type 0 → Type 0
@@ -85,10 +85,10 @@ module _ (old new : Build) (t : ℕ) where
 
   module _ (o : ℕ) (was : WasRecipe old new o t) where
     -- what it read stays or not
-    read_cases : old.commands (name old.graph o) ≡ new.commands (name new.graph t) → writes old.graph old.setting o ≡ writes new.graph new.setting t → Stays ⊎ CantStay old new t
+    read_cases : old.commands (name old.graph o) ≡ new.commands (name new.graph t) → writes old.graph old.setting o ≡ writes new.graph new.setting t → Stays ⊎ CantStay all_rules old new t
     read_cases commands files =
-        ⊎_elim (λ gone. inr (read_gone o gone.0 was gone.1 gone.2))
-        (λ known. ⊎_elim (λ text. inr (read_text o text.0 was text.1 text.2))
+        ⊎_elim (λ gone. inr (ReadGone, inr (inr (inr (inl refl))), (o, was, (gone.0, gone.1, gone.2))))
+        (λ known. ⊎_elim (λ text. inr (ReadText, inr (inr (inr (inr (inl refl)))), (o, was, (text.0, text.1, text.2))))
         (λ no_text. inl (record {
           was = o;
           is = was;
@@ -100,15 +100,15 @@ module _ (old new : Build) (t : ℕ) where
         (first_among (λ f. Has new.setting.texts f) (λ f. cases_among new.setting.texts f) (reads old.graph old.setting o)))
         (first_among (λ f. ¬ (HasFile new f)) (λ f. ⊎_elim (λ has. inr (λ not. not has)) (λ not. inl not) (cases_file_of new f)) (reads old.graph old.setting o))
 
-    was_cases : Stays ⊎ CantStay old new t
+    was_cases : Stays ⊎ CantStay all_rules old new t
     was_cases =
-        ⊎_elim (λ commands. ⊎_elim (λ files. read_cases commands files) (λ differ. inr (other_writes o was differ)) (cases_texts (writes old.graph old.setting o) (writes new.graph new.setting t)))
-        (λ differ. inr (other_commands o was differ))
+        ⊎_elim (λ commands. ⊎_elim (λ files. read_cases commands files) (λ differ. inr (OtherWrites, inr (inr (inl refl)), (o, was, differ))) (cases_texts (writes old.graph old.setting o) (writes new.graph new.setting t)))
+        (λ differ. inr (OtherCommands, inr (inl refl), (o, was, differ)))
         (cases_texts (old.commands (name old.graph o)) (new.commands (name new.graph t)))
 
   -- what it wrote stays or can't
-  pub stay_cases : Stays ⊎ CantStay old new t
+  pub stay_cases : Stays ⊎ CantStay all_rules old new t
   stay_cases =
       ⊎_elim (λ found. was_cases found.0 found.1)
-      (λ none. inr (is_new (λ o was. none o (recipe_is_node old.graph o was.0) was)))
+      (λ none. inr (NewRecipe, inl refl, λ o was. none o (recipe_is_node old.graph o was.0) was))
       (first_below (λ o. WasRecipe old new o t) cases_was (length old.graph.nodes))

@@ -6,7 +6,7 @@ use Rattle.mk_graph.specs.Graph.{node}
 use Rattle.mk_build.specs.Setting.{FileName, Setting, is_given, name, reads, writes}
 use Rattle.mk_build.specs.Right.{AreSound}
 use Rattle.mk_build.proofs.Sound.{writer_has_recipe}
-use Rattle.mk_build_since.specs.Named.{Build, HasFile, CantStay, is_new, other_commands, other_writes, read_gone, read_text, IsNamed}
+use Rattle.mk_build_since.specs.Named.{Build, HasFile, Rule, NewRecipe, OtherCommands, OtherWrites, ReadGone, ReadText, all_rules, HoldsOf, IsNamed}
 use Rattle.mk_build_since.specs.SinceLaws.{HasItsRecipesIn}
 
 module _ (old new : Build) (sound : AreSound old.graph old.setting) (setting : new.setting ≡ old.setting)
@@ -28,18 +28,18 @@ module _ (old new : Build) (sound : AreSound old.graph old.setting) (setting : n
       let now = there o was in
       inr (now.0, subst (λ (l : List FileName). Has l f) (same_writes o now.0 was now.1 now.2) wrote)
 
-  -- each recipe stays
-  all_stay : (t : ℕ) → (node new.graph t).recipe ≡ true → ¬ (CantStay old new t)
-  all_stay t recipe (is_new none) = let was = back t recipe in none was.0 (was.1, sym was.2)
-  all_stay t recipe (other_commands o was differ) = differ (ap (λ (f : FileName). old.commands f) was.1 ∙ sym (commands (name new.graph t)))
-  all_stay t recipe (other_writes o was differ) = differ (same_writes o t was.0 recipe was.1)
-  all_stay t recipe (read_gone o f was read not) =
-      ⊎_elim (λ given. not (inl (ap (λ (s : Setting). is_given s f) setting ∙ given))) (λ wrote. not (still_written f wrote.0 wrote.1)) (sound.known o f read)
-  all_stay t recipe (read_text o f was read text) = no_text o f read text
+  -- no rule holds of a recipe
+  none_holds : (t : ℕ) → (node new.graph t).recipe ≡ true → (rule : Rule) → ¬ (HoldsOf rule old new t)
+  none_holds t recipe NewRecipe none = let was = back t recipe in none was.0 (was.1, sym was.2)
+  none_holds t recipe OtherCommands other = other.2 (ap (λ (f : FileName). old.commands f) other.1.1 ∙ sym (commands (name new.graph t)))
+  none_holds t recipe OtherWrites other = other.2 (same_writes other.0 t other.1.0 recipe other.1.1)
+  none_holds t recipe ReadGone gone =
+      ⊎_elim (λ given. gone.2.2 (inl (ap (λ (s : Setting). is_given s gone.2.0) setting ∙ given))) (λ wrote. gone.2.2 (still_written gone.2.0 wrote.0 wrote.1)) (sound.known gone.0 gone.2.0 gone.2.1)
+  none_holds t recipe ReadText text = no_text text.0 text.2.0 text.2.1 text.2.2
 
   -- so nothing is named
-  pub nothing_named : (f : FileName) → ¬ (IsNamed old new f)
+  pub nothing_named : (f : FileName) → ¬ (IsNamed all_rules old new f)
   nothing_named f named =
       ⊎_elim (λ left. left.1 (still_written f left.0.0 left.0.1))
-      (λ anew. all_stay anew.0 (writer_has_recipe new.graph new.setting anew.0 f anew.1) anew.3)
+      (λ anew. none_holds anew.0 (writer_has_recipe new.graph new.setting anew.0 f anew.1) anew.3.0 anew.3.2)
       named.1

@@ -1,5 +1,5 @@
 -- Which files of an old build are to be removed before makes of a new one.
-use Rattle.std.specs.Prelude.{◌≡◌, ℕ, List, true, ◌⊎◌}
+use Rattle.std.specs.Prelude.{◌≡◌, ℕ, List, [], ◌∷◌, true, ◌⊎◌}
 use Rattle.mk_graph.specs.Membership.{Has}
 use Rattle.mk_graph.specs.Graph.{Graph, node}
 use Rattle.mk_build.specs.Setting.{FileName, Setting, is_given, name, reads, writes, IsAlwaysMade}
@@ -37,31 +37,51 @@ abbrev pub WasRecipe : (old new : Build) → (o t : ℕ) → Type 0
 WasRecipe old new o t =
     ((node old.graph o).recipe ≡ true) × (name old.graph o ≡ name new.graph t)
 
--- What the recipe t of the new build wrote before can't stay: the old build has no such recipe, or
--- that has other commands, or writes other files, or read a file that the new build doesn't have, or
--- read a makefile text.
-pub data CantStay (old new : Build) (t : ℕ) : Type 0 where
-  is_new : ((o : ℕ) → ¬ (WasRecipe old new o t)) → CantStay old new t
-  other_commands : (o : ℕ) → WasRecipe old new o t →
-      ¬ (old.commands (name old.graph o) ≡ new.commands (name new.graph t)) → CantStay old new t
-  other_writes : (o : ℕ) → WasRecipe old new o t →
-      ¬ (writes old.graph old.setting o ≡ writes new.graph new.setting t) → CantStay old new t
-  read_gone : (o : ℕ) (f : FileName) → WasRecipe old new o t →
-      Has (reads old.graph old.setting o) f → ¬ (HasFile new f) → CantStay old new t
-  read_text : (o : ℕ) (f : FileName) → WasRecipe old new o t →
-      Has (reads old.graph old.setting o) f → Has new.setting.texts f → CantStay old new t
+-- The rules by which what a recipe wrote before can't stay.
+pub data Rule : Type 0 where
+  NewRecipe : Rule
+  OtherCommands : Rule
+  OtherWrites : Rule
+  ReadGone : Rule
+  ReadText : Rule
+
+-- All rules.
+abbrev pub all_rules : List Rule
+all_rules = NewRecipe ∷ OtherCommands ∷ OtherWrites ∷ ReadGone ∷ ReadText ∷ []
+
+-- The rule holds of the recipe t of the new build. The old build has no recipe with its target; or
+-- that has other commands, writes other files, read a file that the new build doesn't have, or read a
+-- makefile text.
+abbrev pub HoldsOf : Rule → (old new : Build) → ℕ → Type 0
+HoldsOf NewRecipe old new t = (o : ℕ) → ¬ (WasRecipe old new o t)
+HoldsOf OtherCommands old new t =
+    (o : ℕ) × WasRecipe old new o t ×
+    (¬ (old.commands (name old.graph o) ≡ new.commands (name new.graph t)))
+HoldsOf OtherWrites old new t =
+    (o : ℕ) × WasRecipe old new o t ×
+    (¬ (writes old.graph old.setting o ≡ writes new.graph new.setting t))
+HoldsOf ReadGone old new t =
+    (o : ℕ) × WasRecipe old new o t ×
+    ((f : FileName) × Has (reads old.graph old.setting o) f × (¬ (HasFile new f)))
+HoldsOf ReadText old new t =
+    (o : ℕ) × WasRecipe old new o t ×
+    ((f : FileName) × Has (reads old.graph old.setting o) f × Has new.setting.texts f)
+
+-- One of these rules holds of the recipe, so what it wrote before can't stay.
+abbrev pub CantStay : List Rule → (old new : Build) → ℕ → Type 0
+CantStay rules old new t = (rule : Rule) × Has rules rule × HoldsOf rule old new t
 
 -- The file is left over: a recipe of the old build wrote it, and the new build doesn't have it.
 abbrev pub IsLeftOver : (old new : Build) → FileName → Type 0
 IsLeftOver old new f = IsWritten old f × (¬ (HasFile new f))
 
--- The file is made anew: a recipe of the new build writes it that isn't made in every make, and what
--- that wrote before can't stay.
-abbrev pub IsMadeAnew : (old new : Build) → FileName → Type 0
-IsMadeAnew old new f =
+-- By these rules the file is made anew: a recipe of the new build writes it that isn't made in every
+-- make, and what that wrote before can't stay.
+abbrev pub IsMadeAnew : List Rule → (old new : Build) → FileName → Type 0
+IsMadeAnew rules old new f =
     (t : ℕ) × Has (writes new.graph new.setting t) f × (¬ (IsAlwaysMade new.graph t)) ×
-    CantStay old new t
+    CantStay rules old new t
 
--- The file is named: the old build has it, and it is left over or made anew.
-abbrev pub IsNamed : (old new : Build) → FileName → Type 0
-IsNamed old new f = HasFile old f × (IsLeftOver old new f ⊎ IsMadeAnew old new f)
+-- These rules name the file: the old build has it, and it is left over or made anew.
+abbrev pub IsNamed : List Rule → (old new : Build) → FileName → Type 0
+IsNamed rules old new f = HasFile old f × (IsLeftOver old new f ⊎ IsMadeAnew rules old new f)

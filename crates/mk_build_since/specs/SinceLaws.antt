@@ -10,7 +10,7 @@ use Rattle.mk_build_behaviours.specs.BehaviourLaws.{StayPresent}
 use Rattle.mk_build_behaviours.specs.CleanBy.{IsRightBy, ArePresent}
 use Rattle.mk_build_behaviours.specs.CoherentBy.{IsCoherentBy}
 use Rattle.mk_build_behaviours.specs.StepsBy.{IsLegalBy, after_all_by}
-use Rattle.mk_build_since.specs.Named.{Build, Meaning, behaviours, IsNamed}
+use Rattle.mk_build_since.specs.Named.{Build, Meaning, behaviours, all_rules, IsNamed}
 use Rattle.mk_build_since.specs.Next.{IsAccepted, IsFinished, IsNext}
 
 -- Take a finished make of all goals of an accepted build, with present footprints, from a coherent
@@ -22,7 +22,7 @@ NextIsCoherent =
     AreSound new.graph new.setting → (first before now : Disk) →
     IsCoherentBy old.graph old.setting (behaviours meaning old) first →
     ArePresent old.graph old.setting (behaviours meaning old) first →
-    IsFinished meaning old first before → IsNext old new before now →
+    IsFinished meaning old first before → IsNext all_rules old new before now →
     IsCoherentBy new.graph new.setting (behaviours meaning new) now
 
 -- If the new build is accepted too, and its footprints are present whenever a make of it begins, then
@@ -34,7 +34,7 @@ NextBuildsAreRight =
     (first before now : Disk) →
     IsCoherentBy old.graph old.setting (behaviours meaning old) first →
     ArePresent old.graph old.setting (behaviours meaning old) first →
-    IsFinished meaning old first before → IsNext old new before now → (steps : List Step) →
+    IsFinished meaning old first before → IsNext all_rules old new before now → (steps : List Step) →
     IsLegalBy new.graph new.setting (behaviours meaning new) (Idle now) steps →
     StayPresent new.graph new.setting (behaviours meaning new) (Idle now) steps →
     IsRightBy new.graph new.setting (behaviours meaning new)
@@ -56,4 +56,4 @@ PrerequisitesNameNothing =
     HasItsRecipesIn old.graph new.graph → HasItsRecipesIn new.graph old.graph →
     ((o : ℕ) (f : FileName) → Has (reads old.graph old.setting o) f →
     ¬ (Has new.setting.texts f)) →
-    (f : FileName) → ¬ (IsNamed old new f)
+    (f : FileName) → ¬ (IsNamed all_rules old new f)
