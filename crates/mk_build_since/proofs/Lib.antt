@@ -2,3 +2,8 @@ mod Deciding
 mod Made
 mod Carrying
 mod Unchanged
+mod OneNode
+mod NewRecipe
+mod OtherCommands
+mod ReadText
+mod OtherWrites

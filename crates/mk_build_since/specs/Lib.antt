@@ -1,3 +1,4 @@
 pub mod Named
 pub mod Next
 pub mod SinceLaws
+pub mod Needed

@@ -1,6 +1,7 @@
 //! Laws of changes of the makefile. Each is the contract of an empty function; calling the function
 //! gives the law.
 
+ghost use Rattle.mk_build_since.specs.Needed.{RulesAreNeeded};
 ghost use Rattle.mk_build_since.specs.SinceLaws.{NextIsCoherent, NextBuildsAreRight, PrerequisitesNameNothing};
 
 /// After a finished make of all goals of an accepted build, any edits, new and deleted sources, and
@@ -18,4 +19,10 @@ pub fn next_builds_are_right()
 /// nothing is named.
 pub fn prerequisites_name_nothing()
     ensures { PrerequisitesNameNothing }
+{}
+
+/// Without the rule of new recipes, of other commands, of other writes or of makefile texts, the
+/// others fall short.
+pub fn rules_are_needed()
+    ensures { RulesAreNeeded }
 {}
