@@ -19,7 +19,7 @@ use Rattle.mk_build_behaviours.specs.CleanBy.{ArePresent}
 use Rattle.mk_build_behaviours.specs.CoherentBy.{IsAsLeftBy, IsCoherentBy}
 use Rattle.mk_build_since.specs.Named.{Build, Meaning, behaviours, IsWritten, HasFile, WasRecipe, Rule, NewRecipe, OtherCommands, OtherWrites, ReadGone, ReadText, all_rules, HoldsOf, CantStay, IsNamed}
 use Rattle.mk_build_since.specs.Next.{IsAccepted, IsFinished, MayBecome, IsNext}
-use Rattle.mk_build_since.proofs.Deciding.{cases_always, cases_file_of, Stays, stay_cases}
+use Rattle.mk_build_since.proofs.Deciding.{cases_always, cases_owned, Stays, stay_cases}
 use Rattle.mk_build_since.proofs.Made.{IsMade, finished_is_made}
 
 -- a makefile text is given
@@ -38,7 +38,7 @@ module _ (meaning : Meaning) (old new : Build) (accepted : IsAccepted old) (grap
   -- a file of a recipe that isn't always made and can't stay isn't there
   anew_is_gone : (t : ℕ) (f : FileName) → Has (writes new.graph new.setting t) f → ¬ (IsAlwaysMade new.graph t) → CantStay all_rules old new t → now.files f ≡ None
   anew_is_gone t f wrote sometimes anew =
-      ⊎_elim (λ has. next.removed f (has, inr (t, wrote, sometimes, anew))) (λ not. next.lacking t f wrote not) (cases_file_of old f)
+      ⊎_elim (λ has. next.removed f (has, inr (t, wrote, sometimes, anew))) (λ not. next.lacking t f wrote not) (cases_owned old f)
 
   module _ (t : ℕ) (sometimes : ¬ (IsAlwaysMade new.graph t)) (stays : Stays old new t) where
     -- two recipes of the old build with the target are one

@@ -8,7 +8,7 @@ use Rattle.mk_build.specs.Setting.{FileName, is_given, name, reads, writes, IsAl
 use Rattle.mk_build.proofs.Changes.{cases_name}
 use Rattle.mk_build.proofs.CleanEnd.{cases_among}
 use Rattle.mk_build.proofs.Sound.{writer_has_recipe}
-use Rattle.mk_build_since.specs.Named.{Build, IsWritten, HasFile, WasRecipe, NewRecipe, OtherCommands, OtherWrites, ReadGone, ReadText, all_rules, CantStay}
+use Rattle.mk_build_since.specs.Named.{Build, IsWritten, HasFile, OwnsFile, WasRecipe, NewRecipe, OtherCommands, OtherWrites, ReadGone, ReadText, all_rules, CantStay}
 
 -- it holds or it doesn't
 abbrev pub Cases : Type 0 → Type 0
@@ -65,6 +65,15 @@ module _ (x : Build) where
       ⊎_elim (λ given. inl (inl given))
       (λ not_given. ⊎_elim (λ wrote. inl (inr wrote)) (λ none. inr (λ has. ⊎_elim (λ given. true≢false (sym given ∙ not_given)) none has)) (cases_written f))
       (cases_Bool (is_given x.setting f))
+
+  -- itself or not
+  pub cases_owned : (f : FileName) → Cases (OwnsFile x f)
+  cases_owned f =
+      ⊎_elim (λ source. inl (inl source))
+      (λ no_source. ⊎_elim (λ text. inl (inr (inl text)))
+      (λ no_text. ⊎_elim (λ wrote. inl (inr (inr wrote))) (λ none. inr (λ owns. ⊎_elim no_source (λ rest. ⊎_elim no_text none rest) owns)) (cases_written f))
+      (cases_among x.setting.texts f))
+      (cases_among x.setting.sources f)
 
 module _ (old new : Build) (t : ℕ) where
   -- The recipe was there with its commands and writes, and read only files that the new build has, none of them a makefile text.

@@ -85,7 +85,7 @@ next = record {
   stamped = stamped;
   removed = λ f named. absurd (unnamed f named);
   others = λ f has out. inl refl;
-  lacking = λ t f wrote not. let same : target ≡ f = in_one target f (only_writes made true t f wrote).2 in absurd (not (inl (subst (λ (k : FileName). is_given source k ≡ true) same refl)));
+  lacking = λ t f wrote not. let same : target ≡ f = in_one target f (only_writes made true t f wrote).2 in absurd (not (inl (inl same)));
 }
 
 -- the clean contents

@@ -71,7 +71,7 @@ next = record {
   stamped = written_stamped empty target 0 empty_stamped;
   removed = λ f named. absurd (unnamed f named);
   others = λ f has out. inl refl;
-  lacking = λ t f wrote not. absurd (not (inr (t, wrote)));
+  lacking = λ t f wrote not. absurd (not (inr (inr (t, wrote))));
 }
 
 -- a make of the new build passes the recipe

@@ -11,7 +11,7 @@ use Rattle.mk_build_behaviours.specs.Behaviours.{Write}
 use Rattle.mk_build_behaviours.specs.StepsBy.{after_all_by}
 use Rattle.mk_build_behaviours.proofs.Coherence.{start_is_coherent_by}
 use Rattle.mk_build_behaviours.proofs.Traces.{sound_without_reads}
-use Rattle.mk_build_since.specs.Named.{Build, Meaning, behaviours, HasFile, Rule, NewRecipe, OtherCommands, OtherWrites, ReadGone, ReadText, HoldsOf, IsNamed}
+use Rattle.mk_build_since.specs.Named.{Build, Meaning, behaviours, HasFile, OwnsFile, Rule, NewRecipe, OtherCommands, OtherWrites, ReadGone, ReadText, HoldsOf, IsNamed}
 use Rattle.mk_build_since.specs.Next.{IsAccepted, MayBecome, IsNext}
 use Rattle.mk_build_since.specs.Needed.{FallShort}
 use Rattle.mk_build_since.proofs.OneNode.{target, one, only_writes, only_reads, accepted, present, can_start, is_part, passes, not_built, making_in, in_two, not_none, empty, empty_start, empty_stamped, written_stamped, without_stamped}
@@ -91,13 +91,13 @@ others : (f : FileName) → HasFile (writing was) f → ¬ (IsNamed rules (writi
 others f has out =
     ⊎_elim (λ given. absurd (false≢true given))
     (λ wrote. ⊎_elim (λ same. inl (subst (λ (k : FileName). now.files k ≡ before.files k) same refl))
-    (λ same. absurd (out (subst (λ (k : FileName). IsNamed rules (writing was) (writing is) k) same (inr (0, inr (inl refl)), inl ((0, inr (inl refl)), lacks)))))
+    (λ same. absurd (out (subst (λ (k : FileName). IsNamed rules (writing was) (writing is) k) same (inr (inr (0, inr (inl refl))), inl ((0, inr (inl refl)), lacks)))))
     (in_two target was f (only_writes (with_second was) true wrote.0 f wrote.1).2))
     has
 
 -- and the new one a file that isn't there
-not_there : (f : FileName) → (target ≡ f) ⊎ (is ≡ f) → ¬ (HasFile (writing was) f) → now.files f ≡ None
-not_there f (inl same) out = absurd (out (inr (0, inl same)))
+not_there : (f : FileName) → (target ≡ f) ⊎ (is ≡ f) → ¬ (OwnsFile (writing was) f) → now.files f ≡ None
+not_there f (inl same) out = absurd (out (inr (inr (0, inl same))))
 not_there f (inr same) out = subst (λ (k : FileName). now.files k ≡ None) same refl
 
 next : IsNext rules (writing was) (writing is) before now

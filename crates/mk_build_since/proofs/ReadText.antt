@@ -115,7 +115,7 @@ next = record {
   stamped = written_stamped before makefile 1 (written_stamped first target 0 (written_stamped empty makefile 0 empty_stamped));
   removed = λ f named. absurd (unnamed f named);
   others = λ f has out. others f;
-  lacking = λ t f wrote not. absurd (not (inr (t, wrote)));
+  lacking = λ t f wrote not. absurd (not (inr (inr (t, wrote))));
 }
 
 -- a make passes the recipe

@@ -32,6 +32,11 @@ IsWritten x f = (o : ℕ) × Has (writes x.graph x.setting o) f
 abbrev pub HasFile : Build → FileName → Type 0
 HasFile x f = (is_given x.setting f ≡ true) ⊎ IsWritten x f
 
+-- The build has the file itself: it is a source or a makefile text, or a recipe writes it. Files
+-- under fixed prefixes are elsewhere.
+abbrev pub OwnsFile : Build → FileName → Type 0
+OwnsFile x f = Has x.setting.sources f ⊎ Has x.setting.texts f ⊎ IsWritten x f
+
 -- o is the recipe of the old build whose target is that of t in the new build.
 abbrev pub WasRecipe : (old new : Build) → (o t : ℕ) → Type 0
 WasRecipe old new o t =
@@ -82,6 +87,6 @@ IsMadeAnew rules old new f =
     (t : ℕ) × Has (writes new.graph new.setting t) f × (¬ (IsAlwaysMade new.graph t)) ×
     CantStay rules old new t
 
--- These rules name the file: the old build has it, and it is left over or made anew.
+-- These rules name the file: the old build has it itself, and it is left over or made anew.
 abbrev pub IsNamed : List Rule → (old new : Build) → FileName → Type 0
-IsNamed rules old new f = HasFile old f × (IsLeftOver old new f ⊎ IsMadeAnew rules old new f)
+IsNamed rules old new f = OwnsFile old f × (IsLeftOver old new f ⊎ IsMadeAnew rules old new f)

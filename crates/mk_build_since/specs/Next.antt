@@ -8,7 +8,7 @@ use Rattle.mk_build.specs.Steps.{Step, Make, EndMake, Allowed}
 use Rattle.mk_build.specs.BuildLaws.{AreInside}
 use Rattle.mk_build.specs.Right.{AreSound, HaveNoRace, HaveWays}
 use Rattle.mk_build_behaviours.specs.StepsBy.{IsLegalBy, after_all_by}
-use Rattle.mk_build_since.specs.Named.{Build, Meaning, behaviours, HasFile, Rule, IsNamed}
+use Rattle.mk_build_since.specs.Named.{Build, Meaning, behaviours, HasFile, OwnsFile, Rule, IsNamed}
 
 -- The build is accepted: its footprints are sound, there is no race, and each read of a file that
 -- can change has a way.
@@ -43,7 +43,7 @@ MayBecome old new before now f =
 
 -- The disk after the change: the clock didn't go back and no stamp is later than it; the files that
 -- these rules name are removed; each other file of the old build has become what it may; and what a
--- recipe of the new build writes and the old build doesn't have isn't there.
+-- recipe of the new build writes and the old build doesn't have itself isn't there.
 pub record IsNext (rules : List Rule) (old new : Build) (before now : Disk) : Type 0 where
   pub came : before.clock ≤ now.clock
   pub stamped : (f : FileName) (stamp : ℕ) → HasStamp now f stamp → stamp ≤ now.clock
@@ -51,4 +51,4 @@ pub record IsNext (rules : List Rule) (old new : Build) (before now : Disk) : Ty
   pub others : (f : FileName) → HasFile old f → ¬ (IsNamed rules old new f) → MayBecome old new
       before now f
   pub lacking : (t : ℕ) (f : FileName) → Has (writes new.graph new.setting t) f →
-      ¬ (HasFile old f) → now.files f ≡ None
+      ¬ (OwnsFile old f) → now.files f ≡ None
