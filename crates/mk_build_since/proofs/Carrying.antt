@@ -1,0 +1,169 @@
+-- What a finished make of the old build left is coherent for the new build.
+use Rattle.std.proofs.Common.{◌≡◌, ℕ, List, true, false, Option, Some, None, map, ◌⊎◌, inl, inr, ⊎_elim, sym, ◌∙◌, ap, subst, arith}
+use Rattle.std.specs.Option.{option_map}
+use Rattle.std.proofs.lemmas.Bool.{cases_Bool, or_right, true≢false}
+use Rattle.mk_lines.specs.Names.{has_name, begins_with_any}
+use Rattle.mk_lines.proofs.NameTests.{has_name-from_Has}
+use Rattle.mk_graph.specs.Membership.{Has}
+use Rattle.mk_graph.specs.Graph.{node, IsGraph}
+use Rattle.mk_graph.proofs.Nodes.{recipe_is_node}
+use Rattle.mk_build.specs.Setting.{FileName, Setting, is_given, name, reads, writes, IsAlwaysMade}
+use Rattle.mk_build.specs.World.{File, Disk, content, HasStamp}
+use Rattle.mk_build.specs.Right.{AreSound}
+use Rattle.mk_build.specs.Coherent.{LastRun, IsBoundToRun, ContainsOrChanged}
+use Rattle.mk_build.proofs.Sound.{editable_is_given}
+use Rattle.mk_build.proofs.Writing.{map_same}
+use Rattle.mk_build.proofs.ChainWays.{one_number}
+use Rattle.mk_build_behaviours.specs.Behaviours.{Behaviour, behaviour, path, result}
+use Rattle.mk_build_behaviours.specs.CleanBy.{ArePresent}
+use Rattle.mk_build_behaviours.specs.CoherentBy.{IsAsLeftBy, IsCoherentBy}
+use Rattle.mk_build_since.specs.Named.{Build, Meaning, behaviours, IsWritten, HasFile, WasRecipe, Rule, NewRecipe, OtherCommands, OtherWrites, ReadGone, ReadText, all_rules, HoldsOf, CantStay, IsNamed}
+use Rattle.mk_build_since.specs.Next.{IsAccepted, IsFinished, MayBecome, IsNext}
+use Rattle.mk_build_since.proofs.Deciding.{cases_always, cases_owned, Stays, stay_cases}
+use Rattle.mk_build_since.proofs.Made.{IsMade, finished_is_made}
+
+-- a makefile text is given
+text_is_given : (s : Setting) (f : FileName) → Has s.texts f → is_given s f ≡ true
+text_is_given s f among = or_right (has_name s.sources f) _ (or_right (begins_with_any s.fixed f) (has_name s.texts f) (has_name-from_Has s.texts f among))
+
+module _ (meaning : Meaning) (old new : Build) (accepted : IsAccepted old) (graph : IsGraph new.graph) (sound : AreSound new.graph new.setting) (before now : Disk) (made : IsMade old.graph old.setting (behaviours meaning old) before) (next : IsNext all_rules old new before now) where
+  -- no given file is written
+  not_both : (x : Build) → AreSound x.graph x.setting → (t : ℕ) (f : FileName) → Has (writes x.graph x.setting t) f → ¬ (is_given x.setting f ≡ true)
+  not_both x is t f wrote given = true≢false (sym given ∙ is.not_given t f wrote)
+
+  -- a recipe that isn't always made writes its target
+  writes_target : (t : ℕ) → (node new.graph t).recipe ≡ true → ¬ (IsAlwaysMade new.graph t) → Has (writes new.graph new.setting t) (name new.graph t)
+  writes_target t recipe sometimes = ⊎_elim (λ phony. absurd (sometimes (inl phony))) (λ not_phony. sound.target t recipe not_phony) (cases_Bool (node new.graph t).phony)
+
+  -- a file of a recipe that isn't always made and can't stay isn't there
+  anew_is_gone : (t : ℕ) (f : FileName) → Has (writes new.graph new.setting t) f → ¬ (IsAlwaysMade new.graph t) → CantStay all_rules old new t → now.files f ≡ None
+  anew_is_gone t f wrote sometimes anew =
+      ⊎_elim (λ has. next.removed f (has, inr (t, wrote, sometimes, anew))) (λ not. next.lacking t f wrote not) (cases_owned old f)
+
+  module _ (t : ℕ) (sometimes : ¬ (IsAlwaysMade new.graph t)) (stays : Stays old new t) where
+    -- two recipes of the old build with the target are one
+    same_recipe : (o : ℕ) → WasRecipe old new o t → o ≡ stays.was
+    same_recipe o was =
+        one_number old.graph accepted.graph.sound (name new.graph t) o stays.was (recipe_is_node old.graph o was.0, was.1) (recipe_is_node old.graph stays.was stays.is.0, stays.is.1)
+
+    -- what stays can stay
+    no_rule : (rule : Rule) → ¬ (HoldsOf rule old new t)
+    no_rule NewRecipe none = none stays.was stays.is
+    no_rule OtherCommands other = other.2 (subst (λ (k : ℕ). old.commands (name old.graph k) ≡ new.commands (name new.graph t)) (sym (same_recipe other.0 other.1)) stays.commands)
+    no_rule OtherWrites other = other.2 (subst (λ (k : ℕ). writes old.graph old.setting k ≡ writes new.graph new.setting t) (sym (same_recipe other.0 other.1)) stays.files)
+    no_rule ReadGone gone = gone.2.2 (stays.known gone.2.0 (subst (λ (k : ℕ). Has (reads old.graph old.setting k) gone.2.0) (same_recipe gone.0 gone.1) gone.2.1))
+    no_rule ReadText text = stays.no_text text.2.0 (subst (λ (k : ℕ). Has (reads old.graph old.setting k) text.2.0) (same_recipe text.0 text.1) text.2.1) text.2.2
+
+    can_stay : ¬ (CantStay all_rules old new t)
+    can_stay anew = no_rule anew.0 anew.2
+
+    -- so its files aren't named
+    not_named : (f : FileName) → Has (writes new.graph new.setting t) f → ¬ (IsNamed all_rules old new f)
+    not_named f wrote named =
+        ⊎_elim (λ left. left.1 (inr (t, wrote)))
+        (λ anew. can_stay (subst (λ (k : ℕ). CantStay all_rules old new k) (sound.one_writer anew.0 t f anew.1 wrote) anew.3))
+        named.1
+
+  -- what a given file may become
+  from_given : (f : FileName) → is_given new.setting f ≡ true → ¬ (Has new.setting.texts f) → MayBecome old new before now f → ContainsOrChanged new.graph new.setting now f (content before f) before.clock
+  from_given f given no_text become =
+      ⊎_elim (λ same. inl (ap (λ (o : Option File). option_map (λ (file : File). file.content) o) same))
+      (λ rest. ⊎_elim (λ edited. inr (inl (inl edited.0, edited.1)))
+      (λ more. ⊎_elim (λ text. absurd (no_text text))
+      (λ dropped. absurd (true≢false (sym given ∙ dropped.1)))
+      more) rest)
+      become
+
+  -- what a written one may
+  from_written : (f : FileName) → IsWritten new f → is_given new.setting f ≡ false → ¬ (Has new.setting.texts f) → MayBecome old new before now f → ContainsOrChanged new.graph new.setting now f (content before f) before.clock
+  from_written f wrote not_given no_text become =
+      ⊎_elim (λ same. inl (ap (λ (o : Option File). option_map (λ (file : File). file.content) o) same))
+      (λ rest. ⊎_elim (λ edited. inr (inl (inl edited.0, edited.1)))
+      (λ more. ⊎_elim (λ text. absurd (no_text text))
+      (λ dropped. ⊎_elim (λ none. inr (inr (none, wrote))) (λ later. inr (inl (inr not_given, later))) dropped.2)
+      more) rest)
+      become
+
+  -- no given file is named
+  given_is_not_named : (f : FileName) → is_given new.setting f ≡ true → ¬ (IsNamed all_rules old new f)
+  given_is_not_named f given named = ⊎_elim (λ left. left.1 (inl given)) (λ anew. not_both new sound anew.0 f anew.1 given) named.1
+
+  -- what a recipe writes and another one has read is named and gone, or not named
+  written_cases : (f : FileName) → HasFile old f → (o : ℕ) → Has (writes new.graph new.setting o) f → (now.files f ≡ None) ⊎ (¬ (IsNamed all_rules old new f))
+  written_cases f has o wrote =
+      ⊎_elim (λ always. inr (λ named. ⊎_elim (λ left. left.1 (inr (o, wrote))) (λ anew. anew.2 (subst (λ (k : ℕ). IsAlwaysMade new.graph k) (sound.one_writer o anew.0 f wrote anew.1) always)) named.1))
+      (λ not_always. ⊎_elim (λ others. inr (not_named o not_always others f wrote)) (λ anew. inl (anew_is_gone o f wrote not_always anew)) (stay_cases old new o))
+      (cases_always new.graph o)
+
+  module _ (t : ℕ) (sometimes : ¬ (IsAlwaysMade new.graph t)) (stays : Stays old new t) where
+    -- the old recipe wrote them
+    was_written : (f : FileName) → Has (writes new.graph new.setting t) f → Has (writes old.graph old.setting stays.was) f
+    was_written f wrote = subst (λ (l : List FileName). Has l f) (sym stays.files) wrote
+
+    -- and they are as they were
+    as_before : (f : FileName) → Has (writes new.graph new.setting t) f → now.files f ≡ before.files f
+    as_before f wrote =
+        ⊎_elim (λ same. same)
+        (λ rest. ⊎_elim (λ edited. absurd (not_both new sound t f wrote (editable_is_given new.setting f edited.0)))
+        (λ more. ⊎_elim (λ text. absurd (not_both new sound t f wrote (text_is_given new.setting f text)))
+        (λ dropped. absurd (not_both old accepted.sound stays.was f (was_written f wrote) dropped.0))
+        more) rest)
+        (next.others f (inr (stays.was, was_written f wrote)) (not_named t sometimes stays f wrote))
+
+    -- the behaviour is the same
+    same_behaviour : behaviour old.graph (behaviours meaning old) stays.was ≡ behaviour new.graph (behaviours meaning new) t
+    same_behaviour = ap (λ (n : FileName). meaning n (old.commands (name old.graph stays.was))) stays.is.1 ∙ ap (λ (c : List (List ℕ)). meaning (name new.graph t) c) stays.commands
+
+    -- the old build has what the old recipe read
+    was_there : (f : FileName) → Has (reads old.graph old.setting stays.was) f → HasFile old f
+    was_there f read = ⊎_elim (λ given. inl given) (λ wrote. inr wrote) (accepted.sound.known stays.was f read)
+
+    -- what it read is there or has changed since
+    saw : (f : FileName) → Has (reads old.graph old.setting stays.was) f → ContainsOrChanged new.graph new.setting now f (content before f) before.clock
+    saw f read =
+        let no_text = stays.no_text f read in
+        let has = was_there f read in
+        ⊎_elim (λ given. from_given f given no_text (next.others f has (given_is_not_named f given)))
+        (λ wrote. ⊎_elim (λ none. inr (inr (none, wrote)))
+        (λ unnamed. from_written f wrote (sound.not_given wrote.0 f wrote.1) no_text (next.others f has unnamed))
+        (written_cases f has wrote.0 wrote.1))
+        (stays.known f read)
+
+    -- so it is as its last run left it
+    abbrev run : LastRun
+    run = record { began = 0; ended = before.clock; saw = content before }
+
+    is_as_left : IsAsLeftBy new.graph new.setting (behaviours meaning new) run now t
+    is_as_left = record {
+      holds = map_same (content now) (content before) (writes new.graph new.setting t) (λ f wrote. ap (λ (o : Option File). option_map (λ (file : File). file.content) o) (as_before f wrote))
+          ∙ (subst (λ (l : List FileName). map (content before) l ≡ map (λ c. Some c) (result (behaviour old.graph (behaviours meaning old) stays.was) (content before))) stays.files (made.holds stays.was stays.is.0)
+          ∙ ap (λ (b : Behaviour). map (λ c. Some c) (result b (content before))) same_behaviour);
+      during = λ f stamp wrote has.
+          let was : HasStamp before f stamp = ap (λ (o : Option File). option_map (λ (file : File). file.stamp) o) (sym (as_before f wrote)) ∙ has in
+          (made.late stays.was f stamp (was_written f wrote) was, made.stamped f stamp was);
+      saw = λ f on. saw f (made.within stays.was stays.is.0 f (subst (λ (b : Behaviour). Has (path b (content before)) f) (sym same_behaviour) on));
+    }
+
+  -- a recipe is bound to run or as it was left
+  left : (t : ℕ) → (node new.graph t).recipe ≡ true → IsBoundToRun new.graph new.setting now t ⊎ IsAsLeftBy new.graph new.setting (behaviours meaning new) (record { began = 0; ended = before.clock; saw = content before }) now t
+  left t recipe =
+      ⊎_elim (λ always. inl (inl (inl always)))
+      (λ sometimes. ⊎_elim (λ stays. inr (is_as_left t sometimes stays))
+      (λ anew. inl (inl (inr (inl (anew_is_gone t (name new.graph t) (writes_target t recipe sometimes) sometimes anew)))))
+      (stay_cases old new t))
+      (cases_always new.graph t)
+
+  -- the disk is coherent for the new build
+  pub carried : IsCoherentBy new.graph new.setting (behaviours meaning new) now
+  carried = record {
+    last = λ t. record { began = 0; ended = before.clock; saw = content before };
+    stamped = next.stamped;
+    came = λ t. let later = next.came in (omega arith, omega arith);
+    left = λ t recipe stopped. left t recipe;
+    apart = λ o t is_before. inl (omega arith);
+  }
+
+-- after a finished make of an accepted build the disk is
+pub next_is_coherent : (meaning : Meaning) (old new : Build) → IsAccepted old → IsGraph new.graph → AreSound new.graph new.setting → (first before now : Disk) → IsCoherentBy old.graph old.setting (behaviours meaning old) first → ArePresent old.graph old.setting (behaviours meaning old) first → IsFinished meaning old first before → IsNext all_rules old new before now → IsCoherentBy new.graph new.setting (behaviours meaning new) now
+next_is_coherent meaning old new accepted graph sound first before now coherent present finished next =
+    carried meaning old new accepted graph sound before now (finished_is_made meaning old accepted first before coherent present finished) next

@@ -1,0 +1,9 @@
+mod Deciding
+mod Made
+mod Carrying
+mod Unchanged
+mod OneNode
+mod NewRecipe
+mod OtherCommands
+mod ReadText
+mod OtherWrites

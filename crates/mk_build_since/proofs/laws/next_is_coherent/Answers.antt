@@ -1,0 +1,6 @@
+-- What stays of a finished make is coherent.
+use Rattle.mk_build_since.proofs.Carrying.{next_is_coherent}
+use Rattle.mk_build_since.proofs.laws.next_is_coherent.Goals as goal
+
+pub returns : goal.returns
+returns c = λ meaning old new is graph sound first before now coherent present made next. next_is_coherent meaning old new is graph sound first before now coherent present made next

@@ -1,0 +1,4 @@
+pub mod Named
+pub mod Next
+pub mod SinceLaws
+pub mod Needed

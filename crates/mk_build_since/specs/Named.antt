@@ -1,0 +1,92 @@
+-- Which files of an old build are to be removed before makes of a new one.
+use Rattle.std.specs.Prelude.{◌≡◌, ℕ, List, [], ◌∷◌, true, ◌⊎◌}
+use Rattle.mk_graph.specs.Membership.{Has}
+use Rattle.mk_graph.specs.Graph.{Graph, node}
+use Rattle.mk_build.specs.Setting.{FileName, Setting, is_given, name, reads, writes, IsAlwaysMade}
+use Rattle.mk_build_behaviours.specs.Behaviours.{Behaviour, Behaviours}
+
+-- The commands of a recipe, each as its bytes.
+abbrev pub Commands : Type 0
+Commands = List (List ℕ)
+
+-- A build: its graph, its footprints and files, and the commands of each recipe, by its target's
+-- name.
+pub record Build : Type 0 where
+  pub graph : Graph
+  pub setting : Setting
+  pub commands : FileName → Commands
+
+-- How recipes behave: the target and the commands decide it, in each build.
+abbrev pub Meaning : Type 0
+Meaning = FileName → Commands → Behaviour
+
+-- The behaviours of the recipes of a build.
+abbrev pub behaviours : Meaning → Build → Behaviours
+behaviours meaning x target = meaning target (x.commands target)
+
+-- A recipe of the build writes the file.
+abbrev pub IsWritten : Build → FileName → Type 0
+IsWritten x f = (o : ℕ) × Has (writes x.graph x.setting o) f
+
+-- The build has the file: it is given, or a recipe writes it.
+abbrev pub HasFile : Build → FileName → Type 0
+HasFile x f = (is_given x.setting f ≡ true) ⊎ IsWritten x f
+
+-- The build has the file itself: it is a source or a makefile text, or a recipe writes it. Files
+-- under fixed prefixes are elsewhere.
+abbrev pub OwnsFile : Build → FileName → Type 0
+OwnsFile x f = Has x.setting.sources f ⊎ Has x.setting.texts f ⊎ IsWritten x f
+
+-- o is the recipe of the old build whose target is that of t in the new build.
+abbrev pub WasRecipe : (old new : Build) → (o t : ℕ) → Type 0
+WasRecipe old new o t =
+    ((node old.graph o).recipe ≡ true) × (name old.graph o ≡ name new.graph t)
+
+-- The rules by which what a recipe wrote before can't stay.
+pub data Rule : Type 0 where
+  NewRecipe : Rule
+  OtherCommands : Rule
+  OtherWrites : Rule
+  ReadGone : Rule
+  ReadText : Rule
+
+-- All rules.
+abbrev pub all_rules : List Rule
+all_rules = NewRecipe ∷ OtherCommands ∷ OtherWrites ∷ ReadGone ∷ ReadText ∷ []
+
+-- The rule holds of the recipe t of the new build. The old build has no recipe with its target; or
+-- that has other commands, writes other files, read a file that the new build doesn't have, or read a
+-- makefile text.
+abbrev pub HoldsOf : Rule → (old new : Build) → ℕ → Type 0
+HoldsOf NewRecipe old new t = (o : ℕ) → ¬ (WasRecipe old new o t)
+HoldsOf OtherCommands old new t =
+    (o : ℕ) × WasRecipe old new o t ×
+    (¬ (old.commands (name old.graph o) ≡ new.commands (name new.graph t)))
+HoldsOf OtherWrites old new t =
+    (o : ℕ) × WasRecipe old new o t ×
+    (¬ (writes old.graph old.setting o ≡ writes new.graph new.setting t))
+HoldsOf ReadGone old new t =
+    (o : ℕ) × WasRecipe old new o t ×
+    ((f : FileName) × Has (reads old.graph old.setting o) f × (¬ (HasFile new f)))
+HoldsOf ReadText old new t =
+    (o : ℕ) × WasRecipe old new o t ×
+    ((f : FileName) × Has (reads old.graph old.setting o) f × Has new.setting.texts f)
+
+-- One of these rules holds of the recipe, so what it wrote before can't stay.
+abbrev pub CantStay : List Rule → (old new : Build) → ℕ → Type 0
+CantStay rules old new t = (rule : Rule) × Has rules rule × HoldsOf rule old new t
+
+-- The file is left over: a recipe of the old build wrote it, and the new build doesn't have it.
+abbrev pub IsLeftOver : (old new : Build) → FileName → Type 0
+IsLeftOver old new f = IsWritten old f × (¬ (HasFile new f))
+
+-- By these rules the file is made anew: a recipe of the new build writes it that isn't made in every
+-- make, and what that wrote before can't stay.
+abbrev pub IsMadeAnew : List Rule → (old new : Build) → FileName → Type 0
+IsMadeAnew rules old new f =
+    (t : ℕ) × Has (writes new.graph new.setting t) f × (¬ (IsAlwaysMade new.graph t)) ×
+    CantStay rules old new t
+
+-- These rules name the file: the old build has it itself, and it is left over or made anew.
+abbrev pub IsNamed : List Rule → (old new : Build) → FileName → Type 0
+IsNamed rules old new f = OwnsFile old f × (IsLeftOver old new f ⊎ IsMadeAnew rules old new f)

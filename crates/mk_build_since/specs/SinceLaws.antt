@@ -1,0 +1,59 @@
+-- Laws of changes of the makefile.
+use Rattle.std.specs.Prelude.{◌≡◌, ℕ, List, true}
+use Rattle.mk_graph.specs.Membership.{Has}
+use Rattle.mk_graph.specs.Graph.{Graph, node, IsGraph}
+use Rattle.mk_build.specs.Setting.{FileName, name, reads}
+use Rattle.mk_build.specs.World.{Disk, Idle}
+use Rattle.mk_build.specs.Steps.{Step}
+use Rattle.mk_build.specs.Right.{AreSound}
+use Rattle.mk_build_behaviours.specs.BehaviourLaws.{StayPresent}
+use Rattle.mk_build_behaviours.specs.CleanBy.{IsRightBy, ArePresent}
+use Rattle.mk_build_behaviours.specs.CoherentBy.{IsCoherentBy}
+use Rattle.mk_build_behaviours.specs.StepsBy.{IsLegalBy, after_all_by}
+use Rattle.mk_build_since.specs.Named.{Build, Meaning, behaviours, all_rules, IsNamed}
+use Rattle.mk_build_since.specs.Next.{IsAccepted, IsFinished, IsNext}
+
+-- Take a finished make of all goals of an accepted build, with present footprints, from a coherent
+-- disk; then any edits, new and deleted sources, and the removal of the named files. If the new
+-- build's footprints are sound, the disk is coherent for the new build.
+abbrev pub NextIsCoherent : Type 0
+NextIsCoherent =
+    (meaning : Meaning) (old new : Build) → IsAccepted old → IsGraph new.graph →
+    AreSound new.graph new.setting → (first before now : Disk) →
+    IsCoherentBy old.graph old.setting (behaviours meaning old) first →
+    ArePresent old.graph old.setting (behaviours meaning old) first →
+    IsFinished meaning old first before → IsNext all_rules old new before now →
+    IsCoherentBy new.graph new.setting (behaviours meaning new) now
+
+-- If the new build is accepted too, and its footprints are present whenever a make of it begins, then
+-- each of its traces from that disk is right, with any edits, makes, stops and recipes that broke
+-- off.
+abbrev pub NextBuildsAreRight : Type 0
+NextBuildsAreRight =
+    (meaning : Meaning) (old new : Build) → IsAccepted old → IsAccepted new →
+    (first before now : Disk) →
+    IsCoherentBy old.graph old.setting (behaviours meaning old) first →
+    ArePresent old.graph old.setting (behaviours meaning old) first →
+    IsFinished meaning old first before → IsNext all_rules old new before now → (steps : List Step) →
+    IsLegalBy new.graph new.setting (behaviours meaning new) (Idle now) steps →
+    StayPresent new.graph new.setting (behaviours meaning new) (Idle now) steps →
+    IsRightBy new.graph new.setting (behaviours meaning new)
+    (after_all_by new.graph new.setting (Idle now) steps)
+
+-- Each recipe of the first graph has the target of a recipe of the second.
+abbrev pub HasItsRecipesIn : Graph → Graph → Type 0
+HasItsRecipesIn h g =
+    (n : ℕ) → (node h n).recipe ≡ true →
+    (k : ℕ) × ((node g k).recipe ≡ true) × (name h n ≡ name g k)
+
+-- If two builds have the same recipes, commands, footprints and given files, so that only
+-- prerequisites, phony names and goals differ, and no recipe reads a makefile text, then nothing is
+-- named.
+abbrev pub PrerequisitesNameNothing : Type 0
+PrerequisitesNameNothing =
+    (old new : Build) → AreSound old.graph old.setting → new.setting ≡ old.setting →
+    ((target : FileName) → new.commands target ≡ old.commands target) →
+    HasItsRecipesIn old.graph new.graph → HasItsRecipesIn new.graph old.graph →
+    ((o : ℕ) (f : FileName) → Has (reads old.graph old.setting o) f →
+    ¬ (Has new.setting.texts f)) →
+    (f : FileName) → ¬ (IsNamed all_rules old new f)

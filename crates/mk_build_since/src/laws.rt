@@ -1,0 +1,28 @@
+//! Laws of changes of the makefile. Each is the contract of an empty function; calling the function
+//! gives the law.
+
+ghost use Rattle.mk_build_since.specs.Needed.{RulesAreNeeded};
+ghost use Rattle.mk_build_since.specs.SinceLaws.{NextIsCoherent, NextBuildsAreRight, PrerequisitesNameNothing};
+
+/// After a finished make of all goals of an accepted build, any edits, new and deleted sources, and
+/// the removal of the named files, the disk is coherent for the new build.
+pub fn next_is_coherent()
+    ensures { NextIsCoherent }
+{}
+
+/// So if the new build is accepted whenever a make of it begins, then each of its makes is right.
+pub fn next_builds_are_right()
+    ensures { NextBuildsAreRight }
+{}
+
+/// If only prerequisites, phony names and goals differ, and no recipe reads a makefile text, then
+/// nothing is named.
+pub fn prerequisites_name_nothing()
+    ensures { PrerequisitesNameNothing }
+{}
+
+/// Without the rule of new recipes, of other commands, of other writes or of makefile texts, the
+/// others fall short.
+pub fn rules_are_needed()
+    ensures { RulesAreNeeded }
+{}
