@@ -27,7 +27,7 @@ from pathlib import Path
 
 ROOT = Path(__file__).resolve().parent.parent
 TARGET = "x86_64-unknown-linux-gnu"
-VERSION_FILE = Path("crates", "mkcheck_run", "src", "command.rt")
+VERSION_FILE = Path("crates", "mk_command", "src", "command.rt")
 VERSION = re.compile(r'(const VERSION: &str = "[0-9.]+ )\(proved [^)]*\)";')
 
 # Stands for the compiler of the copied kit. It keeps the object file of the program, and then

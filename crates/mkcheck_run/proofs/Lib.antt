@@ -1,3 +1,1 @@
 mod RunLemmas
-mod PlainWords
-mod NumberLemmas

@@ -3,10 +3,9 @@ use Rattle.std.proofs.Common.{◌≡◌, ◌⊎◌, ◌∙◌, ℕ, Bool, true, 
 use Rattle.std.specs.Prelude.{IsErr, OnErr, unwrap_or}
 use Rattle.std.specs.Option.{option_map}
 use Rattle.std.specs.String.{string_bytes}
-use Rattle.clap.specs.Words.{IsAmong, Kinds, Row, Text, is_simple, is_simple_and_free}
+use Rattle.clap.specs.Words.{IsAmong, Kinds, Row, Text}
 use Rattle.clap.specs.declared.error.ErrorKind.{ErrorKind}
 use Rattle.clap.specs.declared.error.ErrorKind.TheVariants.{OutOfMemory}
-use Rattle.clap.proofs.OnLiterals.{clap_on_literals}
 use Rattle.mk_core.specs.Answer.{Answers}
 use Rattle.mk_core.specs.CheckAnswer.{AnswersCheck}
 use Rattle.mk_core.specs.Ready.{macros_for}
@@ -22,17 +21,11 @@ use Rattle.mk_core_text.specs.declared.fault.Fault.TheVariants.{Memory}
 use Rattle.mk_core.specs.declared.request.Request.{Request}
 use Rattle.mk_core_evidence.specs.declared.showing.Evidence.{Evidence}
 use Rattle.mk_core_evidence.specs.declared.showing.Evidence.TheVariants.{Plan, NoPlan}
-use Rattle.mkcheck_run.specs.declared.invocation.Invocation.{Invocation}
-use Rattle.mkcheck_run.specs.declared.invocation.Invocation.TheVariants.{Check, CheckInWords, Repair}
-use Rattle.mkcheck_run.specs.CommandLine.{command_line}
-use Rattle.mkcheck_run.specs.Invocation.{AreRefusedUnread, faults_of, invocation_of, request_in}
+use Rattle.mk_command.specs.declared.invocation.Invocation.{Invocation}
+use Rattle.mk_command.specs.declared.invocation.Invocation.TheVariants.{Check, CheckInWords, Repair}
+use Rattle.mk_command.specs.Invocation.{AreRefusedUnread, faults_of, invocation_of, request_in}
 use Rattle.mkcheck_host.specs.Outcome.{Written}
 use Rattle.mkcheck_run.specs.Run.{AnswersInvocation, Explains, Promises, Response, Shows, evidence_response, repair_response, repair_status}
-
--- the port says which words the command line takes
-pub is_simple_line : is_simple_and_free command_line ≡ true
-unfolding clap_on_literals
-is_simple_line = refl
 
 -- what is explained is one of the kinds, and not out of memory
 pub explained_kind : (kind : ErrorKind) (kinds : Kinds) (w : Written) → Explains kind w → (kind ≡ OutOfMemory) ⊎ IsAmong kind kinds → IsAmong kind kinds
@@ -43,10 +36,6 @@ explained_kind kind kinds w h (inr among) = among
 pub IfOk-each : {X E : Type 0} (r : Result X E) (P : X → Type 0) → ((x : X) → P x) → IfOk r P
 IfOk-each (Ok x) P h = h x
 IfOk-each (Err e) P h = tt
-
-pub is_simple_command : is_simple command_line ≡ true
-unfolding clap_on_literals
-is_simple_command = refl
 
 -- out of memory is a response to a request for a verdict
 pub no_memory_answers : (told : Told) (request : Request) (only_certificate : Bool) → AnswersInvocation told (Check request only_certificate None) (Err Memory)

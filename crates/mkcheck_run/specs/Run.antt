@@ -39,8 +39,8 @@ use Rattle.mk_core_text.specs.declared.verdict.Verdict.TheVariants.{Yes, No}
 use Rattle.mk_core.specs.Files.{IfFits, Told}
 use Rattle.mk_cert_text.specs.Writing.{value_of}
 use Rattle.serde_json.specs.Written.{compact_text}
-use Rattle.mkcheck_run.specs.declared.invocation.Invocation.{Invocation}
-use Rattle.mkcheck_run.specs.declared.invocation.Invocation.TheVariants.{Graph, Check, CheckInWords, CheckInJson, Repair, Explain, Verify, Simulate}
+use Rattle.mk_command.specs.declared.invocation.Invocation.{Invocation}
+use Rattle.mk_command.specs.declared.invocation.Invocation.TheVariants.{Graph, Check, CheckInWords, CheckInJson, Repair, Explain, Verify, Simulate}
 use Rattle.mkcheck_host.specs.Outcome.{Written}
 
 -- The response to a command: a text for standard output, one for standard error, and the exit

@@ -10,13 +10,13 @@ ghost use Rattle.mk_core.specs.Ready.{macros_for};
 ghost use Rattle.mk_core.specs.Right.{IsRightFor};
 ghost use Rattle.mk_cert_text.specs.Writing.{value_of};
 ghost use Rattle.serde_json.specs.Written.{compact_text};
-ghost use Rattle.mkcheck_run.specs.Invocation.{request_in};
+ghost use Rattle.mk_command.specs.Invocation.{request_in};
 ghost use Rattle.mkcheck_run.specs.Run.{AnswersInvocation, Promises, evidence_response, plan_response, repair_response, explain_response, explained_response, first_explained, printed_response, json_response, run_response, text_response, verdict_response, words_response, response_without_plan};
-ghost use Rattle.mkcheck_run.specs.declared.invocation.Invocation.TheVariants.{Check, CheckInJson, CheckInWords, Explain, Repair as Mend};
+ghost use Rattle.mk_command.specs.declared.invocation.Invocation.TheVariants.{Check, CheckInJson, CheckInWords, Explain, Repair as Mend};
 
-use crate::invocation::Invocation;
 use crate::running::{DONE, NO, REFUSED};
 use mk_cert_text::{Certificate, certificate_text};
+use mk_command::Invocation;
 use mk_core::{
     Fault, Files, Name, Names, Request, Simulation, Verdict, check, drop_or_leak, graph_text,
     render, simulate_text, verify_text,

@@ -2,8 +2,6 @@
 #![tactic(auto)]
 
 mod answering;
-mod command;
-mod invocation;
 mod running;
 mod starting;
 

@@ -3,7 +3,7 @@
 ghost use Rattle.std.specs.Prelude.{◌≡◌, ◌≢◌, [], map, Err, IfErr, IfOk, OnErr, OnOk};
 ghost use Rattle.std.specs.IoError.{error_kind};
 ghost use Rattle.mk_core.specs.Files.{IfFits, Keeps};
-ghost use Rattle.mkcheck_run.specs.Invocation.{AreRefusedUnread, invocation_of, faults_of};
+ghost use Rattle.mk_command.specs.Invocation.{AreRefusedUnread, invocation_of, faults_of};
 ghost use Rattle.mkcheck_host.specs.Outcome.{written};
 ghost use Rattle.mkcheck_run.specs.Run.{IsAnswered, Promises};
 

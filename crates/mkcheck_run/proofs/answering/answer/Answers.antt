@@ -1,5 +1,5 @@
 use Rattle.std.proofs.Common.{subst, sym}
-use Rattle.mkcheck_run.specs.declared.invocation.Invocation.{Invocation}
+use Rattle.mk_command.specs.declared.invocation.Invocation.{Invocation}
 use Rattle.mkcheck_run.specs.Run.{AnswersInvocation}
 use Rattle.mkcheck_run.proofs.answering.answer.Goals as goal
 

@@ -3,8 +3,8 @@ use Rattle.std.proofs.lemmas.Result.{IfOk-weaker}
 use Rattle.std.specs.Prelude.{◌≡◌, IfOk, OnErr}
 use Rattle.clap.specs.Words.{found_of, rows_of}
 use Rattle.mk_core.specs.Ready.{macros_for}
-use Rattle.mkcheck_run.specs.declared.invocation.Invocation.{Invocation}
-use Rattle.mkcheck_run.specs.Invocation.{asked_with, request_in}
+use Rattle.mk_command.specs.declared.invocation.Invocation.{Invocation}
+use Rattle.mk_command.specs.Invocation.{asked_with, request_in}
 use Rattle.mkcheck_host.specs.Outcome.{written}
 use Rattle.mkcheck_run.specs.Run.{AnswersInvocation, Promises, Shows}
 use Rattle.mkcheck_run.proofs.RunLemmas.{met_found, promised, unread_twice}

@@ -2,14 +2,15 @@ use Rattle.std.proofs.Common.{◌≡◌, ◌∙◌, [], ap, subst, map}
 use Rattle.std.proofs.lemmas.Result.{IfOk-weaker}
 use Rattle.std.specs.Prelude.{OnErr}
 use Rattle.clap.specs.Words.{App, HasKind, IsAmong, fault_of, is_simple, is_simple_and_free, kind_of, subcommand_of}
-use Rattle.mkcheck_run.specs.declared.invocation.Invocation.{Invocation}
-use Rattle.mkcheck_run.specs.Invocation.{invocation_of, asked_with, faults_of, request_in}
+use Rattle.mk_command.specs.declared.invocation.Invocation.{Invocation}
+use Rattle.mk_command.specs.Invocation.{invocation_of, asked_with, faults_of, request_in}
 use Rattle.mk_core.specs.Files.{IfFits}
 use Rattle.mk_core.specs.Ready.{macros_for}
 use Rattle.mkcheck_host.specs.Outcome.{written}
 use Rattle.mkcheck_run.specs.Run.{IsAnswered, Promises}
-use Rattle.mkcheck_run.proofs.PlainWords.{plain_asked, plain_taken}
-use Rattle.mkcheck_run.proofs.RunLemmas.{IfOk-each, explained_kind, is_simple_command, is_simple_line, unread_by}
+use Rattle.mk_command.proofs.PlainWords.{plain_asked, plain_taken}
+use Rattle.mk_command.proofs.Simple.{is_simple_command, is_simple_line}
+use Rattle.mkcheck_run.proofs.RunLemmas.{IfOk-each, explained_kind, unread_by}
 use Rattle.mkcheck_run.proofs.running.run.Goals as goal
 
 pub returns-in-Ok-clause-refused : goal.returns-in-Ok-clause-refused

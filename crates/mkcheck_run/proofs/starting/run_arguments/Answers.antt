@@ -1,6 +1,6 @@
 use Rattle.std.proofs.Common.{◌≡◌, List, [], String, Global, subst}
 use Rattle.mk_core.specs.Files.{IfFits}
-use Rattle.mkcheck_run.specs.Invocation.{AreRefusedUnread, faults_of, invocation_of}
+use Rattle.mk_command.specs.Invocation.{AreRefusedUnread, faults_of, invocation_of}
 use Rattle.mkcheck_run.specs.Run.{Promises}
 use Rattle.mkcheck_run.proofs.RunLemmas.{texts_of}
 use Rattle.mkcheck_run.proofs.starting.run_arguments.Goals as goal

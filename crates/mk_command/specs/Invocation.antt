@@ -8,9 +8,9 @@ use Rattle.clap.specs.Words.{Kinds, Row, Text, all_of, count_of, fault_of, first
 use Rattle.mk_core.specs.declared.request.Request.{Request}
 use Rattle.mk_core.specs.Ready.{macros_for}
 use Rattle.mk_core.specs.Words.{goals_of, operands_of}
-use Rattle.mkcheck_run.specs.declared.invocation.Invocation.{Invocation}
-use Rattle.mkcheck_run.specs.declared.invocation.Invocation.TheVariants.{Graph, Check, CheckInWords, CheckInJson, Repair, Explain, Verify, Simulate}
-use Rattle.mkcheck_run.specs.CommandLine.{command_line}
+use Rattle.mk_command.specs.declared.invocation.Invocation.{Invocation}
+use Rattle.mk_command.specs.declared.invocation.Invocation.TheVariants.{Graph, Check, CheckInWords, CheckInJson, Repair, Explain, Verify, Simulate}
+use Rattle.mk_command.specs.CommandLine.{command_line}
 
 -- The kinds of fault that the command line finds in the words; none where it accepts them.
 abbrev pub faults_of : List Text → Kinds

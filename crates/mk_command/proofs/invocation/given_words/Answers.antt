@@ -3,7 +3,7 @@ use Rattle.std.specs.Prelude.{unwrap_or}
 use Rattle.clap.specs.Words.{found_of}
 use Rattle.clap.proofs.WalkLemmas.{raw_values-rows}
 use Rattle.mk_core.specs.Words.{goals_of, operands_of}
-use Rattle.mkcheck_run.proofs.invocation.given_words.Goals as goal
+use Rattle.mk_command.proofs.invocation.given_words.Goals as goal
 
 pub returns-in-Some-clause-operands : goal.returns-in-Some-clause-operands
 returns-in-Some-clause-operands c =

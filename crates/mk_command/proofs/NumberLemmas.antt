@@ -4,7 +4,7 @@ use Rattle.std.specs.Result.{result_ok}
 use Rattle.std.specs.Str.Parse.{IsNumeral, ParsesUnsigned, digits_value, without_leading_plus}
 use Rattle.std.proofs.lemmas.Bool.{cond-true, cond-false, false_from_ne_true, lt-ltb, ltb-true, and_from, and_parts}
 use Rattle.mk_lemmas.proofs.Texts.{IsNumeralModel-digits}
-use Rattle.mkcheck_run.specs.Invocation.{is_number, number_in}
+use Rattle.mk_command.specs.Invocation.{is_number, number_in}
 
 -- digits that write a number
 number_is : (ds : List ℕ) → IsNumeral 10 ds → digits_value 10 ds < 2 ^ 64 → is_number ds ≡ true

@@ -3,7 +3,7 @@
 ghost use Rattle.std.specs.Prelude.{◌≡◌, [], codes, unwrap_or, IfOk};
 ghost use Rattle.clap.specs.Words.{all_of, first_of, found_of, rows_of};
 ghost use Rattle.mk_core.specs.Words.{goals_of, operands_of};
-ghost use Rattle.mkcheck_run.specs.Invocation.{check_by, checking, invocation_by, needed, number_at, requested};
+ghost use Rattle.mk_command.specs.Invocation.{check_by, checking, invocation_by, needed, number_at, requested};
 
 use clap::ArgMatches;
 use mk_core::{Name, Names, Operands, Request, split_words};

@@ -2,9 +2,9 @@ use Rattle.std.proofs.Common.{◌∙◌, ap}
 use Rattle.std.specs.Prelude.{option_and_then}
 use Rattle.clap.specs.Words.{found_of}
 use Rattle.clap.proofs.WalkLemmas.{first_value-rows}
-use Rattle.mkcheck_run.specs.Invocation.{number_in}
-use Rattle.mkcheck_run.proofs.NumberLemmas.{number_parsed}
-use Rattle.mkcheck_run.proofs.invocation.number_at.Goals as goal
+use Rattle.mk_command.specs.Invocation.{number_in}
+use Rattle.mk_command.proofs.NumberLemmas.{number_parsed}
+use Rattle.mk_command.proofs.invocation.number_at.Goals as goal
 
 pub returns-in-Some : goal.returns-in-Some
 returns-in-Some c =

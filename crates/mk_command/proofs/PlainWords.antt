@@ -15,10 +15,10 @@ use Rattle.clap.proofs.OnLiterals.{clap_on_literals}
 use Rattle.clap.proofs.WalkLemmas.{walk_stopped}
 use Rattle.std.specs.Prelude.{slice_index_or}
 use Rattle.std.proofs.lemmas.Bool.{or_parts}
-use Rattle.mkcheck_run.specs.CommandLine.{HasNoOption, command_line, graph_words, is_option}
+use Rattle.mk_command.specs.CommandLine.{HasNoOption, command_line, graph_words, is_option}
 use Rattle.mk_core.specs.declared.request.Request.{Request}
-use Rattle.mkcheck_run.specs.Invocation.{invocation_of, asked_with, asking, faults_of, requested}
-use Rattle.mkcheck_run.specs.declared.invocation.Invocation.TheVariants.{Graph}
+use Rattle.mk_command.specs.Invocation.{invocation_of, asked_with, asking, faults_of, requested}
+use Rattle.mk_command.specs.declared.invocation.Invocation.TheVariants.{Graph}
 
 -- a word that is no option is no flag and not `--`
 record IsPlain (word : Text) : Type 0 where

@@ -1,0 +1,3 @@
+mod NumberLemmas
+pub mod PlainWords
+pub mod Simple
