@@ -225,7 +225,8 @@ EXAMPLES = {
         {"makefile": "x\n", "B": BOTH},
         ["check", "-w", "-b", "B"],
         2,
-        "makefile:1: NotALine (25): no rule, macro or include line; commands begin with a tab\n"
+        "makefile:1: NotALine (25): no rule, macro or include line, as `ifdef`; commands need a"
+        " tab\n"
         "  x\n",
     ),
     "a yes as JSON": (
@@ -248,8 +249,8 @@ EXAMPLES = {
         ["check", "--json", "-b", "B"],
         2,
         '{"answer":"refused","format":1,"name":"NotALine","number":25,"place":{"file":"makefile",'
-        '"line":1},"sentence":"makefile:1: NotALine (25): no rule, macro or include line; commands'
-        ' begin with a tab","text":"refused 25 makefile:1"}\n',
+        '"line":1},"sentence":"makefile:1: NotALine (25): no rule, macro or include line, as'
+        ' `ifdef`; commands need a tab","text":"refused 25 makefile:1"}\n',
     ),
     "a mended makefile": (
         {"makefile": TRIED_RULES, "B": TRIED},

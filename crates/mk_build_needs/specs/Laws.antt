@@ -16,11 +16,13 @@ abbrev pub NeedsAreThese : Type 0
 NeedsAreThese =
     (g : Graph) (s : Setting) → IsGraph g → (n o : ℕ) → Has (needs g s n) o ↔ IsNeeded g s n o
 
--- A graph with more prerequisites, nodes and phony nodes and with other goals extends the graph.
+-- A graph with more prerequisites, recipes and nodes, with other phony nodes and with other goals
+-- extends the graph.
 abbrev pub AmendedExtends : Type 0
 AmendedExtends =
-    (g : Graph) (more : ℕ → List ℕ) (phony : ℕ → Bool) (others : List Node) (goals : List ℕ) →
-    Extends g (amended g more phony others goals)
+    (g : Graph) (more : ℕ → List ℕ) (recipe phony : ℕ → Bool) (others : List Node)
+    (goals : List ℕ) →
+    Extends g (amended g more recipe phony others goals)
 
 -- If a path of needs leads from a node to itself, then no graph that extends this one has sound
 -- footprints and no race.

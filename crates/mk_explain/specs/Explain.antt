@@ -1,5 +1,5 @@
 -- The explanation of a finding or a fault, and the overview of all.
-use Rattle.std.specs.Prelude.{ℕ, ◌==◌, Bool, ◌||◌, List, [], ◌∷◌, ◌++◌, codes, Option, map}
+use Rattle.std.specs.Prelude.{ℕ, ◌==◌, Bool, ◌||◌, List, [], ◌∷◌, ◌++◌, codes, Option, map, is_some, if◌then◌else◌}
 use Rattle.std.specs.Fmt.{decimal}
 use Rattle.std.specs.List.{find, flat_map}
 use Rattle.std.specs.Option.{option_map, option_or, unwrap_or}
@@ -88,9 +88,12 @@ unfoldable pub fault_spelled : List ℕ → Option (List ℕ)
 fault_spelled what =
     find (λ name. str_eq_ignore_ascii_case name what) (map (λ fault. fault.1) fault_names)
 
--- The word as it is explained, whatever the case of its letters.
+-- The word as it is explained, whatever the case of its letters. A word that answers begin with is
+-- no fault's name.
 abbrev pub spelled : List ℕ → List ℕ
-spelled what = unwrap_or (finding_spelled what) (unwrap_or (fault_spelled what) what)
+spelled what =
+    unwrap_or (finding_spelled what)
+    (if is_some (term_text what) then what else unwrap_or (fault_spelled what) what)
 
 -- The explanation of what is called so, if anything is.
 abbrev pub explained : List ℕ → Option (List ℕ)

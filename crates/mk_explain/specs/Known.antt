@@ -87,3 +87,7 @@ fault_names =
     (74, codes "NoWay") ∷
     (75, codes "BadWay") ∷
     (76, codes "Static") ∷ []
+
+-- The other words that answers begin with.
+abbrev pub term_words : List (List ℕ)
+term_words = codes "yes" ∷ codes "way" ∷ codes "cycle" ∷ codes "tried" ∷ []

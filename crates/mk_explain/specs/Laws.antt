@@ -5,8 +5,8 @@ use Rattle.std.specs.List.{list_all, list_any}
 use Rattle.std.specs.Option.{option_map_or}
 use Rattle.std.specs.Bool.{IsTrue}
 use Rattle.std.specs.Str.{bytes_eq}
-use Rattle.mk_explain.specs.Explain.{explained, fault_name, fault_sentence, finding_sentence, finding_sentences, is_called, number_named, spelled}
-use Rattle.mk_explain.specs.Known.{fault_names, finding_words}
+use Rattle.mk_explain.specs.Explain.{explained, fault_sentence, finding_sentences, is_called, number_named, spelled}
+use Rattle.mk_explain.specs.Known.{fault_names, finding_words, term_words}
 use Rattle.mk_explain.specs.Texts.{fault_text, finding_text, term_text}
 
 -- It is this number.
@@ -41,3 +41,7 @@ is_known what =
 -- Exactly what is known is explained, whatever the case of its letters.
 abbrev pub KnownIsExplained : Type 0
 KnownIsExplained = (what : List ℕ) → is_some (explained what) ≡ is_known (spelled what)
+
+-- Each of the other words that answers begin with is explained by its own text.
+abbrev pub EachTermIsExplained : Type 0
+EachTermIsExplained = map explained term_words ≡ map term_text term_words

@@ -34,7 +34,7 @@ pub const FAULTS: [(u32, &str, &str); 66] = [
     (
         11,
         "BadMacroName",
-        "no macro is called so; GNU's functions need mkcheck-import",
+        "a bad name, GNU function or `export`; operands take `=`, `::=`",
     ),
     (
         12,
@@ -77,7 +77,7 @@ pub const FAULTS: [(u32, &str, &str); 66] = [
     (
         25,
         "NotALine",
-        "no rule, macro or include line; commands begin with a tab",
+        "no rule, macro or include line, as `ifdef`; commands need a tab",
     ),
     (
         26,

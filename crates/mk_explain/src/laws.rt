@@ -1,7 +1,7 @@
 //! Laws about the explanations. Each function exists for its contract alone: a caller has the law
 //! as a fact.
 
-ghost use Rattle.mk_explain.specs.Laws.{EachFaultIsExplained, EachFindingIsExplained, EachNameLeadsToItsNumber, KnownIsExplained};
+ghost use Rattle.mk_explain.specs.Laws.{EachFaultIsExplained, EachFindingIsExplained, EachNameLeadsToItsNumber, EachTermIsExplained, KnownIsExplained};
 
 /// The number of each fault and its name lead to the same explanation.
 pub fn each_name_leads_to_its_number()
@@ -17,6 +17,11 @@ pub fn each_fault_is_explained()
 #[tactic(auto, unfolding(crate::specs::Texts::finding_text))]
 pub fn each_finding_is_explained()
     ensures { EachFindingIsExplained }
+{}
+
+/// Each of the other words that answers begin with is explained by its own text.
+pub fn each_term_is_explained()
+    ensures { EachTermIsExplained }
 {}
 
 /// The first words of findings, the names and numbers of faults, and the other words that answers

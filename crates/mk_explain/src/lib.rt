@@ -14,9 +14,11 @@ pub mod laws;
 mod lines;
 mod macros;
 mod names;
+mod near;
 mod plans;
 mod spelling;
 mod terms;
 
 pub use explaining::{explain, overview};
 pub use faults::{fault_name, fault_sentence, named_sentence};
+pub use near::near_words;

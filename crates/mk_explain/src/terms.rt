@@ -33,14 +33,14 @@ The recipe of `p` reads `a.o`, which that of `a.o` writes:
 `way p a.o written p a.o`.
 ";
 
-/// A cycle of what recipes need.
+/// A cycle.
 pub const CYCLE: &str = "\
-cycle: recipes need each other, or prerequisites form a cycle
+cycle: each of these names needs the next one, and the last one the first
 
-`repair` tells of names of which each needs the next one, as a prerequisite,
-or since its recipe reads what that of the next one writes, and the last one
-needs the first. No lines mend this: let one of these recipes read less, or
-write less. Of prerequisites that form a cycle see `mkcheck explain 42`.
+Where prerequisites form a cycle, the makefile is refused: see
+`mkcheck explain 42`. `repair` tells of a cycle where each name has the next
+one as a prerequisite, or its recipe reads what that of the next one writes.
+No lines mend this: let one of these recipes read less, or write less.
 ";
 
 /// `tried LINE`.

@@ -1,6 +1,6 @@
 //! Explanations of a finding and of a fault, and the overview.
 
-use mk_explain::{explain, fault_name, fault_sentence, named_sentence, overview};
+use mk_explain::{explain, fault_name, fault_sentence, named_sentence, near_words, overview};
 use std::process::Abort;
 use std::test::Fail;
 
@@ -59,14 +59,14 @@ fn explains(rt: HostRuntime) -> Result<(), Fail> {
 
 #[test]
 fn explains_other_words(rt: HostRuntime) -> Result<(), Fail> {
-    for what in ["yes", "way", "tried"] {
+    for what in ["yes", "way", "cycle", "tried"] {
         let told = explain(rt.alloc(), what)?;
         assert!(rt;
             told.is_some_and(|told| told.as_str().starts_with(what)),
             "of {what}"
         );
     }
-    let told = explain(rt.alloc(), "cycle")?;
+    let told = explain(rt.alloc(), "Cycle")?;
     assert!(rt; told.is_some_and(|told| told.as_str().starts_with("Cycle (42): ")));
     Ok(())
 }
@@ -99,5 +99,23 @@ fn lists_all(rt: HostRuntime) -> Result<(), Fail> {
     let fault = "23 DoubleColon: a rule line has `::`; write one colon";
     assert!(rt; text.as_str().lines().any(|line| line == fault));
     assert!(rt; text.as_str().lines().count() == 78);
+    Ok(())
+}
+
+#[test]
+fn names_words_that_begin_alike(rt: HostRuntime) -> Result<(), Fail> {
+    let near = [
+        ("nojason", "NoJobFree"),
+        ("STAL", "stale"),
+        ("reco", "record, Recursive"),
+        ("xyz", ""),
+        ("st", ""),
+    ];
+    for (what, wanted) in near {
+        assert!(rt;
+            near_words(rt.alloc(), what)?.as_str() == wanted,
+            "of {what}"
+        );
+    }
     Ok(())
 }

@@ -114,7 +114,7 @@ fn explains_without_a_read(rt: HostRuntime) -> Result<(), Fail> {
 
 /// The refusal of `x.mk`, without its line.
 const REFUSAL: &str =
-    "x.mk:2: NotALine (25): no rule, macro or include line; commands begin with a tab\n";
+    "x.mk:2: NotALine (25): no rule, macro or include line, as `ifdef`; commands need a tab\n";
 
 /// The line of a refusal is read once more, and left out if that read fails.
 #[test]
