@@ -14,19 +14,21 @@ use Rattle.mk_build.specs.Coherent.{LastRun, IsBoundToRun, ContainsOrChanged}
 use Rattle.mk_build.proofs.Sound.{editable_is_given}
 use Rattle.mk_build.proofs.Writing.{map_same}
 use Rattle.mk_build.proofs.ChainWays.{one_number}
-use Rattle.mk_build_behaviours.specs.Behaviours.{Behaviour, behaviour, path, result}
+use Rattle.mk_build_behaviours.specs.Behaviours.{behaviour, path, result}
 use Rattle.mk_build_behaviours.specs.CleanBy.{ArePresent}
 use Rattle.mk_build_behaviours.specs.CoherentBy.{IsAsLeftBy, IsCoherentBy}
-use Rattle.mk_build_since.specs.Named.{Build, Meaning, behaviours, IsWritten, HasFile, WasRecipe, Rule, NewRecipe, OtherCommands, OtherWrites, ReadGone, ReadText, all_rules, HoldsOf, CantStay, IsNamed}
+use Rattle.mk_build_since.specs.Named.{Build, IsWritten, HasFile, WasRecipe, Rule, NewRecipe, OtherCommands, OtherWrites, ReadGone, ReadText, all_rules, HoldsOf, CantStay, IsNamed}
+use Rattle.mk_build_since.specs.Alike.{BehaveAlike}
 use Rattle.mk_build_since.specs.Next.{IsAccepted, IsFinished, MayBecome, IsNext}
 use Rattle.mk_build_since.proofs.Deciding.{cases_always, cases_owned, Stays, stay_cases}
+use Rattle.mk_build_since.proofs.Walking.{alike_walk}
 use Rattle.mk_build_since.proofs.Made.{IsMade, finished_is_made}
 
 -- a makefile text is given
 text_is_given : (s : Setting) (f : FileName) → Has s.texts f → is_given s f ≡ true
 text_is_given s f among = or_right (has_name s.sources f) _ (or_right (begins_with_any s.fixed f) (has_name s.texts f) (has_name-from_Has s.texts f among))
 
-module _ (meaning : Meaning) (old new : Build) (accepted : IsAccepted old) (graph : IsGraph new.graph) (sound : AreSound new.graph new.setting) (before now : Disk) (made : IsMade old.graph old.setting (behaviours meaning old) before) (next : IsNext all_rules old new before now) where
+module _ (old new : Build) (alike : BehaveAlike old new) (accepted : IsAccepted old) (graph : IsGraph new.graph) (sound : AreSound new.graph new.setting) (before now : Disk) (made : IsMade old.graph old.setting old.behaviours before) (next : IsNext all_rules old new before now) where
   -- no given file is written
   not_both : (x : Build) → AreSound x.graph x.setting → (t : ℕ) (f : FileName) → Has (writes x.graph x.setting t) f → ¬ (is_given x.setting f ≡ true)
   not_both x is t f wrote given = true≢false (sym given ∙ is.not_given t f wrote)
@@ -110,10 +112,6 @@ module _ (meaning : Meaning) (old new : Build) (accepted : IsAccepted old) (grap
         more) rest)
         (next.others f (inr (stays.was, was_written f wrote)) (not_named t sometimes stays f wrote))
 
-    -- the behaviour is the same
-    same_behaviour : behaviour old.graph (behaviours meaning old) stays.was ≡ behaviour new.graph (behaviours meaning new) t
-    same_behaviour = ap (λ (n : FileName). meaning n (old.commands (name old.graph stays.was))) stays.is.1 ∙ ap (λ (c : List (List ℕ)). meaning (name new.graph t) c) stays.commands
-
     -- the old build has what the old recipe read
     was_there : (f : FileName) → Has (reads old.graph old.setting stays.was) f → HasFile old f
     was_there f read = ⊎_elim (λ given. inl given) (λ wrote. inr wrote) (accepted.sound.known stays.was f read)
@@ -129,23 +127,35 @@ module _ (meaning : Meaning) (old new : Build) (accepted : IsAccepted old) (grap
         (written_cases f has wrote.0 wrote.1))
         (stays.known f read)
 
+    -- it walks as the old one did
+    walked : (result (behaviour old.graph old.behaviours stays.was) (content before) ≡ result (behaviour new.graph new.behaviours t) (content before)) × ((f : FileName) → Has (path (behaviour new.graph new.behaviours t) (content before)) f → Has (path (behaviour old.graph old.behaviours stays.was) (content before)) f ⊎ (¬ (HasFile old f)))
+    walked = alike_walk old new (alike stays.was t stays.is stays.commands) (content before)
+        (λ f on. stays.known f (made.within stays.was stays.is.0 f on))
+        (λ f on not. ap (λ (o : Option File). option_map (λ (file : File). file.content) o) (next.coming t f on not).0)
+
+    -- what it looked for in vain isn't there or came since
+    in_vain : (f : FileName) → Has (path (behaviour new.graph new.behaviours t) (content before)) f → ¬ (HasFile old f) → ContainsOrChanged new.graph new.setting now f (content before f) before.clock
+    in_vain f on not =
+        let comes = next.coming t f on not in
+        ⊎_elim (λ none. inl (ap (λ (o : Option File). option_map (λ (file : File). file.content) o) (none ∙ sym comes.0))) (λ new_source. inr (inl (inl new_source.0, new_source.1))) comes.1
+
     -- so it is as its last run left it
     abbrev run : LastRun
     run = record { began = 0; ended = before.clock; saw = content before }
 
-    is_as_left : IsAsLeftBy new.graph new.setting (behaviours meaning new) run now t
+    is_as_left : IsAsLeftBy new.graph new.setting new.behaviours run now t
     is_as_left = record {
       holds = map_same (content now) (content before) (writes new.graph new.setting t) (λ f wrote. ap (λ (o : Option File). option_map (λ (file : File). file.content) o) (as_before f wrote))
-          ∙ (subst (λ (l : List FileName). map (content before) l ≡ map (λ c. Some c) (result (behaviour old.graph (behaviours meaning old) stays.was) (content before))) stays.files (made.holds stays.was stays.is.0)
-          ∙ ap (λ (b : Behaviour). map (λ c. Some c) (result b (content before))) same_behaviour);
+          ∙ (subst (λ (l : List FileName). map (content before) l ≡ map (λ c. Some c) (result (behaviour old.graph old.behaviours stays.was) (content before))) stays.files (made.holds stays.was stays.is.0)
+          ∙ ap (λ (l : List ℕ). map (λ c. Some c) l) walked.0);
       during = λ f stamp wrote has.
           let was : HasStamp before f stamp = ap (λ (o : Option File). option_map (λ (file : File). file.stamp) o) (sym (as_before f wrote)) ∙ has in
           (made.late stays.was f stamp (was_written f wrote) was, made.stamped f stamp was);
-      saw = λ f on. saw f (made.within stays.was stays.is.0 f (subst (λ (b : Behaviour). Has (path b (content before)) f) (sym same_behaviour) on));
+      saw = λ f on. ⊎_elim (λ on_old. saw f (made.within stays.was stays.is.0 f on_old)) (λ not. in_vain f on not) (walked.1 f on);
     }
 
   -- a recipe is bound to run or as it was left
-  left : (t : ℕ) → (node new.graph t).recipe ≡ true → IsBoundToRun new.graph new.setting now t ⊎ IsAsLeftBy new.graph new.setting (behaviours meaning new) (record { began = 0; ended = before.clock; saw = content before }) now t
+  left : (t : ℕ) → (node new.graph t).recipe ≡ true → IsBoundToRun new.graph new.setting now t ⊎ IsAsLeftBy new.graph new.setting new.behaviours (record { began = 0; ended = before.clock; saw = content before }) now t
   left t recipe =
       ⊎_elim (λ always. inl (inl (inl always)))
       (λ sometimes. ⊎_elim (λ stays. inr (is_as_left t sometimes stays))
@@ -154,7 +164,7 @@ module _ (meaning : Meaning) (old new : Build) (accepted : IsAccepted old) (grap
       (cases_always new.graph t)
 
   -- the disk is coherent for the new build
-  pub carried : IsCoherentBy new.graph new.setting (behaviours meaning new) now
+  pub carried : IsCoherentBy new.graph new.setting new.behaviours now
   carried = record {
     last = λ t. record { began = 0; ended = before.clock; saw = content before };
     stamped = next.stamped;
@@ -164,6 +174,6 @@ module _ (meaning : Meaning) (old new : Build) (accepted : IsAccepted old) (grap
   }
 
 -- after a finished make of an accepted build the disk is
-pub next_is_coherent : (meaning : Meaning) (old new : Build) → IsAccepted old → IsGraph new.graph → AreSound new.graph new.setting → (first before now : Disk) → IsCoherentBy old.graph old.setting (behaviours meaning old) first → ArePresent old.graph old.setting (behaviours meaning old) first → IsFinished meaning old first before → IsNext all_rules old new before now → IsCoherentBy new.graph new.setting (behaviours meaning new) now
-next_is_coherent meaning old new accepted graph sound first before now coherent present finished next =
-    carried meaning old new accepted graph sound before now (finished_is_made meaning old accepted first before coherent present finished) next
+pub next_is_coherent : (old new : Build) → BehaveAlike old new → IsAccepted old → IsGraph new.graph → AreSound new.graph new.setting → (first before now : Disk) → IsCoherentBy old.graph old.setting old.behaviours first → ArePresent old.graph old.setting old.behaviours first → IsFinished old first before → IsNext all_rules old new before now → IsCoherentBy new.graph new.setting new.behaviours now
+next_is_coherent old new alike accepted graph sound first before now coherent present finished next =
+    carried old new alike accepted graph sound before now (finished_is_made old accepted first before coherent present finished) next

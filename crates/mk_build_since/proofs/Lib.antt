@@ -1,5 +1,6 @@
 mod Deciding
 mod Made
+mod Walking
 mod Carrying
 mod Unchanged
 mod OneNode
@@ -7,3 +8,4 @@ mod NewRecipe
 mod OtherCommands
 mod ReadText
 mod OtherWrites
+mod ReadGone

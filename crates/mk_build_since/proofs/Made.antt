@@ -19,7 +19,7 @@ use Rattle.mk_build_behaviours.proofs.Paths.{same_walk}
 use Rattle.mk_build_behaviours.proofs.CleanContents.{IsClean}
 use Rattle.mk_build_behaviours.proofs.Following.{Follows, FollowsIn, done_is_clean, follow_all}
 use Rattle.mk_build_behaviours.proofs.Present.{all_nodes, all_recipes, reached_is_done, build, is_clean, begins}
-use Rattle.mk_build_since.specs.Named.{Build, Meaning, behaviours}
+use Rattle.mk_build_since.specs.Named.{Build}
 use Rattle.mk_build_since.specs.Next.{IsAccepted, IsFinished}
 
 -- Each recipe wrote the result of what is there now, later than nothing, and reads only its footprint.
@@ -114,28 +114,28 @@ module _ (g : Graph) (s : Setting) (b : Behaviours) (graph : IsGraph g) (sound :
     within = λ t recipe. subst (λ (l : List FileName). IsWithin l (reads g s t)) (walks t recipe).0 (is.within t (all_recipes g graph s sound t recipe) recipe);
   }
 
-module _ (meaning : Meaning) (x : Build) (accepted : IsAccepted x) (first left : Disk) (coherent : IsCoherentBy x.graph x.setting (behaviours meaning x) first) (present : ArePresent x.graph x.setting (behaviours meaning x) first) (finished : IsFinished meaning x first left) where
+module _ (x : Build) (accepted : IsAccepted x) (first left : Disk) (coherent : IsCoherentBy x.graph x.setting x.behaviours first) (present : ArePresent x.graph x.setting x.behaviours first) (finished : IsFinished x first left) where
   -- the contents after the clean build
   abbrev clean : Contents
-  clean = (build x.graph x.setting (behaviours meaning x) accepted.graph accepted.sound accepted.no_race accepted.ways first coherent present finished.jobs x.graph.goals finished.legal.0.1).0
+  clean = (build x.graph x.setting x.behaviours accepted.graph accepted.sound accepted.no_race accepted.ways first coherent present finished.jobs x.graph.goals finished.legal.0.1).0
 
   -- they are clean
-  abbrev is : IsClean x.graph x.setting (behaviours meaning x) (given_contents x.setting first) clean (all_nodes x.graph accepted.graph)
-  is = is_clean x.graph x.setting (behaviours meaning x) accepted.graph accepted.sound accepted.no_race accepted.ways first coherent present finished.jobs x.graph.goals finished.legal.0.1
+  abbrev is : IsClean x.graph x.setting x.behaviours (given_contents x.setting first) clean (all_nodes x.graph accepted.graph)
+  is = is_clean x.graph x.setting x.behaviours accepted.graph accepted.sound accepted.no_race accepted.ways first coherent present finished.jobs x.graph.goals finished.legal.0.1
 
   -- the make follows one of today's world
   abbrev Goes : World → Type 0
-  Goes = FollowsIn x.graph x.setting (behaviours meaning x) accepted.graph accepted.sound accepted.no_race accepted.ways (given_contents x.setting first) clean (all_nodes x.graph accepted.graph) is (all_recipes x.graph accepted.graph x.setting accepted.sound)
+  Goes = FollowsIn x.graph x.setting x.behaviours accepted.graph accepted.sound accepted.no_race accepted.ways (given_contents x.setting first) clean (all_nodes x.graph accepted.graph) is (all_recipes x.graph accepted.graph x.setting accepted.sound)
 
   goes : Goes (Busy finished.making left)
   goes = subst Goes finished.leaves
-      (follow_all x.graph x.setting (behaviours meaning x) accepted.graph accepted.sound accepted.no_race accepted.ways (given_contents x.setting first) clean (all_nodes x.graph accepted.graph) is (all_recipes x.graph accepted.graph x.setting accepted.sound) (Busy (make_of finished.jobs x.graph.goals) first) finished.steps
-      (begins x.graph x.setting (behaviours meaning x) accepted.graph accepted.sound accepted.no_race accepted.ways first coherent present finished.jobs x.graph.goals finished.legal.0.1) finished.inside finished.legal.1)
+      (follow_all x.graph x.setting x.behaviours accepted.graph accepted.sound accepted.no_race accepted.ways (given_contents x.setting first) clean (all_nodes x.graph accepted.graph) is (all_recipes x.graph accepted.graph x.setting accepted.sound) (Busy (make_of finished.jobs x.graph.goals) first) finished.steps
+      (begins x.graph x.setting x.behaviours accepted.graph accepted.sound accepted.no_race accepted.ways first coherent present finished.jobs x.graph.goals finished.legal.0.1) finished.inside finished.legal.1)
 
   -- and has all goals
   has_goals : finished.making.goals ≡ x.graph.goals
-  has_goals = subst (HasGoals x.graph.goals) finished.leaves (all_goals x.graph x.setting (behaviours meaning x) x.graph.goals (Busy (make_of finished.jobs x.graph.goals) first) finished.steps finished.inside refl finished.legal.1)
+  has_goals = subst (HasGoals x.graph.goals) finished.leaves (all_goals x.graph x.setting x.behaviours x.graph.goals (Busy (make_of finished.jobs x.graph.goals) first) finished.steps finished.inside refl finished.legal.1)
 
   -- so a finished make of an accepted build leaves each recipe as if it had run on what is there
-  pub finished_is_made : IsMade x.graph x.setting (behaviours meaning x) left
-  finished_is_made = is_made x.graph x.setting (behaviours meaning x) accepted.graph accepted.sound accepted.no_race accepted.ways (given_contents x.setting first) clean is finished.making left goes has_goals finished.ends
+  pub finished_is_made : IsMade x.graph x.setting x.behaviours left
+  finished_is_made = is_made x.graph x.setting x.behaviours accepted.graph accepted.sound accepted.no_race accepted.ways (given_contents x.setting first) clean is finished.making left goes has_goals finished.ends

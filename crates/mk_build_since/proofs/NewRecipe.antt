@@ -9,11 +9,11 @@ use Rattle.mk_build.specs.Steps.{Make, Pass}
 use Rattle.mk_build.specs.Clean.{given_contents}
 use Rattle.mk_build.proofs.Changes.{cases_name, changed_here, changed_there}
 use Rattle.mk_build.proofs.Histories.{stamped_file}
-use Rattle.mk_build_behaviours.specs.Behaviours.{Write}
+use Rattle.mk_build_behaviours.specs.Behaviours.{Behaviours, Write}
 use Rattle.mk_build_behaviours.specs.StepsBy.{after_all_by}
 use Rattle.mk_build_behaviours.proofs.Coherence.{start_is_coherent_by}
 use Rattle.mk_build_behaviours.proofs.Traces.{sound_without_reads}
-use Rattle.mk_build_since.specs.Named.{Build, Meaning, behaviours, Rule, NewRecipe, OtherCommands, OtherWrites, ReadGone, ReadText, HoldsOf, IsNamed}
+use Rattle.mk_build_since.specs.Named.{Build, Rule, NewRecipe, OtherCommands, OtherWrites, ReadGone, ReadText, HoldsOf, IsNamed}
 use Rattle.mk_build_since.specs.Next.{IsNext}
 use Rattle.mk_build_since.specs.Needed.{FallShort}
 use Rattle.mk_build_since.proofs.OneNode.{target, one, only_recipe, only_writes, accepted, present, can_start, is_part, passes, not_built, making_in, in_one}
@@ -27,14 +27,14 @@ abbrev made : Setting
 made = record { reads = λ f. []; writes = λ f. target ∷ []; sources = []; texts = []; fixed = [] }
 
 -- the recipe writes 1
-abbrev meaning : Meaning
-meaning name commands = Write (1 ∷ [])
+abbrev writing : Behaviours
+writing f = Write (1 ∷ [])
 
 abbrev old : Build
-old = record { graph = one false; setting = source; commands = λ f. [] }
+old = record { graph = one false; setting = source; commands = λ f. []; behaviours = writing }
 
 abbrev new : Build
-new = record { graph = one true; setting = made; commands = λ f. [] }
+new = record { graph = one true; setting = made; commands = λ f. []; behaviours = writing }
 
 -- it contains 0
 abbrev file : File
@@ -86,6 +86,7 @@ next = record {
   removed = λ f named. absurd (unnamed f named);
   others = λ f has out. inl refl;
   lacking = λ t f wrote not. let same : target ≡ f = in_one target f (only_writes made true t f wrote).2 in absurd (not (inl (inl same)));
+  coming = λ t f on not. absurd on;
 }
 
 -- the clean contents
@@ -95,16 +96,16 @@ end = changed (λ f. None) target (Some 1)
 -- a make of the new build passes the recipe
 pub without_new_recipe : FallShort rules
 without_new_recipe = record {
-  meaning = meaning;
   old = old;
   new = new;
-  old_accepted = accepted source false (λ e. absurd (false≢true e)) (λ f wrote. absurd wrote) (λ f read. absurd read) (λ f read can. read) (λ f. []);
-  new_accepted = accepted made true (λ e. inl refl) (λ f wrote. refl) (λ f read. absurd read) (λ f read can. read) (λ f. []);
+  alike = λ o t was same. absurd (no_recipe o was.0);
+  old_accepted = accepted source false (λ e. absurd (false≢true e)) (λ f wrote. absurd wrote) (λ f read. absurd read) (λ f read can. read) (λ f. []) writing;
+  new_accepted = accepted made true (λ e. inl refl) (λ f wrote. refl) (λ f read. absurd read) (λ f read can. read) (λ f. []) writing;
   first = disk;
   before = disk;
   now = disk;
-  coherent = start_is_coherent_by old.graph source (behaviours meaning old) (sound_without_reads old.graph source (accepted source false (λ e. absurd (false≢true e)) (λ f wrote. absurd wrote) (λ f read. absurd read) (λ f read can. read) (λ f. [])).sound) disk start;
-  present = present false source (behaviours meaning old) disk (λ f. given_contents source disk f) refl (λ e. absurd (false≢true e));
+  coherent = start_is_coherent_by old.graph source writing (sound_without_reads old.graph source (accepted source false (λ e. absurd (false≢true e)) (λ f wrote. absurd wrote) (λ f read. absurd read) (λ f read can. read) (λ f. []) writing).sound) disk start;
+  present = present false source writing disk (λ f. given_contents source disk f) refl (λ e. absurd (false≢true e));
   finished = record {
     jobs = 1;
     steps = Pass 0 ∷ [];
@@ -116,7 +117,7 @@ without_new_recipe = record {
   };
   next = next;
   steps = Make 1 (0 ∷ []) ∷ Pass 0 ∷ [];
-  legal = passes made (behaviours meaning new) disk file refl;
-  stay = (present true made (behaviours meaning new) disk end refl (λ e f on. absurd on), (tt, tt));
-  wrong = λ right. not_built made (behaviours meaning new) disk end refl target 1 (inl refl) refl (λ e. absurd (cc)) (right ((inl refl, tt), refl));
+  legal = passes made writing disk file refl;
+  stay = (present true made writing disk end refl (λ e f on. absurd on), (tt, tt));
+  wrong = λ right. not_built made writing disk end refl target 1 (inl refl) refl (λ e. absurd (cc)) (right ((inl refl, tt), refl));
 }

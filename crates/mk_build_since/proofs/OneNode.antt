@@ -80,8 +80,8 @@ module _ (s : Setting) where
     none_loose (suc n) o low none wrote = absurd (omega arith)
 
     -- a build with given reads that can't change is accepted
-    pub accepted : (commands : FileName → Commands) → IsAccepted (record { graph = one r; setting = s; commands = commands })
-    accepted commands = record {
+    pub accepted : (commands : FileName → Commands) (behaviours : Behaviours) → IsAccepted (record { graph = one r; setting = s; commands = commands; behaviours = behaviours })
+    accepted commands behaviours = record {
       graph = is_graph r;
       sound = record {
         target = λ n recipe no_phony. writes_own n recipe;

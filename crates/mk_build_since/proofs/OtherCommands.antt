@@ -4,11 +4,11 @@ use Rattle.mk_graph.specs.Membership.{Has}
 use Rattle.mk_build.specs.Setting.{FileName, Setting, name, writes}
 use Rattle.mk_build.specs.World.{File, Disk, Making, Idle, changed, written}
 use Rattle.mk_build.specs.Steps.{Step, Make, Begin, Put, End, Pass}
-use Rattle.mk_build_behaviours.specs.Behaviours.{Behaviour, Write}
+use Rattle.mk_build_behaviours.specs.Behaviours.{Behaviours, Write}
 use Rattle.mk_build_behaviours.specs.StepsBy.{after_all_by}
 use Rattle.mk_build_behaviours.proofs.Coherence.{start_is_coherent_by}
 use Rattle.mk_build_behaviours.proofs.Traces.{sound_without_reads}
-use Rattle.mk_build_since.specs.Named.{Commands, Build, Meaning, behaviours, Rule, NewRecipe, OtherCommands, OtherWrites, ReadGone, ReadText, HoldsOf, IsNamed}
+use Rattle.mk_build_since.specs.Named.{Commands, Build, Rule, NewRecipe, OtherCommands, OtherWrites, ReadGone, ReadText, HoldsOf, IsNamed}
 use Rattle.mk_build_since.specs.Next.{IsAccepted, IsNext}
 use Rattle.mk_build_since.specs.Needed.{FallShort}
 use Rattle.mk_build_since.proofs.OneNode.{target, one, only_recipe, only_writes, only_reads, accepted, present, can_start, is_part, passes, not_built, making_in, in_one, not_none, empty, empty_start, empty_stamped, written_stamped}
@@ -16,22 +16,20 @@ use Rattle.mk_build_since.proofs.OneNode.{target, one, only_recipe, only_writes,
 abbrev made : Setting
 made = record { reads = λ f. []; writes = λ f. target ∷ []; sources = []; texts = []; fixed = [] }
 
--- without commands the recipe writes 0, with some it writes 1
-abbrev by_commands : Commands → Behaviour
-by_commands [] = Write (0 ∷ [])
-by_commands (first ∷ commands) = Write (1 ∷ [])
+-- the recipe writes this
+abbrev writing : ℕ → Behaviours
+writing c f = Write (c ∷ [])
 
-abbrev meaning : Meaning
-meaning f commands = by_commands commands
-
+-- without commands it writes 0
 abbrev old : Build
-old = record { graph = one true; setting = made; commands = λ f. [] }
+old = record { graph = one true; setting = made; commands = λ f. []; behaviours = writing 0 }
 
+-- with one it writes 1
 abbrev new : Build
-new = record { graph = one true; setting = made; commands = λ f. [] ∷ [] }
+new = record { graph = one true; setting = made; commands = λ f. [] ∷ []; behaviours = writing 1 }
 
-is_accepted : (commands : FileName → Commands) → IsAccepted (record { graph = one true; setting = made; commands = commands })
-is_accepted commands = accepted made true (λ e. inl refl) (λ f wrote. refl) (λ f read. absurd read) (λ f read can. read) commands
+is_accepted : (commands : FileName → Commands) (behaviours : Behaviours) → IsAccepted (record { graph = one true; setting = made; commands = commands; behaviours = behaviours })
+is_accepted commands behaviours = accepted made true (λ e. inl refl) (λ f wrote. refl) (λ f read. absurd read) (λ f read can. read) commands behaviours
 
 -- the first make
 abbrev run : List Step
@@ -72,21 +70,22 @@ next = record {
   removed = λ f named. absurd (unnamed f named);
   others = λ f has out. inl refl;
   lacking = λ t f wrote not. absurd (not (inr (inr (t, wrote))));
+  coming = λ t f on not. absurd on;
 }
 
 -- a make of the new build passes the recipe
 pub without_other_commands : FallShort rules
 without_other_commands = record {
-  meaning = meaning;
   old = old;
   new = new;
-  old_accepted = is_accepted old.commands;
-  new_accepted = is_accepted new.commands;
+  alike = λ o t was same. absurd (cc);
+  old_accepted = is_accepted old.commands old.behaviours;
+  new_accepted = is_accepted new.commands new.behaviours;
   first = empty;
   before = before;
   now = before;
-  coherent = start_is_coherent_by (one true) made (behaviours meaning old) (sound_without_reads (one true) made (is_accepted old.commands).sound) empty (empty_start made);
-  present = present true made (behaviours meaning old) empty (changed (λ f. None) target (Some 0)) refl (λ e f on. absurd on);
+  coherent = start_is_coherent_by (one true) made old.behaviours (sound_without_reads (one true) made (is_accepted old.commands old.behaviours).sound) empty (empty_start made);
+  present = present true made old.behaviours empty (changed (λ f. None) target (Some 0)) refl (λ e f on. absurd on);
   finished = record {
     jobs = 1;
     steps = run;
@@ -98,7 +97,7 @@ without_other_commands = record {
   };
   next = next;
   steps = Make 1 (0 ∷ []) ∷ Pass 0 ∷ [];
-  legal = passes made (behaviours meaning new) before file refl;
-  stay = (present true made (behaviours meaning new) before (changed (λ f. None) target (Some 1)) refl (λ e f on. absurd on), (tt, tt));
-  wrong = λ right. not_built made (behaviours meaning new) before (changed (λ f. None) target (Some 1)) refl target 1 (inl refl) refl (λ e. absurd (cc)) (right ((inl refl, tt), refl));
+  legal = passes made new.behaviours before file refl;
+  stay = (present true made new.behaviours before (changed (λ f. None) target (Some 1)) refl (λ e f on. absurd on), (tt, tt));
+  wrong = λ right. not_built made new.behaviours before (changed (λ f. None) target (Some 1)) refl target 1 (inl refl) refl (λ e. absurd (cc)) (right ((inl refl, tt), refl));
 }

@@ -7,11 +7,12 @@ use Rattle.mk_build.specs.Setting.{FileName, Setting, name, writes}
 use Rattle.mk_build.specs.World.{File, Disk, Making, Idle, changed, written, without}
 use Rattle.mk_build.specs.Steps.{Step, Make, Begin, Put, End, Pass}
 use Rattle.mk_build.specs.Clean.{Contents}
-use Rattle.mk_build_behaviours.specs.Behaviours.{Write}
+use Rattle.mk_build_behaviours.specs.Behaviours.{Behaviours, Write}
 use Rattle.mk_build_behaviours.specs.StepsBy.{after_all_by}
 use Rattle.mk_build_behaviours.proofs.Coherence.{start_is_coherent_by}
 use Rattle.mk_build_behaviours.proofs.Traces.{sound_without_reads}
-use Rattle.mk_build_since.specs.Named.{Build, Meaning, behaviours, HasFile, OwnsFile, Rule, NewRecipe, OtherCommands, OtherWrites, ReadGone, ReadText, HoldsOf, IsNamed}
+use Rattle.mk_build_since.specs.Named.{Build, HasFile, OwnsFile, Rule, NewRecipe, OtherCommands, OtherWrites, ReadGone, ReadText, HoldsOf, IsNamed}
+use Rattle.mk_build_since.specs.Alike.{ends}
 use Rattle.mk_build_since.specs.Next.{IsAccepted, MayBecome, IsNext}
 use Rattle.mk_build_since.specs.Needed.{FallShort}
 use Rattle.mk_build_since.proofs.OneNode.{target, one, only_writes, only_reads, accepted, present, can_start, is_part, passes, not_built, making_in, in_two, not_none, empty, empty_start, empty_stamped, written_stamped, without_stamped}
@@ -26,14 +27,15 @@ is = 118 ∷ []
 abbrev with_second : FileName → Setting
 with_second second = record { reads = λ f. []; writes = λ f. target ∷ second ∷ []; sources = []; texts = []; fixed = [] }
 
-abbrev meaning : Meaning
-meaning f commands = Write (0 ∷ 1 ∷ [])
+-- the recipe writes two files
+abbrev two : Behaviours
+two f = Write (0 ∷ 1 ∷ [])
 
 abbrev writing : FileName → Build
-writing second = record { graph = one true; setting = with_second second; commands = λ f. [] }
+writing second = record { graph = one true; setting = with_second second; commands = λ f. []; behaviours = two }
 
 is_accepted : (second : FileName) → IsAccepted (writing second)
-is_accepted second = accepted (with_second second) true (λ e. inl refl) (λ f wrote. refl) (λ f read. absurd read) (λ f read can. read) (λ f. [])
+is_accepted second = accepted (with_second second) true (λ e. inl refl) (λ f wrote. refl) (λ f read. absurd read) (λ f read can. read) (λ f. []) two
 
 -- the first make
 abbrev run : List Step
@@ -107,6 +109,7 @@ next = record {
   removed = named_is_gone;
   others = others;
   lacking = λ t f wrote out. not_there f (in_two target is f (only_writes (with_second is) true t f wrote).2) out;
+  coming = λ t f on not. absurd on;
 }
 
 -- what the recipe writes in the clean builds
@@ -116,16 +119,16 @@ both second = changed (changed (λ f. None) target (Some 0)) second (Some 1)
 -- a make of the new build passes the recipe
 pub without_other_writes : FallShort rules
 without_other_writes = record {
-  meaning = meaning;
   old = writing was;
   new = writing is;
+  alike = λ o t same_target same. ends;
   old_accepted = is_accepted was;
   new_accepted = is_accepted is;
   first = empty;
   before = before;
   now = now;
-  coherent = start_is_coherent_by (one true) (with_second was) (behaviours meaning (writing was)) (sound_without_reads (one true) (with_second was) (is_accepted was).sound) empty (empty_start (with_second was));
-  present = present true (with_second was) (behaviours meaning (writing was)) empty (both was) refl (λ e f on. absurd on);
+  coherent = start_is_coherent_by (one true) (with_second was) two (sound_without_reads (one true) (with_second was) (is_accepted was).sound) empty (empty_start (with_second was));
+  present = present true (with_second was) two empty (both was) refl (λ e f on. absurd on);
   finished = record {
     jobs = 1;
     steps = run;
@@ -137,7 +140,7 @@ without_other_writes = record {
   };
   next = next;
   steps = Make 1 (0 ∷ []) ∷ Pass 0 ∷ [];
-  legal = passes (with_second is) (behaviours meaning (writing is)) now file refl;
-  stay = (present true (with_second is) (behaviours meaning (writing is)) now (both is) refl (λ e f on. absurd on), (tt, tt));
-  wrong = λ right. not_built (with_second is) (behaviours meaning (writing is)) now (both is) refl is 1 (inr (inl refl)) refl (λ e. absurd (cc)) (right ((inl refl, tt), refl));
+  legal = passes (with_second is) two now file refl;
+  stay = (present true (with_second is) two now (both is) refl (λ e f on. absurd on), (tt, tt));
+  wrong = λ right. not_built (with_second is) two now (both is) refl is 1 (inr (inl refl)) refl (λ e. absurd (cc)) (right ((inl refl, tt), refl));
 }

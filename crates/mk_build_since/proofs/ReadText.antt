@@ -9,11 +9,12 @@ use Rattle.mk_build.specs.Steps.{Step, Make, Begin, Look, Put, End, Pass}
 use Rattle.mk_build.specs.Clean.{given_contents}
 use Rattle.mk_build.specs.Ways.{CanChange}
 use Rattle.mk_build.proofs.Changes.{cases_name, changed_here, changed_there}
-use Rattle.mk_build_behaviours.specs.Behaviours.{Read, Write}
+use Rattle.mk_build_behaviours.specs.Behaviours.{Behaviours, Read, Write}
 use Rattle.mk_build_behaviours.specs.StepsBy.{after_all_by}
 use Rattle.mk_build_behaviours.proofs.Coherence.{start_is_coherent_by}
 use Rattle.mk_build_behaviours.proofs.Traces.{sound_without_reads}
-use Rattle.mk_build_since.specs.Named.{Build, Meaning, behaviours, Rule, NewRecipe, OtherCommands, OtherWrites, ReadGone, ReadText, HoldsOf, IsNamed}
+use Rattle.mk_build_since.specs.Named.{Build, Rule, NewRecipe, OtherCommands, OtherWrites, ReadGone, ReadText, HoldsOf, IsNamed}
+use Rattle.mk_build_since.specs.Alike.{both, ends}
 use Rattle.mk_build_since.specs.Next.{IsAccepted, MayBecome, IsNext}
 use Rattle.mk_build_since.specs.Needed.{FallShort}
 use Rattle.mk_build_since.proofs.OneNode.{target, one, only_recipe, only_writes, only_reads, accepted, present, can_start, is_part, passes, not_built, making_in, in_one, not_none, empty, empty_stamped, written_stamped}
@@ -26,12 +27,12 @@ abbrev made : Setting
 made = record { reads = λ f. makefile ∷ []; writes = λ f. target ∷ []; sources = []; texts = makefile ∷ []; fixed = [] }
 
 -- the recipe copies it
-abbrev meaning : Meaning
-meaning f commands = Read makefile (λ c. Write (unwrap_or c 0 ∷ []))
+abbrev copying : Behaviours
+copying f = Read makefile (λ c. Write (unwrap_or c 0 ∷ []))
 
 -- both builds
 abbrev build : Build
-build = record { graph = one true; setting = made; commands = λ f. [] }
+build = record { graph = one true; setting = made; commands = λ f. []; behaviours = copying }
 
 -- what it writes isn't given
 not_given : (f : FileName) → target ≡ f → is_given made f ≡ false
@@ -46,7 +47,7 @@ fixed : (f : FileName) → makefile ≡ f → ¬ (CanChange made f)
 fixed f same can = ⊎_elim (λ editable. false≢true (subst (λ (k : FileName). is_editable made k ≡ true) (sym same) editable)) (λ not. true≢false (sym (given f same) ∙ not)) can
 
 is_accepted : IsAccepted build
-is_accepted = accepted made true (λ e. inl refl) (λ f wrote. not_given f (in_one target f wrote)) (λ f read. given f (in_one makefile f read)) (λ f read. fixed f (in_one makefile f read)) (λ f. [])
+is_accepted = accepted made true (λ e. inl refl) (λ f wrote. not_given f (in_one target f wrote)) (λ f read. given f (in_one makefile f read)) (λ f read. fixed f (in_one makefile f read)) (λ f. []) copying
 
 -- at first there is the makefile alone
 abbrev first : Disk
@@ -116,21 +117,22 @@ next = record {
   removed = λ f named. absurd (unnamed f named);
   others = λ f has out. others f;
   lacking = λ t f wrote not. absurd (not (inr (inr (t, wrote))));
+  coming = λ t f on not. absurd (not (inl (given f (in_one makefile f on))));
 }
 
 -- a make passes the recipe
 pub without_read_text : FallShort rules
 without_read_text = record {
-  meaning = meaning;
   old = build;
   new = build;
+  alike = λ o t was same. both (λ c. ends);
   old_accepted = is_accepted;
   new_accepted = is_accepted;
   first = first;
   before = before;
   now = now;
-  coherent = start_is_coherent_by (one true) made (behaviours meaning build) (sound_without_reads (one true) made is_accepted.sound) first start;
-  present = present true made (behaviours meaning build) first (changed (given_contents made first) target (Some 0)) refl (λ e f on. on);
+  coherent = start_is_coherent_by (one true) made copying (sound_without_reads (one true) made is_accepted.sound) first start;
+  present = present true made copying first (changed (given_contents made first) target (Some 0)) refl (λ e f on. on);
   finished = record {
     jobs = 1;
     steps = run;
@@ -142,7 +144,7 @@ without_read_text = record {
   };
   next = next;
   steps = Make 1 (0 ∷ []) ∷ Pass 0 ∷ [];
-  legal = passes made (behaviours meaning build) now file refl;
-  stay = (present true made (behaviours meaning build) now (changed (given_contents made now) target (Some 1)) refl (λ e f on. on), (tt, tt));
-  wrong = λ right. not_built made (behaviours meaning build) now (changed (given_contents made now) target (Some 1)) refl target 1 (inl refl) refl (λ e. absurd (cc)) (right ((inl refl, tt), refl));
+  legal = passes made copying now file refl;
+  stay = (present true made copying now (changed (given_contents made now) target (Some 1)) refl (λ e f on. on), (tt, tt));
+  wrong = λ right. not_built made copying now (changed (given_contents made now) target (Some 1)) refl target 1 (inl refl) refl (λ e. absurd (cc)) (right ((inl refl, tt), refl));
 }

@@ -1,4 +1,5 @@
 pub mod Named
+pub mod Alike
 pub mod Next
 pub mod SinceLaws
 pub mod Needed

@@ -3,26 +3,19 @@ use Rattle.std.specs.Prelude.{◌≡◌, ℕ, List, [], ◌∷◌, true, ◌⊎�
 use Rattle.mk_graph.specs.Membership.{Has}
 use Rattle.mk_graph.specs.Graph.{Graph, node}
 use Rattle.mk_build.specs.Setting.{FileName, Setting, is_given, name, reads, writes, IsAlwaysMade}
-use Rattle.mk_build_behaviours.specs.Behaviours.{Behaviour, Behaviours}
+use Rattle.mk_build_behaviours.specs.Behaviours.{Behaviours}
 
 -- The commands of a recipe, each as its bytes.
 abbrev pub Commands : Type 0
 Commands = List (List ℕ)
 
--- A build: its graph, its footprints and files, and the commands of each recipe, by its target's
--- name.
+-- A build: its graph, its footprints and files, and by a target's name the commands of its recipe and
+-- how that behaves.
 pub record Build : Type 0 where
   pub graph : Graph
   pub setting : Setting
   pub commands : FileName → Commands
-
--- How recipes behave: the target and the commands decide it, in each build.
-abbrev pub Meaning : Type 0
-Meaning = FileName → Commands → Behaviour
-
--- The behaviours of the recipes of a build.
-abbrev pub behaviours : Meaning → Build → Behaviours
-behaviours meaning x target = meaning target (x.commands target)
+  pub behaviours : Behaviours
 
 -- A recipe of the build writes the file.
 abbrev pub IsWritten : Build → FileName → Type 0

@@ -3,12 +3,13 @@ use Rattle.std.specs.Prelude.{◌≡◌, ℕ, ◌≤◌, List, ◌∷◌, true, 
 use Rattle.mk_graph.specs.Membership.{Has}
 use Rattle.mk_graph.specs.Graph.{IsGraph}
 use Rattle.mk_build.specs.Setting.{FileName, is_given, is_editable, writes}
-use Rattle.mk_build.specs.World.{Disk, Making, Idle, Busy, HasStamp, WasWrittenAfter}
+use Rattle.mk_build.specs.World.{Disk, Making, Idle, Busy, content, HasStamp, WasWrittenAfter}
 use Rattle.mk_build.specs.Steps.{Step, Make, EndMake, Allowed}
 use Rattle.mk_build.specs.BuildLaws.{AreInside}
 use Rattle.mk_build.specs.Right.{AreSound, HaveNoRace, HaveWays}
+use Rattle.mk_build_behaviours.specs.Behaviours.{behaviour, path}
 use Rattle.mk_build_behaviours.specs.StepsBy.{IsLegalBy, after_all_by}
-use Rattle.mk_build_since.specs.Named.{Build, Meaning, behaviours, HasFile, OwnsFile, Rule, IsNamed}
+use Rattle.mk_build_since.specs.Named.{Build, HasFile, OwnsFile, Rule, IsNamed}
 
 -- The build is accepted: its footprints are sound, there is no race, and each read of a file that
 -- can change has a way.
@@ -19,11 +20,11 @@ pub record IsAccepted (x : Build) : Type 0 where
   pub ways : HaveWays x.graph x.setting
 
 -- A make of all goals of the build, from the first disk, is finished and leaves the second disk.
-pub record IsFinished (meaning : Meaning) (x : Build) (first left : Disk) : Type 0 where
+pub record IsFinished (x : Build) (first left : Disk) : Type 0 where
   pub jobs : ℕ
   pub steps : List Step
   pub inside : AreInside steps
-  pub legal : IsLegalBy x.graph x.setting (behaviours meaning x) (Idle first) (Make jobs
+  pub legal : IsLegalBy x.graph x.setting x.behaviours (Idle first) (Make jobs
       x.graph.goals ∷ steps)
   pub making : Making
   pub leaves : after_all_by x.graph x.setting (Idle first) (Make jobs x.graph.goals ∷ steps) ≡
@@ -43,7 +44,9 @@ MayBecome old new before now f =
 
 -- The disk after the change: the clock didn't go back and no stamp is later than it; the files that
 -- these rules name are removed; each other file of the old build has become what it may; and what a
--- recipe of the new build writes and the old build doesn't have itself isn't there.
+-- recipe of the new build writes and the old build doesn't have itself isn't there. A file that the
+-- old build doesn't have and a recipe of the new one would have looked for wasn't there, and isn't
+-- there now or is a source that was written since.
 pub record IsNext (rules : List Rule) (old new : Build) (before now : Disk) : Type 0 where
   pub came : before.clock ≤ now.clock
   pub stamped : (f : FileName) (stamp : ℕ) → HasStamp now f stamp → stamp ≤ now.clock
@@ -52,3 +55,8 @@ pub record IsNext (rules : List Rule) (old new : Build) (before now : Disk) : Ty
       before now f
   pub lacking : (t : ℕ) (f : FileName) → Has (writes new.graph new.setting t) f →
       ¬ (OwnsFile old f) → now.files f ≡ None
+  pub coming : (t : ℕ) (f : FileName) →
+      Has (path (behaviour new.graph new.behaviours t) (content before)) f → ¬ (HasFile old f) →
+      (before.files f ≡ None) ×
+      ((now.files f ≡ None) ⊎
+      ((is_editable new.setting f ≡ true) × WasWrittenAfter now f before.clock))

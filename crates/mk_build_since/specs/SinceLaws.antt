@@ -10,34 +10,36 @@ use Rattle.mk_build_behaviours.specs.BehaviourLaws.{StayPresent}
 use Rattle.mk_build_behaviours.specs.CleanBy.{IsRightBy, ArePresent}
 use Rattle.mk_build_behaviours.specs.CoherentBy.{IsCoherentBy}
 use Rattle.mk_build_behaviours.specs.StepsBy.{IsLegalBy, after_all_by}
-use Rattle.mk_build_since.specs.Named.{Build, Meaning, behaviours, all_rules, IsNamed}
+use Rattle.mk_build_since.specs.Named.{Build, all_rules, IsNamed}
+use Rattle.mk_build_since.specs.Alike.{BehaveAlike}
 use Rattle.mk_build_since.specs.Next.{IsAccepted, IsFinished, IsNext}
 
--- Take a finished make of all goals of an accepted build, with present footprints, from a coherent
--- disk; then any edits, new and deleted sources, and the removal of the named files. If the new
--- build's footprints are sound, the disk is coherent for the new build.
+-- Take two builds whose recipes with the same target and commands behave alike, and a finished make
+-- of all goals of the first, which is accepted, with present footprints, from a coherent disk; then
+-- any edits, new and deleted sources, and the removal of the named files. If the second build's
+-- footprints are sound, the disk is coherent for it.
 abbrev pub NextIsCoherent : Type 0
 NextIsCoherent =
-    (meaning : Meaning) (old new : Build) → IsAccepted old → IsGraph new.graph →
+    (old new : Build) → BehaveAlike old new → IsAccepted old → IsGraph new.graph →
     AreSound new.graph new.setting → (first before now : Disk) →
-    IsCoherentBy old.graph old.setting (behaviours meaning old) first →
-    ArePresent old.graph old.setting (behaviours meaning old) first →
-    IsFinished meaning old first before → IsNext all_rules old new before now →
-    IsCoherentBy new.graph new.setting (behaviours meaning new) now
+    IsCoherentBy old.graph old.setting old.behaviours first →
+    ArePresent old.graph old.setting old.behaviours first →
+    IsFinished old first before → IsNext all_rules old new before now →
+    IsCoherentBy new.graph new.setting new.behaviours now
 
 -- If the new build is accepted too, and its footprints are present whenever a make of it begins, then
 -- each of its traces from that disk is right, with any edits, makes, stops and recipes that broke
 -- off.
 abbrev pub NextBuildsAreRight : Type 0
 NextBuildsAreRight =
-    (meaning : Meaning) (old new : Build) → IsAccepted old → IsAccepted new →
+    (old new : Build) → BehaveAlike old new → IsAccepted old → IsAccepted new →
     (first before now : Disk) →
-    IsCoherentBy old.graph old.setting (behaviours meaning old) first →
-    ArePresent old.graph old.setting (behaviours meaning old) first →
-    IsFinished meaning old first before → IsNext all_rules old new before now → (steps : List Step) →
-    IsLegalBy new.graph new.setting (behaviours meaning new) (Idle now) steps →
-    StayPresent new.graph new.setting (behaviours meaning new) (Idle now) steps →
-    IsRightBy new.graph new.setting (behaviours meaning new)
+    IsCoherentBy old.graph old.setting old.behaviours first →
+    ArePresent old.graph old.setting old.behaviours first →
+    IsFinished old first before → IsNext all_rules old new before now → (steps : List Step) →
+    IsLegalBy new.graph new.setting new.behaviours (Idle now) steps →
+    StayPresent new.graph new.setting new.behaviours (Idle now) steps →
+    IsRightBy new.graph new.setting new.behaviours
     (after_all_by new.graph new.setting (Idle now) steps)
 
 -- Each recipe of the first graph has the target of a recipe of the second.

@@ -21,8 +21,8 @@ pub fn prerequisites_name_nothing()
     ensures { PrerequisitesNameNothing }
 {}
 
-/// Without the rule of new recipes, of other commands, of other writes or of makefile texts, the
-/// others fall short.
+/// Without one of the rules the others fall short: after the removal of the files that they name a
+/// make may end without having built its goal.
 pub fn rules_are_needed()
     ensures { RulesAreNeeded }
 {}
