@@ -7,6 +7,7 @@ from __future__ import annotations
 import json
 import os
 import re
+import runpy
 import shutil
 import subprocess
 import sys
@@ -138,6 +139,13 @@ def test_only_a_proved_program_is_packed(
     assert package.main(["--program", str(tmp_path / "none"), "deb", str(tmp_path / "to")]) == 2
     assert "none isn't there: make proved" in capsys.readouterr().err
     assert not (tmp_path / "to").exists()
+
+
+@pytest.mark.parametrize("version", [(3, 6, 15), (3, 10, 13)])
+def test_an_old_python_is_told(version: tuple[int, ...], monkeypatch: pytest.MonkeyPatch) -> None:
+    monkeypatch.setattr(sys, "version_info", version)
+    with pytest.raises(SystemExit, match=r"^The tools of mkcheck need Python 3\.11 or later; "):
+        runpy.run_path(str(ROOT / "tools" / "mkcheck_tools" / "__init__.py"))
 
 
 def options_of(program: str, *words: str) -> set[str]:
