@@ -9,7 +9,7 @@ FUZZ =
 CHECKED =
 
 .PHONY: all build demo proved check cases program edits growths recorder importer
-.PHONY: audit report importcheck realcheck manuals pages fuzz bench install clean
+.PHONY: audit report installed importcheck realcheck manuals pages fuzz bench install deb dist clean
 
 all: build
 
@@ -91,6 +91,10 @@ audit: build
 report: build
 	@pytest-3 -q -n 4 tests/report
 
+# Tests what is installed and packed, by bash, zsh, fish and dpkg-deb where these are there.
+installed: build
+	@pytest-3 -q tests/installed
+
 # Records the examples anew, where strace and their compilers are there.
 realcheck: build
 	@MKCHECK=bin/mkcheck PYTHONPATH=tests python3 -m recorder.real
@@ -134,13 +138,15 @@ bench: proved
 
 # Installs the proved program, where it was built and is up to date, else the quick one.
 install: build
-	mkdir -p $(DESTDIR)$(PREFIX)/bin
-	cp -f bin/mkcheck bin/mkcheck-* $(DESTDIR)$(PREFIX)/bin
-	mkdir -p $(DESTDIR)$(PREFIX)/share/man/man1
-	cp -f man/*.1 $(DESTDIR)$(PREFIX)/share/man/man1
-	mkdir -p $(DESTDIR)$(PREFIX)/share/doc/mkcheck
-	cp -f docs/*.md LICENSE-MIT LICENSE-APACHE $(DESTDIR)$(PREFIX)/share/doc/mkcheck
-	@$(DESTDIR)$(PREFIX)/bin/mkcheck --version
+	@python3 tools/package.py install $(DESTDIR)$(PREFIX)
+
+# Writes a Debian package of the proved program and of all that is installed.
+deb: proved
+	@python3 tools/package.py deb bin
+
+# The same as an archive, which runs on any Linux of the processor.
+dist: proved
+	@python3 tools/package.py dist bin
 
 clean:
 	rm -rf bin bench/data bench/__pycache__ crates/*/out

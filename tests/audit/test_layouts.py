@@ -7,10 +7,10 @@ import subprocess
 from pathlib import Path
 
 import pytest
-
 from mkcheck_tools.audit.layouts import Layout
-from mkcheck_tools.audit.makefile_lines import mark_of, rule_line
+from mkcheck_tools.audit.makefile_lines import mark_of
 from mkcheck_tools.audit.mending import Addition, with_additions
+from mkcheck_tools.report.makefiles import rule_line
 
 # Each makefile has the rule that is extended at the line with `# HERE`, and the place that is
 # expected at the line `# THERE`, which isn't part of it.
@@ -110,9 +110,7 @@ def parts(text: str) -> tuple[str, int, int]:
 def run_make(folder: Path, makefile: str, *words: str) -> str:
     """What GNU make prints of a makefile."""
     (folder / "makefile").write_text(makefile)
-    done = subprocess.run(
-        ["make", *words], cwd=folder, capture_output=True, text=True, check=False
-    )
+    done = subprocess.run(["make", *words], cwd=folder, capture_output=True, text=True, check=False)
     assert done.returncode == 0, done.stderr
     return done.stdout
 

@@ -29,7 +29,14 @@ OBJECTS: dict[str, tuple[dict[str, object], tuple[str, ...]]] = {
     ),
     "tool": ({"driver": "toolComponent"}, ("driver",)),
     "toolComponent": (
-        {"name": str, "fullName": str, "rules": ["reportingDescriptor"]},
+        {
+            "name": str,
+            "fullName": str,
+            "version": str,
+            "semanticVersion": str,
+            "informationUri": str,
+            "rules": ["reportingDescriptor"],
+        },
         ("name",),
     ),
     "reportingDescriptor": (
@@ -37,6 +44,7 @@ OBJECTS: dict[str, tuple[dict[str, object], tuple[str, ...]]] = {
             "id": str,
             "shortDescription": "multiformatMessageString",
             "help": "multiformatMessageString",
+            "helpUri": str,
             "defaultConfiguration": "reportingConfiguration",
         },
         ("id",),

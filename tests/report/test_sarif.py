@@ -4,8 +4,12 @@ from __future__ import annotations
 
 import json
 import subprocess
+import unittest.mock
 
-from report.project import HIDING, MKCHECK, RACE, ReportTest
+from mkcheck_tools import VERSION
+from mkcheck_tools.report import sarif
+from pages.links import leads_nowhere
+from report.project import HIDING, MKCHECK, RACE, ROOT, ReportTest
 from report.schema import wrong_parts
 
 
@@ -43,6 +47,22 @@ class SarifTest(ReportTest):
             self.assertEqual(list(map(self.line_of, result["relatedLocations"])), [("makefile", 3)])
             self.assertIn("main.o", result["message"]["text"])
         self.assertEqual(run["invocations"], [{"executionSuccessful": True, "exitCode": 1}])
+
+    def test_tool(self) -> None:
+        """Its version, and where its readers are led, once the repository has an address."""
+        self.race()
+        driver = self.sarif(1)["tool"]["driver"]
+        self.assertEqual(driver["version"], VERSION)
+        self.assertEqual(driver["semanticVersion"], VERSION)
+        self.assertNotIn("informationUri", driver)
+        with unittest.mock.patch.object(sarif, "HOME", "https://mkcheck.example"):
+            found = sarif.driver(
+                f"mkcheck {VERSION} (proved)", [sarif.rule("race", "", "", "error")]
+            )
+        self.assertEqual(found["informationUri"], "https://mkcheck.example")
+        base, _, page = found["rules"][0]["helpUri"].partition("/docs/")
+        self.assertEqual(base, "https://mkcheck.example")
+        self.assertFalse(leads_nowhere(ROOT / "docs" / "REFERENCE.md", page))
 
     def test_fixes_mend(self) -> None:
         """The makefile with a fix is right, however the makefile ends."""

@@ -13,4 +13,13 @@ Rooms, from the bottom up:
 - `record`, `imports`, `report`, `audit`: the four programs; the last one begins the others
 """
 
+import sys
+
 VERSION = "0.2.0"
+# The address of the repository, to which logs lead their readers; empty while it has none.
+HOME = ""
+LEAST = (3, 11)
+if sys.version_info < LEAST:
+    sys.exit(
+        "The tools of mkcheck need Python 3.11 or later; this is Python " + sys.version.split()[0]
+    )

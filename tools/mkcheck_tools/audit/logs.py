@@ -11,9 +11,17 @@ from mkcheck_tools.audit.judgements import Judgement
 from mkcheck_tools.audit.mending import Addition, addition_of, closes
 from mkcheck_tools.audit.verdicts import Finding
 from mkcheck_tools.report.escaping import as_sentence, clipped, visible
-from mkcheck_tools.report.sarif import ROOT, SCHEMA, artifact, level_of, location, rule, text
+from mkcheck_tools.report.sarif import (
+    ROOT,
+    SCHEMA,
+    artifact,
+    driver,
+    level_of,
+    location,
+    rule,
+    text,
+)
 
-NAME = "mkcheck"
 UNJUDGED = "not-judged"
 ABOUT_UNJUDGED = "a recipe, or a question on it, couldn't be judged"
 ABOUT_ROOT = "The top of the repository, or the project's folder where there is none."
@@ -61,7 +69,7 @@ def sarif_text(
             {"level": "error", "message": text(audited.refused)}
         ]
     run = {
-        "tool": {"driver": {"name": NAME, "fullName": visible(version), "rules": rules}},
+        "tool": {"driver": driver(version, rules)},
         "columnKind": "unicodeCodePoints",
         "originalUriBaseIds": {ROOT: {"description": {"text": ABOUT_ROOT}}},
         "invocations": [invocation],

@@ -6,11 +6,7 @@ import os
 import re
 from dataclasses import dataclass, field
 
-from mkcheck_tools.answers.graphs import goes_on
 from mkcheck_tools.audit.verdicts import Spot
-
-# What may stand between the lines of a recipe: comments, and conditionals of GNU make.
-BETWEEN = re.compile(r"\s*(?:#|(?:ifeq|ifneq|ifdef|ifndef|else|endif)\b)")
 
 
 @dataclass
@@ -55,21 +51,3 @@ def mark_of(line: str, targets: tuple[str, ...]) -> tuple[int, int]:
     start = len(line) - len(line.lstrip())
     front = line[start:].partition(":")[0].rstrip()
     return start, max(len(front), 1)
-
-
-def rule_line(lines: list[str], line: int | None) -> int | None:
-    """The line that begins the rule whose recipe, or whose rule line, a line is."""
-    if line is None or not 1 <= line <= len(lines):
-        return line
-    number = line
-    while number > 1 and is_within(lines, number):
-        number -= 1
-    return line if is_within(lines, number) or ":" not in lines[number - 1] else number
-
-
-def is_within(lines: list[str], number: int) -> bool:
-    """Whether a line doesn't begin a rule: one of a recipe, an empty one, a comment, a line of a
-    conditional, or one that goes on with the line before it."""
-    text = lines[number - 1]
-    goes = number > 1 and goes_on(lines[number - 2])
-    return goes or text.startswith("\t") or not text.strip() or bool(BETWEEN.match(text))

@@ -240,6 +240,9 @@ class Import(Generic[Shown, Built]):
         kept = self.desk.take_kept()
         if kept is None:
             return None
+        if places.namespace() is None:
+            self.refuse("the system allows no mount namespace, so copies have other paths each time")
+            return None
         change = change_of(kept, now)
         if change.why:
             self.refuse(change.why)

@@ -2,7 +2,8 @@
 
 from __future__ import annotations
 
-from dataclasses import dataclass, field
+from collections.abc import Iterable
+from dataclasses import dataclass, field, replace
 
 from mkcheck_tools.answers.checkers import Checker
 from mkcheck_tools.answers.findings import KINDS, Answer, Finding, Group, answer_of
@@ -12,6 +13,8 @@ from mkcheck_tools.book.note_files import Noted, read_notes
 from mkcheck_tools.faults import Fault
 from mkcheck_tools.report.books import Reached, book_of
 from mkcheck_tools.report.escaping import counted, visible
+from mkcheck_tools.report.makefiles import Makefiles
+from mkcheck_tools.report.origins import Origins
 
 
 @dataclass
@@ -27,6 +30,36 @@ class Judged:
     book: Reached = field(default_factory=lambda: Reached((), frozenset(), {}, {}))
     noted: Noted = field(default_factory=Noted)
     """What the recorder knew beside the footprints."""
+
+    origins: Origins | None = None
+    """Where the names stand in the original makefiles, where the makefile is a translation."""
+
+    @property
+    def original(self) -> str:
+        """The makefile that people write."""
+        return (self.origins.original if self.origins else "") or self.makefile
+
+    def rule_of(self, target: str, makefiles: Makefiles) -> tuple[str, int | None]:
+        """The makefile and the line of the rule of a target."""
+        if self.origins is not None:
+            return self.origins.place([target]) or (self.original, None)
+        return self.makefile, makefiles.rule_line(self.makefile, target)
+
+    def lines_by_makefile(self, adds: Iterable[str]) -> dict[str, list[str]]:
+        """Lines to add, by the makefile to which each is added."""
+        if self.origins is None:
+            return {self.makefile: list(adds)}
+        found: dict[str, list[str]] = {}
+        for makefile, lines in self.origins.lines(adds).items():
+            found.setdefault(makefile or self.original, []).extend(lines)
+        return found
+
+    def missing_words(self, group: Group) -> list[str]:
+        """The prerequisites that a group lacks, as its makefile has them."""
+        if self.origins is None:
+            return group.missing()
+        node = self.origins.nodes.get(group.targets[0], {}) if group.targets else {}
+        return [self.origins.word(name, node.get("folder") or ".") for name in group.missing()]
 
     @property
     def answer(self) -> str:
@@ -91,7 +124,13 @@ def judge(checker: Checker) -> Judged:
     """Has a build judged."""
     reply = checker.check()
     answer = answer_of(reply)
+    origins = Origins.beside(checker.makefile)
+    if origins is not None:
+        groups = tuple(origins.at_origins(answer.groups))
+        later = tuple(origins.at_origins(answer.later))
+        answer = replace(answer, groups=groups, later=later)
     judged = Judged(checker, checker.version(), checker.makefile, reply.status, answer)
+    judged.origins = origins
     judged.noted = read_notes(checker.book)
     if answer.refusal is None:
         judged.graph, judged.book = graph_and_book(checker)

@@ -4,14 +4,7 @@ from __future__ import annotations
 
 from collections.abc import Sequence
 
-from mkcheck_tools.report.escaping import (
-    as_sentence,
-    clipped,
-    counted,
-    markup,
-    prose,
-    shortened,
-)
+from mkcheck_tools.report.escaping import as_sentence, clipped, counted, markup, prose, shortened
 from mkcheck_tools.report.judging import Judged
 from mkcheck_tools.report.pairs import Shared
 from mkcheck_tools.report.parts import Budget, clipped_lines, place_of
@@ -25,21 +18,13 @@ def what_to_do(judged: Judged, repair: str, those: Sequence[Shared]) -> str:
     """The lines to add, what else to do, and where each group stands on the page."""
     unmended = [one for one in those if not one.first.adds]
     parts = ["<h2>What to do</h2>\n"]
-    makefile = f"<code>{markup(shortened(judged.makefile))}</code>"
     lines = repair.split("\n") if repair else lines_of(those)
-    if repair:
-        parts.append(
-            f"<p>Add these lines to the end of {makefile}: with them the answer is yes."
-            " <code>mkcheck repair</code> prints them.</p>\n"
-        )
-    elif lines:
-        number = len(those) - len(unmended)
-        parts.append(
-            f"<p>Add these lines to the end of {makefile}. They are for"
-            f" {counted(number, 'problem')} below; check again then.</p>\n"
-        )
-    if lines:
-        parts.append(f'<pre class="add all">{clipped_lines(lines)}</pre>\n')
+    for number, (makefile, own) in enumerate(judged.lines_by_makefile(lines).items()):
+        if not own:
+            continue
+        parts.append(f"<p>Add these lines to the end of <code>{markup(shortened(makefile))}</code>")
+        parts.append("" if number else promised(judged, repair, len(those) - len(unmended)))
+        parts.append(f'.</p>\n<pre class="add all">{clipped_lines(own)}</pre>\n')
     if unmended and not repair:
         said = "For these no line helps:" if lines else "No line that could be added helps:"
         parts.append(f"<p>{said}</p>\n<ul>{items(unmended, is_advice=True)}</ul>\n")
@@ -50,6 +35,15 @@ def what_to_do(judged: Judged, repair: str, those: Sequence[Shared]) -> str:
             f"<ol>{items(those, is_advice=False)}</ol></details>\n"
         )
     return "".join(parts)
+
+
+def promised(judged: Judged, repair: str, mended: int) -> str:
+    """What comes of the lines to add, of which `repair` says that with them all is right."""
+    if not repair:
+        return f". They are for {counted(mended, 'problem')} below; check again then"
+    if judged.origins is not None:
+        return ": with all lines to add the answer is yes"
+    return ": with them the answer is yes. <code>mkcheck repair</code> prints them"
 
 
 def lines_of(those: Sequence[Shared]) -> list[str]:

@@ -13,7 +13,16 @@ from mkcheck_tools.report.judging import Judged
 from mkcheck_tools.report.makefiles import Makefiles
 from mkcheck_tools.report.panels import findings
 from mkcheck_tools.report.parts import Budget, look_of, place_of
-from mkcheck_tools.report.pictures import EDGES_AT_MOST, WHOLE_AT_MOST, as_list, drawn, key, whole
+from mkcheck_tools.report.pictures import (
+    EDGES_AT_MOST,
+    WHOLE_AT_MOST,
+    as_list,
+    drawn,
+    key,
+    reads_found,
+    whole,
+)
+from mkcheck_tools.report.reduced import fitting
 from mkcheck_tools.report.style import SCRIPT, STYLE
 
 # As the README has it; a test compares.
@@ -36,8 +45,6 @@ ENDS = (
     "Ends: `source`, the file is edited, and is a prerequisite of the last recipe; `written`, the"
     " last recipe writes it; `always`, the last recipe runs in each make.",
 )
-# Findings of a read whose file is no prerequisite.
-LACKING = ("race", "stale", "unknown")
 # How much is shown, so that a page stays small.
 LIST_AT_MOST = 120
 WAYS_AT_MOST = 10_000
@@ -46,7 +53,7 @@ WAYS_BYTES = 2_000_000
 
 def page(judged: Judged, front: str = "") -> str:
     """The page. `front` is markup that stands before all but the head."""
-    title = f"mkcheck: {judged.answer}, {shortened(judged.makefile)}"
+    title = f"mkcheck: {judged.answer}, {shortened(judged.original)}"
     if judged.refusal is not None:
         body = refusal(judged)
     elif judged.answer == "yes":
@@ -72,7 +79,8 @@ def head(judged: Judged) -> str:
     goals = judged.graph.goals or [word for word in judged.checker.words if "=" not in word]
     left_out = ", without the default text" if "-r" in judged.checker.options else ""
     rows = [
-        ("Makefile", judged.makefile + left_out),
+        ("Makefile", judged.original + left_out),
+        ("Translated", judged.makefile if judged.origins else ""),
         ("Footprints", judged.checker.book),
         ("Goals", " ".join(goals) or "the first target"),
         ("Macros", " ".join(operands)),
@@ -179,15 +187,18 @@ def ways(judged: Judged) -> str:
 
 
 def whole_graph(judged: Judged) -> str:
-    """The whole graph, if it isn't too large."""
+    """The whole graph, or a smaller one where it is too large."""
     number = len(judged.graph.nodes)
-    if not 1 < number <= WHOLE_AT_MOST:
+    if number <= 1:
         return ""
-    found = {(one.reader, one.file) for one in judged.findings if one.kind in LACKING}
+    found = reads_found(judged.checked)
     drawing, said = whole(judged.graph, judged.book, short=True, found=found), ""
+    if number > WHOLE_AT_MOST:
+        drawing, said = fitting(drawing)
+        said = f" {said}"
     if drawing.size > EDGES_AT_MOST:
         left_out = len(drawing.missing) + len(drawing.unlisted)
-        said = f" Left out: {counted(left_out, 'read')} of files that aren't listed."
+        said += f" Left out: {counted(left_out, 'read')} of files that aren't listed."
         drawing = drawing.of_prerequisites()
     if len(drawing.edges) > EDGES_AT_MOST:
         said = f"It has {counted(len(drawing.edges), 'edge')}; `mkcheck-report --dot` prints them."

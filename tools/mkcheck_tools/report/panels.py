@@ -116,7 +116,7 @@ def panels(judged: Judged, those: Sequence[Shared], shown: Shown) -> list[str]:
     for one in those:
         text = panel(judged, one, shown) if one.anchor in shown.full else ""
         if not text or not shown.detailed.takes(text):
-            text = short_panel(one)
+            text = short_panel(one, judged)
             if not shown.brief.takes(text):
                 left += 1
                 continue
@@ -211,8 +211,9 @@ def panel(judged: Judged, one: Shared, shown: Shown) -> str:
     group = one.first
     parts = [sentences(one)]
     if group.line is not None:
-        parts.append(shown.makefiles.excerpt(group.file, group.line, group.missing()))
-    parts.append(remedy(group, judged.makefile))
+        missing = judged.missing_words(group)
+        parts.append(shown.makefiles.excerpt(group.file, group.line, missing))
+    parts.append(remedy(group, judged))
     figures = [shown.timelines.get(finding.number, "") for finding in one.findings]
     figures.append(graph_around(one, shown))
     parts.append(f'<div class="show">{"".join(figures)}</div>' if any(figures) else "")
@@ -242,11 +243,14 @@ def sentences(one: Shared) -> str:
     return "".join([head, *more])
 
 
-def remedy(group: Group, makefile: str) -> str:
+def remedy(group: Group, judged: Judged) -> str:
     """What mends a group."""
     if group.adds:
-        head = f"<h4>Add to {markup(shortened(makefile))}</h4>"
-        return f'{head}<pre class="add">{clipped_lines(group.adds)}</pre>'
+        return "".join(
+            f"<h4>Add to {markup(shortened(makefile))}</h4>"
+            f'<pre class="add">{clipped_lines(lines)}</pre>'
+            for makefile, lines in judged.lines_by_makefile(group.adds).items()
+        )
     return f"<h4>What to do</h4>{advice(group)}" if group.advice else ""
 
 
@@ -273,10 +277,13 @@ def names_left_out(group: Group) -> Iterator[str]:
             yield line
 
 
-def short_panel(one: Shared) -> str:
+def short_panel(one: Shared, judged: Judged) -> str:
     """A group without pictures."""
     group = one.first
-    adds = f'<pre class="add">{clipped_lines(group.adds)}</pre>' if group.adds else ""
+    by_makefile = judged.lines_by_makefile(group.adds) if group.adds else {}
+    adds = "".join(
+        f'<pre class="add">{clipped_lines(lines)}</pre>' for lines in by_makefile.values()
+    )
     return (
         f'<section class="panel brief" id="{one.anchor}">{sentences(one)}{adds}{advice(group)}'
         "</section>\n"

@@ -9,6 +9,7 @@ import xml.etree.ElementTree as Tree
 from collections.abc import Collection
 from dataclasses import dataclass, field
 
+from mkcheck_tools.answers.findings import Answer
 from mkcheck_tools.answers.graphs import Graph
 from mkcheck_tools.report.books import Reached
 from mkcheck_tools.report.escaping import counted, dot_string, markup, shortened, visible
@@ -16,6 +17,8 @@ from mkcheck_tools.report.escaping import counted, dot_string, markup, shortened
 SVG = "http://www.w3.org/2000/svg"
 XLINK = "http://www.w3.org/1999/xlink"
 SECONDS = 20
+# Findings of a read whose file is no prerequisite.
+LACKING = ("race", "stale", "unknown")
 AROUND_AT_MOST, BESIDE_AT_MOST = 14, 5
 WHOLE_AT_MOST, EDGES_AT_MOST = 300, 3000
 LABEL_AT_MOST = 28
@@ -28,6 +31,7 @@ LOOKS = {
     "file": 'shape=note, color="#c03030", fontcolor="#c03030"',
     "read": "shape=note, color=gray40",
     "more": "shape=plaintext",
+    "folder": "shape=folder",
 }
 MISSING = 'style=dashed, color=red, class="missing"'
 UNLISTED = 'style=dashed, color=gray40, class="unlisted"'
@@ -94,10 +98,11 @@ class Drawing:
         room = (PAGE_INCHES - NODE_INCHES * last) / max(1, last - 1)
         return max(APART, min(len(self.edges) / 250, room, 1.6))
 
-    def dot(self) -> str:
-        """The drawing as text for Graphviz."""
+    def dot(self, said: str = "") -> str:
+        """The drawing as text for Graphviz, with a sentence above it."""
         numbers = {name: f"n{number}" for number, name in enumerate(self.nodes)}
         lines = ["digraph build {", "  rankdir=LR;"]
+        lines += [f"  labelloc=t; label={dot_string(said)};"] if said else []
         if self.short:
             lines += ["  nodesep=0.12;", f"  ranksep={self.apart():.2f};"]
             lines += ['  node [fontname="DejaVu Sans Mono", fontsize=12, height=0.3];']
@@ -116,6 +121,15 @@ class Drawing:
         for one, other in self.unlisted:
             lines.append(f"  {numbers[one]} -> {numbers[other]} [{UNLISTED}];")
         return "\n".join([*lines, "}", ""])
+
+
+def reads_found(answer: Answer) -> set[tuple[str, str]]:
+    """The reads that findings are about whose file is no prerequisite, also findings that others
+    hide: recipe and file."""
+    found = {(one.reader, one.file) for one in answer.findings if one.kind in LACKING}
+    for group in answer.later:
+        found.update((target, file) for target in group.targets for file in group.files)
+    return found
 
 
 def whole(

@@ -10,12 +10,14 @@ from pathlib import Path
 
 from mkcheck_tools import VERSION
 from mkcheck_tools.answers.checkers import Checker, find_checker
+from mkcheck_tools.answers.findings import answer_of as answer_of_check
 from mkcheck_tools.book.note_files import with_doubts
 from mkcheck_tools.faults import Fault
 from mkcheck_tools.report.escaping import clipped, visible
 from mkcheck_tools.report.judging import Judged, graph_and_book, judge
 from mkcheck_tools.report.page import page
-from mkcheck_tools.report.pictures import whole
+from mkcheck_tools.report.pictures import reads_found, whole
+from mkcheck_tools.report.reduced import fitting
 from mkcheck_tools.report.sarif import sarif
 from mkcheck_tools.run.ending import ended, write_text
 from mkcheck_tools.run.paths import RealPath
@@ -45,8 +47,12 @@ def words_of(arguments: list[str]) -> argparse.Namespace:
     form = parser.add_mutually_exclusive_group()
     form.add_argument("--sarif", action="store_true", help="write SARIF 2.1.0 in place of a page")
     form.add_argument("--dot", action="store_true", help="write the whole graph for Graphviz")
+    add("--whole", action="store_true", help="with --dot: also a graph of over 300 names whole")
     add("words", metavar="WORD", nargs="*", help="a macro operand, where it has an =, else a goal")
-    return parser.parse_intermixed_args(arguments)
+    asked = parser.parse_intermixed_args(arguments)
+    if asked.whole and not asked.dot:
+        parser.error("--whole is for --dot")
+    return asked
 
 
 def checker_of(asked: argparse.Namespace) -> Checker:
@@ -67,7 +73,14 @@ def report(asked: argparse.Namespace) -> int:
     path = output_of(asked, checker)
     if asked.dot:
         graph, book = graph_and_book(checker)
-        write_text(whole(graph, book, short=False).dot(), path)
+        answer = answer_of_check(checker.check())
+        found = None if answer.refusal else reads_found(answer)
+        drawing, said = whole(graph, book, short=False, found=found), ""
+        if not asked.whole:
+            drawing, said = fitting(drawing)
+        if said:
+            print(f"mkcheck-report: {said} --whole writes the whole one.", file=sys.stderr)
+        write_text(drawing.dot(said), path)
         return 0
     judged = judge(checker)
     write_text(sarif(judged) if asked.sarif else page(judged), path)

@@ -7,10 +7,12 @@ from __future__ import annotations
 
 import json
 import os
-from collections.abc import Sequence
+import re
+from collections.abc import Mapping, Sequence
 from typing import Any
 from urllib.parse import quote
 
+from mkcheck_tools import HOME
 from mkcheck_tools.answers.findings import KINDS, Group
 from mkcheck_tools.answers.graphs import goes_on
 from mkcheck_tools.answers.refusals import Refusal
@@ -20,6 +22,10 @@ from mkcheck_tools.report.judging import Judged
 from mkcheck_tools.report.makefiles import Makefiles
 
 SCHEMA = "https://json.schemastore.org/sarif-2.1.0.json"
+NAME = "mkcheck"
+# Where each kind of findings is explained, from the top of the repository.
+FINDINGS = "docs/REFERENCE.md#findings"
+VERSION_NUMBER = re.compile(rf"{NAME} (\d+\.\d+\.\d+)\b")
 ROOT = "%SRCROOT%"
 RELATED_AT_MOST = 20
 # A JSON object.
@@ -59,6 +65,15 @@ def text(said: str) -> Value:
     return {"text": visible(clipped(said, MESSAGE_AT_MOST))}
 
 
+def driver(version: str, rules: Sequence[Value]) -> Value:
+    """The tool of a log; `version` is what `mkcheck --version` prints."""
+    found: Value = {"name": NAME, "fullName": visible(version), "rules": list(rules)}
+    number = VERSION_NUMBER.match(version)
+    if number is not None:
+        found |= {"version": number[1], "semanticVersion": number[1]}
+    return found | ({"informationUri": HOME} if HOME else {})
+
+
 def rule(name: str, short: str, explanation: str, level: str) -> Value:
     """A rule, with what is to be read as its help."""
     return {
@@ -66,6 +81,7 @@ def rule(name: str, short: str, explanation: str, level: str) -> Value:
         "shortDescription": text(short),
         "help": text(explanation or short),
         "defaultConfiguration": {"level": level},
+        **({"helpUri": f"{HOME}/{FINDINGS}"} if HOME and name in KINDS else {}),
     }
 
 
@@ -99,13 +115,7 @@ def sarif(judged: Judged) -> str:
     rules += [rule(kind.word, kind.about, "", "note") for kind in noted_kinds(judged)]
     run = {
         "properties": {"doubts": len(judged.noted.doubts), "notes": len(judged.noted.notes)},
-        "tool": {
-            "driver": {
-                "name": "mkcheck",
-                "fullName": visible(judged.version),
-                "rules": rules,
-            }
-        },
+        "tool": {"driver": driver(judged.version, rules)},
         "columnKind": "unicodeCodePoints",
         "originalUriBaseIds": {
             ROOT: {"description": {"text": "The folder in which mkcheck was started."}}
@@ -131,14 +141,14 @@ def result(judged: Judged, group: Group, level: str, index: int, makefiles: Make
         "ruleIndex": index,
         "level": level,
         "message": text(said),
-        "locations": [location(group.file or judged.makefile, group.line)],
+        "locations": [location(group.file or judged.original, group.line)],
         "partialFingerprints": {"mkcheckGroup/v1": fingerprint(group)},
     }
     related = writers(judged, group, makefiles)
     if related:
         found["relatedLocations"] = related
     if group.adds:
-        found["fixes"] = [fix(group.adds, judged.makefile, makefiles)]
+        found["fixes"] = [fix(judged.lines_by_makefile(group.adds), makefiles)]
     return found
 
 
@@ -162,19 +172,32 @@ def writers(judged: Judged, group: Group, makefiles: Makefiles) -> list[Value]:
     found = []
     for name, file in names.items():
         written = name if file == name or group.kind == "loose" else file
-        line = makefiles.rule_line(judged.makefile, name)
+        makefile, line = judged.rule_of(name, makefiles)
         said = (
             f"the recipe of {name} writes {written}"
             if group.kind != "loose"
             else (f"the recipe of {name} writes {group.findings[0].names[0]}")
         )
-        found.append(location(judged.makefile, line, said))
+        found.append(location(makefile, line, said))
     return found
 
 
-def fix(adds: Sequence[str], makefile: str, makefiles: Makefiles) -> Value:
-    """Lines at the end of the makefile."""
-    lines = makefiles.lines(makefile) or [""]
+def fix(adds: Mapping[str, Sequence[str]], makefiles: Makefiles) -> Value:
+    """Lines at the ends of makefiles."""
+    return {
+        "description": {"text": "Add the prerequisites at the end of the makefile."},
+        "artifactChanges": [
+            {
+                "artifactLocation": artifact(makefile),
+                "replacements": [replacement(lines, makefiles.lines(makefile) or [""])],
+            }
+            for makefile, lines in adds.items()
+        ],
+    }
+
+
+def replacement(adds: Sequence[str], lines: Sequence[str]) -> Value:
+    """Lines at the end of a makefile that has these lines."""
     number = len(lines) if lines[-1] or len(lines) == 1 else len(lines) - 1
     last = lines[number - 1]
     # A line behind an escaped newline would be a part of the line before.
@@ -186,15 +209,7 @@ def fix(adds: Sequence[str], makefile: str, makefiles: Makefiles) -> Value:
         "endColumn": len(last) + 1,
     }
     inserted = front + "\n".join(adds)
-    return {
-        "description": {"text": "Add the prerequisites at the end of the makefile."},
-        "artifactChanges": [
-            {
-                "artifactLocation": artifact(makefile),
-                "replacements": [{"deletedRegion": region, "insertedContent": {"text": inserted}}],
-            }
-        ],
-    }
+    return {"deletedRegion": region, "insertedContent": {"text": inserted}}
 
 
 def noted_kinds(judged: Judged) -> list[Kind]:
@@ -204,13 +219,15 @@ def noted_kinds(judged: Judged) -> list[Kind]:
 
 def result_of_note(note: Note, index: int, judged: Judged) -> Value:
     """A note of the recording as a result, at the rule of its target."""
-    line = Makefiles({}).rule_line(judged.makefile, note.target) if note.target else None
+    makefile, line = judged.original, None
+    if note.target:
+        makefile, line = judged.rule_of(note.target, Makefiles({}))
     return {
         "ruleId": note.kind.word,
         "ruleIndex": index,
         "level": "note",
         "message": text(note.text),
-        "locations": [location(judged.makefile, line)],
+        "locations": [location(makefile, line)],
         "properties": {"weight": note.kind.weight, "target": visible(note.target)},
     }
 
