@@ -34,7 +34,7 @@ pub const FAULTS: [(u32, &str, &str); 66] = [
     (
         11,
         "BadMacroName",
-        "a bad name, GNU function or `export`; operands take `=`, `::=`",
+        "bad name, GNU function, `export`; operands take `=`, `::=`",
     ),
     (
         12,
