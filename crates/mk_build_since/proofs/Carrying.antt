@@ -129,14 +129,14 @@ module _ (old new : Build) (alike : BehaveAlike old new) (accepted : IsAccepted 
 
     -- it walks as the old one did
     walked : (result (behaviour old.graph old.behaviours stays.was) (content before) ≡ result (behaviour new.graph new.behaviours t) (content before)) × ((f : FileName) → Has (path (behaviour new.graph new.behaviours t) (content before)) f → Has (path (behaviour old.graph old.behaviours stays.was) (content before)) f ⊎ (¬ (HasFile old f)))
-    walked = alike_walk old new (alike stays.was t stays.is stays.commands) (content before)
+    walked = alike_walk old new (alike stays.was t (stays.is, stays.commands)) (content before)
         (λ f on. stays.known f (made.within stays.was stays.is.0 f on))
-        (λ f on not. ap (λ (o : Option File). option_map (λ (file : File). file.content) o) (next.coming t f on not).0)
+        (λ f on not. ap (λ (o : Option File). option_map (λ (file : File). file.content) o) (next.coming stays.was t f (stays.is, stays.commands) on not).0)
 
     -- what it looked for in vain isn't there or came since
     in_vain : (f : FileName) → Has (path (behaviour new.graph new.behaviours t) (content before)) f → ¬ (HasFile old f) → ContainsOrChanged new.graph new.setting now f (content before f) before.clock
     in_vain f on not =
-        let comes = next.coming t f on not in
+        let comes = next.coming stays.was t f (stays.is, stays.commands) on not in
         ⊎_elim (λ none. inl (ap (λ (o : Option File). option_map (λ (file : File). file.content) o) (none ∙ sym comes.0))) (λ new_source. inr (inl (inl new_source.0, new_source.1))) comes.1
 
     -- so it is as its last run left it

@@ -70,7 +70,7 @@ next = record {
   removed = λ f named. absurd (unnamed f named);
   others = λ f has out. inl refl;
   lacking = λ t f wrote not. absurd (not (inr (inr (t, wrote))));
-  coming = λ t f on not. absurd on;
+  coming = λ o t f same_recipe on not. absurd on;
 }
 
 -- a make of the new build passes the recipe
@@ -78,7 +78,7 @@ pub without_other_commands : FallShort rules
 without_other_commands = record {
   old = old;
   new = new;
-  alike = λ o t was same. absurd (cc);
+  alike = λ o t same_recipe. let same = same_recipe.1 in absurd (cc);
   old_accepted = is_accepted old.commands old.behaviours;
   new_accepted = is_accepted new.commands new.behaviours;
   first = empty;

@@ -109,7 +109,7 @@ next = record {
   removed = named_is_gone;
   others = others;
   lacking = λ t f wrote out. not_there f (in_two target is f (only_writes (with_second is) true t f wrote).2) out;
-  coming = λ t f on not. absurd on;
+  coming = λ o t f same_recipe on not. absurd on;
 }
 
 -- what the recipe writes in the clean builds
@@ -121,7 +121,7 @@ pub without_other_writes : FallShort rules
 without_other_writes = record {
   old = writing was;
   new = writing is;
-  alike = λ o t same_target same. ends;
+  alike = λ o t same_recipe. ends;
   old_accepted = is_accepted was;
   new_accepted = is_accepted is;
   first = empty;

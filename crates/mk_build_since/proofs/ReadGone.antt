@@ -143,7 +143,7 @@ next = record {
   removed = λ f named. absurd (unnamed f named);
   others = λ f has out. others f;
   lacking = λ t f wrote not. absurd (not (inr (inr (t, wrote))));
-  coming = λ t f on not. absurd on;
+  coming = λ o t f same_recipe on not. absurd on;
 }
 
 -- a make of the new build passes the recipe
@@ -151,7 +151,7 @@ pub without_read_gone : FallShort rules
 without_read_gone = record {
   old = old;
   new = new;
-  alike = λ o t was same. gone lacks ends;
+  alike = λ o t same_recipe. gone lacks ends;
   old_accepted = old_accepted;
   new_accepted = new_accepted;
   first = first;

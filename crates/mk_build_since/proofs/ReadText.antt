@@ -117,7 +117,7 @@ next = record {
   removed = λ f named. absurd (unnamed f named);
   others = λ f has out. others f;
   lacking = λ t f wrote not. absurd (not (inr (inr (t, wrote))));
-  coming = λ t f on not. absurd (not (inl (given f (in_one makefile f on))));
+  coming = λ o t f same_recipe on not. absurd (not (inl (given f (in_one makefile f on))));
 }
 
 -- a make passes the recipe
@@ -125,7 +125,7 @@ pub without_read_text : FallShort rules
 without_read_text = record {
   old = build;
   new = build;
-  alike = λ o t was same. both (λ c. ends);
+  alike = λ o t same_recipe. both (λ c. ends);
   old_accepted = is_accepted;
   new_accepted = is_accepted;
   first = first;

@@ -16,9 +16,14 @@ pub data AreAlike (old new : Build) : Behaviour → Behaviour → Type 0 where
       AreAlike old new p (q None) → AreAlike old new p (Read f q)
   ends : {contents : List ℕ} → AreAlike old new (Write contents) (Write contents)
 
--- Recipes with the same target and the same commands behave alike.
+-- o and t are the same recipe: they have the same target and the same commands.
+abbrev pub IsSameRecipe : (old new : Build) → (o t : ℕ) → Type 0
+IsSameRecipe old new o t =
+    WasRecipe old new o t ×
+    (old.commands (name old.graph o) ≡ new.commands (name new.graph t))
+
+-- The same recipe behaves alike in both builds.
 abbrev pub BehaveAlike : (old new : Build) → Type 0
 BehaveAlike old new =
-    (o t : ℕ) → WasRecipe old new o t →
-    old.commands (name old.graph o) ≡ new.commands (name new.graph t) →
+    (o t : ℕ) → IsSameRecipe old new o t →
     AreAlike old new (behaviour old.graph old.behaviours o) (behaviour new.graph new.behaviours t)
