@@ -98,7 +98,7 @@ pub without_new_recipe : FallShort rules
 without_new_recipe = record {
   old = old;
   new = new;
-  alike = λ o t same_recipe. absurd (no_recipe o same_recipe.0.0);
+  alike = λ o t same_recipe files. absurd (no_recipe o same_recipe.0.0);
   old_accepted = accepted source false (λ e. absurd (false≢true e)) (λ f wrote. absurd wrote) (λ f read. absurd read) (λ f read can. read) (λ f. []) writing;
   new_accepted = accepted made true (λ e. inl refl) (λ f wrote. refl) (λ f read. absurd read) (λ f read can. read) (λ f. []) writing;
   first = disk;

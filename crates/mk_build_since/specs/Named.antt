@@ -1,5 +1,5 @@
 -- Which files of an old build are to be removed before makes of a new one.
-use Rattle.std.specs.Prelude.{◌≡◌, ℕ, List, [], ◌∷◌, true, ◌⊎◌}
+use Rattle.std.specs.Prelude.{◌≡◌, ℕ, List, [], ◌∷◌, true, ◌⊎◌, ◌↔◌}
 use Rattle.mk_graph.specs.Membership.{Has}
 use Rattle.mk_graph.specs.Graph.{Graph, node}
 use Rattle.mk_build.specs.Setting.{FileName, Setting, is_given, name, reads, writes, IsAlwaysMade}
@@ -35,6 +35,10 @@ abbrev pub WasRecipe : (old new : Build) → (o t : ℕ) → Type 0
 WasRecipe old new o t =
     ((node old.graph o).recipe ≡ true) × (name old.graph o ≡ name new.graph t)
 
+-- Both lists have the same files.
+abbrev pub AreSameFiles : List FileName → List FileName → Type 0
+AreSameFiles files others = (f : FileName) → Has files f ↔ Has others f
+
 -- The rules by which what a recipe wrote before can't stay.
 pub data Rule : Type 0 where
   NewRecipe : Rule
@@ -57,7 +61,7 @@ HoldsOf OtherCommands old new t =
     (¬ (old.commands (name old.graph o) ≡ new.commands (name new.graph t)))
 HoldsOf OtherWrites old new t =
     (o : ℕ) × WasRecipe old new o t ×
-    (¬ (writes old.graph old.setting o ≡ writes new.graph new.setting t))
+    (¬ (AreSameFiles (writes old.graph old.setting o) (writes new.graph new.setting t)))
 HoldsOf ReadGone old new t =
     (o : ℕ) × WasRecipe old new o t ×
     ((f : FileName) × Has (reads old.graph old.setting o) f × (¬ (HasFile new f)))
