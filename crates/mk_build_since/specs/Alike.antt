@@ -12,9 +12,9 @@ HoldAlike files contents others values =
     map at others ≡ map (λ c. Some c) values
 
 -- The behaviours of recipes that write these files in the old build and these in the new one are
--- alike: both read the same file and go on alike, or write the same into the same files. A read of a
--- file that only one of the builds has may be lacking in the other one, where the recipe goes on as
--- if that file weren't there.
+-- alike: both read the same file and go on alike, or write the same into the same files. A read of
+-- a file that only one of the builds has may be lacking in the other one, where the recipe goes on
+-- as if that file weren't there.
 pub data AreAlike (old new : Build) (files others : List FileName) : Behaviour → Behaviour → Type 0
   where
     both : {f : FileName} {p q : Option ℕ → Behaviour} →
@@ -38,4 +38,5 @@ abbrev pub BehaveAlike : (old new : Build) → Type 0
 BehaveAlike old new =
     (o t : ℕ) → IsSameRecipe old new o t →
     AreSameFiles (writes old.graph old.setting o) (writes new.graph new.setting t) →
-    AreAlike old new (writes old.graph old.setting o) (writes new.graph new.setting t) (behaviour old.graph old.behaviours o) (behaviour new.graph new.behaviours t)
+    AreAlike old new (writes old.graph old.setting o) (writes new.graph new.setting t)
+    (behaviour old.graph old.behaviours o) (behaviour new.graph new.behaviours t)

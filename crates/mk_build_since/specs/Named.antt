@@ -9,8 +9,8 @@ use Rattle.mk_build_behaviours.specs.Behaviours.{Behaviours}
 abbrev pub Commands : Type 0
 Commands = List (List ℕ)
 
--- A build: its graph, its footprints and files, and by a target's name the commands of its recipe and
--- how that behaves.
+-- A build: its graph, its footprints and files, and by a target's name the commands of its recipe
+-- and how that behaves.
 pub record Build : Type 0 where
   pub graph : Graph
   pub setting : Setting
@@ -52,8 +52,8 @@ abbrev pub all_rules : List Rule
 all_rules = NewRecipe ∷ OtherCommands ∷ OtherWrites ∷ ReadGone ∷ ReadText ∷ []
 
 -- The rule holds of the recipe t of the new build. The old build has no recipe with its target; or
--- that has other commands, writes other files, read a file that the new build doesn't have, or read a
--- makefile text.
+-- that has other commands, writes other files, read a file that the new build doesn't have, or read
+-- a makefile text.
 abbrev pub HoldsOf : Rule → (old new : Build) → ℕ → Type 0
 HoldsOf NewRecipe old new t = (o : ℕ) → ¬ (WasRecipe old new o t)
 HoldsOf OtherCommands old new t =
@@ -77,8 +77,8 @@ CantStay rules old new t = (rule : Rule) × Has rules rule × HoldsOf rule old n
 abbrev pub IsLeftOver : (old new : Build) → FileName → Type 0
 IsLeftOver old new f = IsWritten old f × (¬ (HasFile new f))
 
--- By these rules the file is made anew: a recipe of the new build writes it that isn't made in every
--- make, and what that wrote before can't stay.
+-- By these rules the file is made anew: a recipe of the new build writes it that isn't made in
+-- every make, and what that wrote before can't stay.
 abbrev pub IsMadeAnew : List Rule → (old new : Build) → FileName → Type 0
 IsMadeAnew rules old new f =
     (t : ℕ) × Has (writes new.graph new.setting t) f × (¬ (IsAlwaysMade new.graph t)) ×
