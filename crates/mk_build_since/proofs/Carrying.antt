@@ -1,5 +1,5 @@
 -- What a finished make of the old build left is coherent for the new build.
-use Rattle.std.proofs.Common.{◌≡◌, ℕ, List, true, false, Option, Some, None, map, ◌⊎◌, inl, inr, ⊎_elim, sym, ◌∙◌, ap, subst, arith}
+use Rattle.std.proofs.Common.{◌≡◌, ℕ, true, false, Option, None, ◌⊎◌, inl, inr, ⊎_elim, sym, ◌∙◌, ap, subst, arith}
 use Rattle.std.specs.Option.{option_map}
 use Rattle.std.proofs.lemmas.Bool.{cases_Bool, or_right, true≢false}
 use Rattle.mk_lines.specs.Names.{has_name, begins_with_any}
@@ -17,8 +17,8 @@ use Rattle.mk_build.proofs.ChainWays.{one_number}
 use Rattle.mk_build_behaviours.specs.Behaviours.{behaviour, path, result}
 use Rattle.mk_build_behaviours.specs.CleanBy.{ArePresent}
 use Rattle.mk_build_behaviours.specs.CoherentBy.{IsAsLeftBy, IsCoherentBy}
-use Rattle.mk_build_since.specs.Named.{Build, IsWritten, HasFile, WasRecipe, Rule, NewRecipe, OtherCommands, OtherWrites, ReadGone, ReadText, all_rules, HoldsOf, CantStay, IsNamed}
-use Rattle.mk_build_since.specs.Alike.{BehaveAlike}
+use Rattle.mk_build_since.specs.Named.{Build, IsWritten, HasFile, WasRecipe, AreSameFiles, Rule, NewRecipe, OtherCommands, OtherWrites, ReadGone, ReadText, all_rules, HoldsOf, CantStay, IsNamed}
+use Rattle.mk_build_since.specs.Alike.{HoldAlike, BehaveAlike}
 use Rattle.mk_build_since.specs.Next.{IsAccepted, IsFinished, MayBecome, IsNext}
 use Rattle.mk_build_since.proofs.Deciding.{cases_always, cases_owned, Stays, stay_cases}
 use Rattle.mk_build_since.proofs.Walking.{alike_walk}
@@ -52,7 +52,7 @@ module _ (old new : Build) (alike : BehaveAlike old new) (accepted : IsAccepted 
     no_rule : (rule : Rule) → ¬ (HoldsOf rule old new t)
     no_rule NewRecipe none = none stays.was stays.is
     no_rule OtherCommands other = other.2 (subst (λ (k : ℕ). old.commands (name old.graph k) ≡ new.commands (name new.graph t)) (sym (same_recipe other.0 other.1)) stays.commands)
-    no_rule OtherWrites other = other.2 (subst (λ (k : ℕ). writes old.graph old.setting k ≡ writes new.graph new.setting t) (sym (same_recipe other.0 other.1)) stays.files)
+    no_rule OtherWrites other = other.2 (subst (λ (k : ℕ). AreSameFiles (writes old.graph old.setting k) (writes new.graph new.setting t)) (sym (same_recipe other.0 other.1)) stays.files)
     no_rule ReadGone gone = gone.2.2 (stays.known gone.2.0 (subst (λ (k : ℕ). Has (reads old.graph old.setting k) gone.2.0) (same_recipe gone.0 gone.1) gone.2.1))
     no_rule ReadText text = stays.no_text text.2.0 (subst (λ (k : ℕ). Has (reads old.graph old.setting k) text.2.0) (same_recipe text.0 text.1) text.2.1) text.2.2
 
@@ -100,7 +100,7 @@ module _ (old new : Build) (alike : BehaveAlike old new) (accepted : IsAccepted 
   module _ (t : ℕ) (sometimes : ¬ (IsAlwaysMade new.graph t)) (stays : Stays old new t) where
     -- the old recipe wrote them
     was_written : (f : FileName) → Has (writes new.graph new.setting t) f → Has (writes old.graph old.setting stays.was) f
-    was_written f wrote = subst (λ (l : List FileName). Has l f) (sym stays.files) wrote
+    was_written f wrote = (stays.files f).1 wrote
 
     -- and they are as they were
     as_before : (f : FileName) → Has (writes new.graph new.setting t) f → now.files f ≡ before.files f
@@ -128,15 +128,15 @@ module _ (old new : Build) (alike : BehaveAlike old new) (accepted : IsAccepted 
         (stays.known f read)
 
     -- it walks as the old one did
-    walked : (result (behaviour old.graph old.behaviours stays.was) (content before) ≡ result (behaviour new.graph new.behaviours t) (content before)) × ((f : FileName) → Has (path (behaviour new.graph new.behaviours t) (content before)) f → Has (path (behaviour old.graph old.behaviours stays.was) (content before)) f ⊎ (¬ (HasFile old f)))
-    walked = alike_walk old new (alike stays.was t stays.is stays.commands) (content before)
+    walked : HoldAlike (writes old.graph old.setting stays.was) (result (behaviour old.graph old.behaviours stays.was) (content before)) (writes new.graph new.setting t) (result (behaviour new.graph new.behaviours t) (content before)) × ((f : FileName) → Has (path (behaviour new.graph new.behaviours t) (content before)) f → Has (path (behaviour old.graph old.behaviours stays.was) (content before)) f ⊎ (¬ (HasFile old f)))
+    walked = alike_walk old new (writes old.graph old.setting stays.was) (writes new.graph new.setting t) (alike stays.was t (stays.is, stays.commands) stays.files) (content before)
         (λ f on. stays.known f (made.within stays.was stays.is.0 f on))
-        (λ f on not. ap (λ (o : Option File). option_map (λ (file : File). file.content) o) (next.coming t f on not).0)
+        (λ f on not. ap (λ (o : Option File). option_map (λ (file : File). file.content) o) (next.coming stays.was t f (stays.is, stays.commands) on not).0)
 
     -- what it looked for in vain isn't there or came since
     in_vain : (f : FileName) → Has (path (behaviour new.graph new.behaviours t) (content before)) f → ¬ (HasFile old f) → ContainsOrChanged new.graph new.setting now f (content before f) before.clock
     in_vain f on not =
-        let comes = next.coming t f on not in
+        let comes = next.coming stays.was t f (stays.is, stays.commands) on not in
         ⊎_elim (λ none. inl (ap (λ (o : Option File). option_map (λ (file : File). file.content) o) (none ∙ sym comes.0))) (λ new_source. inr (inl (inl new_source.0, new_source.1))) comes.1
 
     -- so it is as its last run left it
@@ -146,8 +146,7 @@ module _ (old new : Build) (alike : BehaveAlike old new) (accepted : IsAccepted 
     is_as_left : IsAsLeftBy new.graph new.setting new.behaviours run now t
     is_as_left = record {
       holds = map_same (content now) (content before) (writes new.graph new.setting t) (λ f wrote. ap (λ (o : Option File). option_map (λ (file : File). file.content) o) (as_before f wrote))
-          ∙ (subst (λ (l : List FileName). map (content before) l ≡ map (λ c. Some c) (result (behaviour old.graph old.behaviours stays.was) (content before))) stays.files (made.holds stays.was stays.is.0)
-          ∙ ap (λ (l : List ℕ). map (λ c. Some c) l) walked.0);
+          ∙ walked.0 (content before) (made.holds stays.was stays.is.0);
       during = λ f stamp wrote has.
           let was : HasStamp before f stamp = ap (λ (o : Option File). option_map (λ (file : File). file.stamp) o) (sym (as_before f wrote)) ∙ has in
           (made.late stays.was f stamp (was_written f wrote) was, made.stamped f stamp was);

@@ -8,7 +8,7 @@ use Rattle.mk_build.specs.Setting.{FileName, is_given, name, reads, writes, IsAl
 use Rattle.mk_build.proofs.Changes.{cases_name}
 use Rattle.mk_build.proofs.CleanEnd.{cases_among}
 use Rattle.mk_build.proofs.Sound.{writer_has_recipe}
-use Rattle.mk_build_since.specs.Named.{Build, IsWritten, HasFile, OwnsFile, WasRecipe, NewRecipe, OtherCommands, OtherWrites, ReadGone, ReadText, all_rules, CantStay}
+use Rattle.mk_build_since.specs.Named.{Build, IsWritten, HasFile, OwnsFile, WasRecipe, AreSameFiles, NewRecipe, OtherCommands, OtherWrites, ReadGone, ReadText, all_rules, CantStay}
 
 -- it holds or it doesn't
 abbrev pub Cases : Type 0 → Type 0
@@ -41,6 +41,18 @@ first_among P decide (y ∷ xs) =
     (λ none. inr (λ x among has. ⊎_elim (λ same. not_here (subst P (sym same) has)) (λ there. none x there has) among))
     (first_among P decide xs))
     (decide y)
+
+-- each file of one list is in the other, or not
+cases_within : (xs ys : List FileName) → Cases ((f : FileName) → Has xs f → Has ys f)
+cases_within xs ys =
+    ⊎_elim (λ lacks. inr (λ within. lacks.2 (within lacks.0 lacks.1)))
+    (λ none. inl (λ f among. ⊎_elim (λ has. has) (λ not. absurd (none f among not)) (cases_among ys f)))
+    (first_among (λ f. ¬ (Has ys f)) (λ f. ⊎_elim (λ has. inr (λ not. not has)) (λ not. inl not) (cases_among ys f)) xs)
+
+-- two lists have the same files or not
+pub cases_same : (xs ys : List FileName) → Cases (AreSameFiles xs ys)
+cases_same xs ys =
+    ⊎_elim (λ there. ⊎_elim (λ back. inl (λ f. (there f, back f))) (λ not. inr (λ same. not (λ f. (same f).1))) (cases_within ys xs)) (λ not. inr (λ same. not (λ f. (same f).0))) (cases_within xs ys)
 
 -- every make runs the node or not
 pub cases_always : (g : Graph) (t : ℕ) → Cases (IsAlwaysMade g t)
@@ -81,7 +93,7 @@ module _ (old new : Build) (t : ℕ) where
     pub was : ℕ
     pub is : WasRecipe old new was t
     pub commands : old.commands (name old.graph was) ≡ new.commands (name new.graph t)
-    pub files : writes old.graph old.setting was ≡ writes new.graph new.setting t
+    pub files : AreSameFiles (writes old.graph old.setting was) (writes new.graph new.setting t)
     pub known : (f : FileName) → Has (reads old.graph old.setting was) f → HasFile new f
     pub no_text : (f : FileName) → Has (reads old.graph old.setting was) f → ¬ (Has new.setting.texts f)
 
@@ -94,7 +106,7 @@ module _ (old new : Build) (t : ℕ) where
 
   module _ (o : ℕ) (was : WasRecipe old new o t) where
     -- what it read stays or not
-    read_cases : old.commands (name old.graph o) ≡ new.commands (name new.graph t) → writes old.graph old.setting o ≡ writes new.graph new.setting t → Stays ⊎ CantStay all_rules old new t
+    read_cases : old.commands (name old.graph o) ≡ new.commands (name new.graph t) → AreSameFiles (writes old.graph old.setting o) (writes new.graph new.setting t) → Stays ⊎ CantStay all_rules old new t
     read_cases commands files =
         ⊎_elim (λ gone. inr (ReadGone, inr (inr (inr (inl refl))), (o, was, (gone.0, gone.1, gone.2))))
         (λ known. ⊎_elim (λ text. inr (ReadText, inr (inr (inr (inr (inl refl)))), (o, was, (text.0, text.1, text.2))))
@@ -111,7 +123,7 @@ module _ (old new : Build) (t : ℕ) where
 
     was_cases : Stays ⊎ CantStay all_rules old new t
     was_cases =
-        ⊎_elim (λ commands. ⊎_elim (λ files. read_cases commands files) (λ differ. inr (OtherWrites, inr (inr (inl refl)), (o, was, differ))) (cases_texts (writes old.graph old.setting o) (writes new.graph new.setting t)))
+        ⊎_elim (λ commands. ⊎_elim (λ files. read_cases commands files) (λ differ. inr (OtherWrites, inr (inr (inl refl)), (o, was, differ))) (cases_same (writes old.graph old.setting o) (writes new.graph new.setting t)))
         (λ differ. inr (OtherCommands, inr (inl refl), (o, was, differ)))
         (cases_texts (old.commands (name old.graph o)) (new.commands (name new.graph t)))
 

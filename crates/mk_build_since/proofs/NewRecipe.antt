@@ -86,7 +86,7 @@ next = record {
   removed = λ f named. absurd (unnamed f named);
   others = λ f has out. inl refl;
   lacking = λ t f wrote not. let same : target ≡ f = in_one target f (only_writes made true t f wrote).2 in absurd (not (inl (inl same)));
-  coming = λ t f on not. absurd on;
+  coming = λ o t f same_recipe on not. absurd on;
 }
 
 -- the clean contents
@@ -98,7 +98,7 @@ pub without_new_recipe : FallShort rules
 without_new_recipe = record {
   old = old;
   new = new;
-  alike = λ o t was same. absurd (no_recipe o was.0);
+  alike = λ o t same_recipe files. absurd (no_recipe o same_recipe.0.0);
   old_accepted = accepted source false (λ e. absurd (false≢true e)) (λ f wrote. absurd wrote) (λ f read. absurd read) (λ f read can. read) (λ f. []) writing;
   new_accepted = accepted made true (λ e. inl refl) (λ f wrote. refl) (λ f read. absurd read) (λ f read can. read) (λ f. []) writing;
   first = disk;

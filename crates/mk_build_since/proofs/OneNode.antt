@@ -18,6 +18,7 @@ use Rattle.mk_build_behaviours.specs.Behaviours.{Behaviours, behaviour, path}
 use Rattle.mk_build_behaviours.specs.CleanBy.{make_by, make_all_by, build_by, IsBuiltBy, ReadWithin, ArePresent}
 use Rattle.mk_build_behaviours.specs.StepsBy.{IsLegalBy}
 use Rattle.mk_build_since.specs.Named.{Commands}
+use Rattle.mk_build_since.specs.Alike.{HoldAlike}
 use Rattle.mk_build_since.specs.Next.{IsAccepted}
 
 -- its name
@@ -182,3 +183,16 @@ in_two f g h among = ⊎_elim (λ e. inl e) (λ rest. inr (in_one g h rest)) amo
 -- what is there isn't none
 pub not_none : (c : ℕ) → ¬ (Some c ≡ None)
 not_none c e = absurd (cc)
+
+-- only it has the name of a recipe
+pub only_named : (r : Bool) (o t : ℕ) → (node (one r) o).recipe ≡ true → name (one r) o ≡ name (one true) t → (o ≡ 0) × (t ≡ 0)
+only_named r o zero recipe same = ((only_recipe r o recipe).0, refl)
+only_named r o (suc t) recipe same =
+    let first : o ≡ 0 = (only_recipe r o recipe).0 in
+    let both : target ≡ [] = sym (ap (λ (k : ℕ). name (one r) k) first) ∙ same in
+    absurd (cc)
+
+-- what two such recipes hold
+pub hold_at : (s other : Setting) (o t : ℕ) (v w : List ℕ) → (o ≡ 0) × (t ≡ 0) → HoldAlike (s.writes target) v (other.writes target) w → HoldAlike (writes (one true) s o) v (writes (one true) other t) w
+hold_at s other o t v w are hold =
+    subst (λ (k : ℕ). HoldAlike (writes (one true) s k) v (writes (one true) other t) w) (sym are.0) (subst (λ (k : ℕ). HoldAlike (writes (one true) s 0) v (writes (one true) other k) w) (sym are.1) hold)

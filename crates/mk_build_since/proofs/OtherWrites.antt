@@ -11,11 +11,10 @@ use Rattle.mk_build_behaviours.specs.Behaviours.{Behaviours, Write}
 use Rattle.mk_build_behaviours.specs.StepsBy.{after_all_by}
 use Rattle.mk_build_behaviours.proofs.Coherence.{start_is_coherent_by}
 use Rattle.mk_build_behaviours.proofs.Traces.{sound_without_reads}
-use Rattle.mk_build_since.specs.Named.{Build, HasFile, OwnsFile, Rule, NewRecipe, OtherCommands, OtherWrites, ReadGone, ReadText, HoldsOf, IsNamed}
-use Rattle.mk_build_since.specs.Alike.{ends}
+use Rattle.mk_build_since.specs.Named.{Build, HasFile, OwnsFile, AreSameFiles, Rule, NewRecipe, OtherCommands, OtherWrites, ReadGone, ReadText, HoldsOf, IsNamed}
 use Rattle.mk_build_since.specs.Next.{IsAccepted, MayBecome, IsNext}
 use Rattle.mk_build_since.specs.Needed.{FallShort}
-use Rattle.mk_build_since.proofs.OneNode.{target, one, only_writes, only_reads, accepted, present, can_start, is_part, passes, not_built, making_in, in_two, not_none, empty, empty_start, empty_stamped, written_stamped, without_stamped}
+use Rattle.mk_build_since.proofs.OneNode.{target, one, only_named, only_writes, only_reads, accepted, present, can_start, is_part, passes, not_built, making_in, in_two, not_none, empty, empty_start, empty_stamped, written_stamped, without_stamped}
 
 -- its second file
 abbrev was : FileName
@@ -109,8 +108,14 @@ next = record {
   removed = named_is_gone;
   others = others;
   lacking = λ t f wrote out. not_there f (in_two target is f (only_writes (with_second is) true t f wrote).2) out;
-  coming = λ t f on not. absurd on;
+  coming = λ o t f same_recipe on not. absurd on;
 }
+
+-- the recipes write different files
+not_same : (o t : ℕ) → (o ≡ 0) × (t ≡ 0) → ¬ (AreSameFiles (writes (one true) (with_second was) o) (writes (one true) (with_second is) t))
+not_same o t are files =
+    let same : AreSameFiles (target ∷ was ∷ []) (target ∷ is ∷ []) = subst (λ (k : ℕ). AreSameFiles (writes (one true) (with_second was) 0) (writes (one true) (with_second is) k)) are.1 (subst (λ (k : ℕ). AreSameFiles (writes (one true) (with_second was) k) (writes (one true) (with_second is) t)) are.0 files) in
+    ⊎_elim target_was is_was (in_two target is was ((same was).0 (inr (inl refl))))
 
 -- what the recipe writes in the clean builds
 abbrev both : FileName → Contents
@@ -121,7 +126,7 @@ pub without_other_writes : FallShort rules
 without_other_writes = record {
   old = writing was;
   new = writing is;
-  alike = λ o t same_target same. ends;
+  alike = λ o t same_recipe files. absurd (not_same o t (only_named true o t same_recipe.0.0 same_recipe.0.1) files);
   old_accepted = is_accepted was;
   new_accepted = is_accepted is;
   first = empty;

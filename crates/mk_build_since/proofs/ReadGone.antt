@@ -14,11 +14,11 @@ use Rattle.mk_build_behaviours.specs.Behaviours.{Behaviours, Read, Write}
 use Rattle.mk_build_behaviours.specs.StepsBy.{after_all_by}
 use Rattle.mk_build_behaviours.proofs.Coherence.{start_is_coherent_by}
 use Rattle.mk_build_behaviours.proofs.Traces.{sound_without_reads}
-use Rattle.mk_build_since.specs.Named.{Build, HasFile, Rule, NewRecipe, OtherCommands, OtherWrites, ReadGone, ReadText, HoldsOf, IsNamed}
+use Rattle.mk_build_since.specs.Named.{Build, HasFile, AreSameFiles, Rule, NewRecipe, OtherCommands, OtherWrites, ReadGone, ReadText, HoldsOf, IsNamed}
 use Rattle.mk_build_since.specs.Alike.{gone, ends}
 use Rattle.mk_build_since.specs.Next.{IsAccepted, MayBecome, IsNext}
 use Rattle.mk_build_since.specs.Needed.{FallShort}
-use Rattle.mk_build_since.proofs.OneNode.{target, one, only_recipe, only_writes, accepted, present, can_start, is_part, passes, not_built, making_in, in_one, not_none, empty, empty_stamped, written_stamped, without_stamped}
+use Rattle.mk_build_since.proofs.OneNode.{target, one, only_recipe, only_named, hold_at, only_writes, accepted, present, can_start, is_part, passes, not_built, making_in, in_one, not_none, empty, empty_stamped, written_stamped, without_stamped}
 
 -- a header
 abbrev header : FileName
@@ -124,7 +124,7 @@ rules = NewRecipe ∷ OtherCommands ∷ OtherWrites ∷ ReadText ∷ []
 none_holds : (rule : Rule) → Has rules rule → (t : ℕ) → t ≡ 0 → ¬ (HoldsOf rule old new t)
 none_holds NewRecipe among t is none = none 0 (refl, subst (λ (k : ℕ). target ≡ name (one true) k) (sym is) refl)
 none_holds OtherCommands among t is holds = holds.2 refl
-none_holds OtherWrites among t is holds = holds.2 (subst (λ (k : ℕ). writes (one true) with_header k ≡ writes (one true) without_header t) (is ∙ sym (only_recipe true holds.0 holds.1.0).0) refl)
+none_holds OtherWrites among t is holds = holds.2 (subst (λ (k : ℕ). AreSameFiles (writes (one true) with_header k) (writes (one true) without_header t)) (is ∙ sym (only_recipe true holds.0 holds.1.0).0) (λ f. (λ h. h, λ h. h)))
 none_holds ReadText among t is holds = holds.2.2
 none_holds ReadGone among t is holds = ⊎_elim (λ e. absurd (cc)) (λ rest. ⊎_elim (λ e. absurd (cc)) (λ more. ⊎_elim (λ e. absurd (cc)) (λ last. ⊎_elim (λ e. absurd (cc)) (λ none. none) last) more) rest) among
 
@@ -143,7 +143,7 @@ next = record {
   removed = λ f named. absurd (unnamed f named);
   others = λ f has out. others f;
   lacking = λ t f wrote not. absurd (not (inr (inr (t, wrote))));
-  coming = λ t f on not. absurd on;
+  coming = λ o t f same_recipe on not. absurd on;
 }
 
 -- a make of the new build passes the recipe
@@ -151,7 +151,7 @@ pub without_read_gone : FallShort rules
 without_read_gone = record {
   old = old;
   new = new;
-  alike = λ o t was same. gone lacks ends;
+  alike = λ o t same_recipe files. gone lacks (ends (hold_at with_header without_header o t (0 ∷ []) (0 ∷ []) (only_named true o t same_recipe.0.0 same_recipe.0.1) (λ at e. e)));
   old_accepted = old_accepted;
   new_accepted = new_accepted;
   first = first;

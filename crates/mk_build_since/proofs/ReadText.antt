@@ -13,11 +13,11 @@ use Rattle.mk_build_behaviours.specs.Behaviours.{Behaviours, Read, Write}
 use Rattle.mk_build_behaviours.specs.StepsBy.{after_all_by}
 use Rattle.mk_build_behaviours.proofs.Coherence.{start_is_coherent_by}
 use Rattle.mk_build_behaviours.proofs.Traces.{sound_without_reads}
-use Rattle.mk_build_since.specs.Named.{Build, Rule, NewRecipe, OtherCommands, OtherWrites, ReadGone, ReadText, HoldsOf, IsNamed}
+use Rattle.mk_build_since.specs.Named.{Build, AreSameFiles, Rule, NewRecipe, OtherCommands, OtherWrites, ReadGone, ReadText, HoldsOf, IsNamed}
 use Rattle.mk_build_since.specs.Alike.{both, ends}
 use Rattle.mk_build_since.specs.Next.{IsAccepted, MayBecome, IsNext}
 use Rattle.mk_build_since.specs.Needed.{FallShort}
-use Rattle.mk_build_since.proofs.OneNode.{target, one, only_recipe, only_writes, only_reads, accepted, present, can_start, is_part, passes, not_built, making_in, in_one, not_none, empty, empty_stamped, written_stamped}
+use Rattle.mk_build_since.proofs.OneNode.{target, one, only_recipe, only_named, hold_at, only_writes, only_reads, accepted, present, can_start, is_part, passes, not_built, making_in, in_one, not_none, empty, empty_stamped, written_stamped}
 
 -- the makefile
 abbrev makefile : FileName
@@ -98,7 +98,7 @@ rules = NewRecipe ∷ OtherCommands ∷ OtherWrites ∷ ReadGone ∷ []
 none_holds : (rule : Rule) → Has rules rule → (t : ℕ) → t ≡ 0 → ¬ (HoldsOf rule build build t)
 none_holds NewRecipe among t is none = none 0 (refl, subst (λ (k : ℕ). target ≡ name (one true) k) (sym is) refl)
 none_holds OtherCommands among t is holds = holds.2 refl
-none_holds OtherWrites among t is holds = holds.2 (subst (λ (k : ℕ). writes (one true) made k ≡ writes (one true) made t) (is ∙ sym (only_recipe true holds.0 holds.1.0).0) refl)
+none_holds OtherWrites among t is holds = holds.2 (subst (λ (k : ℕ). AreSameFiles (writes (one true) made k) (writes (one true) made t)) (is ∙ sym (only_recipe true holds.0 holds.1.0).0) (λ f. (λ h. h, λ h. h)))
 none_holds ReadGone among t is holds = holds.2.2 (inl (given holds.2.0 (in_one makefile holds.2.0 (only_reads made true holds.0 holds.2.0 holds.2.1).2)))
 none_holds ReadText among t is holds = ⊎_elim (λ e. absurd (cc)) (λ rest. ⊎_elim (λ e. absurd (cc)) (λ more. ⊎_elim (λ e. absurd (cc)) (λ last. ⊎_elim (λ e. absurd (cc)) (λ none. none) last) more) rest) among
 
@@ -117,7 +117,7 @@ next = record {
   removed = λ f named. absurd (unnamed f named);
   others = λ f has out. others f;
   lacking = λ t f wrote not. absurd (not (inr (inr (t, wrote))));
-  coming = λ t f on not. absurd (not (inl (given f (in_one makefile f on))));
+  coming = λ o t f same_recipe on not. absurd (not (inl (given f (in_one makefile f on))));
 }
 
 -- a make passes the recipe
@@ -125,7 +125,7 @@ pub without_read_text : FallShort rules
 without_read_text = record {
   old = build;
   new = build;
-  alike = λ o t was same. both (λ c. ends);
+  alike = λ o t same_recipe files. both (λ c. ends (hold_at made made o t (unwrap_or c 0 ∷ []) (unwrap_or c 0 ∷ []) (only_named true o t same_recipe.0.0 same_recipe.0.1) (λ at e. e)));
   old_accepted = is_accepted;
   new_accepted = is_accepted;
   first = first;

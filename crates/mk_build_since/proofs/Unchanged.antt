@@ -6,7 +6,7 @@ use Rattle.mk_graph.specs.Graph.{node}
 use Rattle.mk_build.specs.Setting.{FileName, Setting, is_given, name, reads, writes}
 use Rattle.mk_build.specs.Right.{AreSound}
 use Rattle.mk_build.proofs.Sound.{writer_has_recipe}
-use Rattle.mk_build_since.specs.Named.{Build, HasFile, Rule, NewRecipe, OtherCommands, OtherWrites, ReadGone, ReadText, all_rules, HoldsOf, IsNamed}
+use Rattle.mk_build_since.specs.Named.{Build, HasFile, AreSameFiles, Rule, NewRecipe, OtherCommands, OtherWrites, ReadGone, ReadText, all_rules, HoldsOf, IsNamed}
 use Rattle.mk_build_since.specs.SinceLaws.{HasItsRecipesIn}
 
 module _ (old new : Build) (sound : AreSound old.graph old.setting) (setting : new.setting ≡ old.setting)
@@ -32,7 +32,7 @@ module _ (old new : Build) (sound : AreSound old.graph old.setting) (setting : n
   none_holds : (t : ℕ) → (node new.graph t).recipe ≡ true → (rule : Rule) → ¬ (HoldsOf rule old new t)
   none_holds t recipe NewRecipe none = let was = back t recipe in none was.0 (was.1, sym was.2)
   none_holds t recipe OtherCommands other = other.2 (ap (λ (f : FileName). old.commands f) other.1.1 ∙ sym (commands (name new.graph t)))
-  none_holds t recipe OtherWrites other = other.2 (same_writes other.0 t other.1.0 recipe other.1.1)
+  none_holds t recipe OtherWrites other = other.2 (subst (λ (l : List FileName). AreSameFiles (writes old.graph old.setting other.0) l) (same_writes other.0 t other.1.0 recipe other.1.1) (λ f. (λ h. h, λ h. h)))
   none_holds t recipe ReadGone gone =
       ⊎_elim (λ given. gone.2.2 (inl (ap (λ (s : Setting). is_given s gone.2.0) setting ∙ given))) (λ wrote. gone.2.2 (still_written gone.2.0 wrote.0 wrote.1)) (sound.known gone.0 gone.2.0 gone.2.1)
   none_holds t recipe ReadText text = no_text text.0 text.2.0 text.2.1 text.2.2

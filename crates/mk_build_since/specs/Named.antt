@@ -1,5 +1,5 @@
 -- Which files of an old build are to be removed before makes of a new one.
-use Rattle.std.specs.Prelude.{◌≡◌, ℕ, List, [], ◌∷◌, true, ◌⊎◌}
+use Rattle.std.specs.Prelude.{◌≡◌, ℕ, List, [], ◌∷◌, true, ◌⊎◌, ◌↔◌}
 use Rattle.mk_graph.specs.Membership.{Has}
 use Rattle.mk_graph.specs.Graph.{Graph, node}
 use Rattle.mk_build.specs.Setting.{FileName, Setting, is_given, name, reads, writes, IsAlwaysMade}
@@ -9,8 +9,8 @@ use Rattle.mk_build_behaviours.specs.Behaviours.{Behaviours}
 abbrev pub Commands : Type 0
 Commands = List (List ℕ)
 
--- A build: its graph, its footprints and files, and by a target's name the commands of its recipe and
--- how that behaves.
+-- A build: its graph, its footprints and files, and by a target's name the commands of its recipe
+-- and how that behaves.
 pub record Build : Type 0 where
   pub graph : Graph
   pub setting : Setting
@@ -35,6 +35,10 @@ abbrev pub WasRecipe : (old new : Build) → (o t : ℕ) → Type 0
 WasRecipe old new o t =
     ((node old.graph o).recipe ≡ true) × (name old.graph o ≡ name new.graph t)
 
+-- Both lists have the same files.
+abbrev pub AreSameFiles : List FileName → List FileName → Type 0
+AreSameFiles files others = (f : FileName) → Has files f ↔ Has others f
+
 -- The rules by which what a recipe wrote before can't stay.
 pub data Rule : Type 0 where
   NewRecipe : Rule
@@ -48,8 +52,8 @@ abbrev pub all_rules : List Rule
 all_rules = NewRecipe ∷ OtherCommands ∷ OtherWrites ∷ ReadGone ∷ ReadText ∷ []
 
 -- The rule holds of the recipe t of the new build. The old build has no recipe with its target; or
--- that has other commands, writes other files, read a file that the new build doesn't have, or read a
--- makefile text.
+-- that has other commands, writes other files, read a file that the new build doesn't have, or read
+-- a makefile text.
 abbrev pub HoldsOf : Rule → (old new : Build) → ℕ → Type 0
 HoldsOf NewRecipe old new t = (o : ℕ) → ¬ (WasRecipe old new o t)
 HoldsOf OtherCommands old new t =
@@ -57,7 +61,7 @@ HoldsOf OtherCommands old new t =
     (¬ (old.commands (name old.graph o) ≡ new.commands (name new.graph t)))
 HoldsOf OtherWrites old new t =
     (o : ℕ) × WasRecipe old new o t ×
-    (¬ (writes old.graph old.setting o ≡ writes new.graph new.setting t))
+    (¬ (AreSameFiles (writes old.graph old.setting o) (writes new.graph new.setting t)))
 HoldsOf ReadGone old new t =
     (o : ℕ) × WasRecipe old new o t ×
     ((f : FileName) × Has (reads old.graph old.setting o) f × (¬ (HasFile new f)))
@@ -73,8 +77,8 @@ CantStay rules old new t = (rule : Rule) × Has rules rule × HoldsOf rule old n
 abbrev pub IsLeftOver : (old new : Build) → FileName → Type 0
 IsLeftOver old new f = IsWritten old f × (¬ (HasFile new f))
 
--- By these rules the file is made anew: a recipe of the new build writes it that isn't made in every
--- make, and what that wrote before can't stay.
+-- By these rules the file is made anew: a recipe of the new build writes it that isn't made in
+-- every make, and what that wrote before can't stay.
 abbrev pub IsMadeAnew : List Rule → (old new : Build) → FileName → Type 0
 IsMadeAnew rules old new f =
     (t : ℕ) × Has (writes new.graph new.setting t) f × (¬ (IsAlwaysMade new.graph t)) ×

@@ -9,6 +9,7 @@ use Rattle.mk_build.specs.BuildLaws.{AreInside}
 use Rattle.mk_build.specs.Right.{AreSound, HaveNoRace, HaveWays}
 use Rattle.mk_build_behaviours.specs.Behaviours.{behaviour, path}
 use Rattle.mk_build_behaviours.specs.StepsBy.{IsLegalBy, after_all_by}
+use Rattle.mk_build_since.specs.Alike.{IsSameRecipe}
 use Rattle.mk_build_since.specs.Named.{Build, HasFile, OwnsFile, Rule, IsNamed}
 
 -- The build is accepted: its footprints are sound, there is no race, and each read of a file that
@@ -45,8 +46,8 @@ MayBecome old new before now f =
 -- The disk after the change: the clock didn't go back and no stamp is later than it; the files that
 -- these rules name are removed; each other file of the old build has become what it may; and what a
 -- recipe of the new build writes and the old build doesn't have itself isn't there. A file that the
--- old build doesn't have and a recipe of the new one would have looked for wasn't there, and isn't
--- there now or is a source that was written since.
+-- old build doesn't have and that the same recipe would look for in the new build wasn't there, and
+-- isn't there now or is a source that was written since.
 pub record IsNext (rules : List Rule) (old new : Build) (before now : Disk) : Type 0 where
   pub came : before.clock ≤ now.clock
   pub stamped : (f : FileName) (stamp : ℕ) → HasStamp now f stamp → stamp ≤ now.clock
@@ -55,7 +56,7 @@ pub record IsNext (rules : List Rule) (old new : Build) (before now : Disk) : Ty
       before now f
   pub lacking : (t : ℕ) (f : FileName) → Has (writes new.graph new.setting t) f →
       ¬ (OwnsFile old f) → now.files f ≡ None
-  pub coming : (t : ℕ) (f : FileName) →
+  pub coming : (o t : ℕ) (f : FileName) → IsSameRecipe old new o t →
       Has (path (behaviour new.graph new.behaviours t) (content before)) f → ¬ (HasFile old f) →
       (before.files f ≡ None) ×
       ((now.files f ≡ None) ⊎

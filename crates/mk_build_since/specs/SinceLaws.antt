@@ -27,9 +27,9 @@ NextIsCoherent =
     IsFinished old first before → IsNext all_rules old new before now →
     IsCoherentBy new.graph new.setting new.behaviours now
 
--- If the new build is accepted too, and its footprints are present whenever a make of it begins, then
--- each of its traces from that disk is right, with any edits, makes, stops and recipes that broke
--- off.
+-- If the new build is accepted too, and its footprints are present whenever a make of it begins,
+-- then each of its traces from that disk is right, with any edits, makes, stops and recipes that
+-- broke off.
 abbrev pub NextBuildsAreRight : Type 0
 NextBuildsAreRight =
     (old new : Build) → BehaveAlike old new → IsAccepted old → IsAccepted new →
