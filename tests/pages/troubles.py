@@ -16,7 +16,9 @@ PACKAGE = ROOT / "tools" / "mkcheck_tools"
 ROW = re.compile(r"^\| (`.*?) \| .* \|$", re.MULTILINE)
 QUOTE = re.compile(r"`([^`]+)`")
 # What stands for a name or a number, and what a text may have in its place.
-GAP = re.compile(r"\.\.|\b[A-Z][A-Z]*\b|\d[\d,]*|[\"{}]|\bMakefile:\S*|\(Makefile\b|\bmkcheck\.toml\b")
+GAP = re.compile(
+    r"\.\.|\b[A-Z][A-Z]*\b|\d[\d,]*|[\"{}]|\bMakefile:\S*|\(Makefile\b|\bmkcheck\.toml\b"
+)
 
 
 def texts() -> str:
