@@ -110,17 +110,35 @@ def compile_program(origin: Path, folder: Path) -> Path:
     """Compiles the whole program, and returns its object file."""
     object_file, done = folder / "mkcheck.o", folder / "done"
     copy_kit(origin, folder / "kit", object_file, done)
-    tried = subprocess.run(
-        [sys.executable, folder / "kit" / "bin" / "rt", "try", "--", "--version"],
+    words = [sys.executable, folder / "kit" / "bin" / "rt", "try", "--", "--version"]
+    with subprocess.Popen(
+        words,
         cwd=copy_sources(folder / "sources"),
         env={**os.environ, "TMPDIR": str(folder)},
-        capture_output=True,
+        stdout=subprocess.PIPE,
+        stderr=subprocess.STDOUT,
         text=True,
-        check=False,
-    )
+    ) as compiler:
+        said = said_in_the_end(compiler)
     if not done.exists():
-        sys.exit(f"quick.py: the program doesn't compile\n{tried.stdout}{tried.stderr}")
+        sys.exit(f"quick.py: the program doesn't compile\n{said}")
     return object_file
+
+
+def said_in_the_end(compiler: subprocess.Popen[str]) -> str:
+    """What a process printed when it has ended. Until then a line tells now and then how long it
+    has run: on a terminal the same one each second."""
+    start, is_terminal = time.monotonic(), sys.stdout.isatty()
+    while True:
+        try:
+            said, _ = compiler.communicate(timeout=1 if is_terminal else 30)
+            break
+        except subprocess.TimeoutExpired:
+            told = f"compiling, {time.monotonic() - start:.0f} s"
+            print(f"\r{told}" if is_terminal else told, end="" if is_terminal else "\n", flush=True)
+    if is_terminal:
+        print("\r", end="\033[K", flush=True)
+    return said
 
 
 def link(origin: Path, object_file: Path, program: Path) -> None:

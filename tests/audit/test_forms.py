@@ -9,7 +9,7 @@ import pytest
 
 from audit.project import GNU, SOURCES, Project, can_import
 from mkcheck_tools.audit.accepting import Accepted, fitted
-from mkcheck_tools.audit.asking import HTML, JSON, SARIF, TEXT, Output, outputs_of
+from mkcheck_tools.audit.asking import GITHUB, HTML, JSON, SARIF, TEXT, Output, outputs_of
 from mkcheck_tools.audit.forms import command, github_text, json_text, prefix_of
 from mkcheck_tools.audit.judgements import Judgement
 from mkcheck_tools.audit.logs import sarif_text
@@ -135,6 +135,13 @@ def test_outputs_are_options_in_their_order() -> None:
         Output(SARIF, "/x/log"),
         Output(HTML, "/x/page.html"),
     )
+    for_a_job = [("format", GITHUB), ("o", "/x/log.sarif"), ("o", "/x/page.html")]
+    assert outputs_of(for_a_job) == (
+        Output(SARIF, "/x/log.sarif"),
+        Output(HTML, "/x/page.html"),
+        Output(GITHUB),
+    )
+    assert outputs_of([("format", SARIF), ("o", "/x/log.json")])[1] == Output(SARIF, "/x/log.json")
     with pytest.raises(Fault, match="say its form in front of it"):
         outputs_of([("o", "answer")])
     with pytest.raises(Fault, match="json and sarif would"):

@@ -24,11 +24,19 @@ COMMENT = re.compile(r"<!--.*?-->", re.DOTALL)
 # What a recorder says now and then of how far it is, where a machine is slow.
 PROGRESS = re.compile(r"^\[[^][]*\d+/\d+[^][]*\] .*\n", re.MULTILINE)
 READS = re.compile(r"^(yes \d+ recipes) \d+ reads$", re.MULTILINE)
-SECONDS = 120
+SECONDS = 300
 REFUSED = re.compile(
     r"^(refused \d|error: |(\S+:\d+: )?[\w:]+ \(\d+\): |\{\"answer\":\"refused\")", re.MULTILINE
 )
 FOUND = re.compile(r"^no |^\S+: .* \[\w+\]$|^\{\"answer\":\"no\"", re.MULTILINE)
+# How the line of counts of an audit begins, with the status that goes with it.
+AUDITED = re.compile(
+    r"^(?:mkcheck-audit: )?(no answer|no|yes, but for .* not judged|yes)\b", re.MULTILINE
+)
+STATUS = {"no answer": 2, "yes": 0}
+TOOLS = ("mkcheck-record", "mkcheck-report", "mkcheck-import", "mkcheck-audit")
+# What needs strace that may trace, and a compiler.
+RECORDING = ("$ mkcheck-record", "$ mkcheck-import", "$ mkcheck-audit")
 
 
 @dataclass(frozen=True)
@@ -48,6 +56,9 @@ class Step:
         """The status that goes with what is shown; none where a shell's line has one of its own."""
         if not self.command.startswith("mkcheck") or any(byte in self.command for byte in "|;&"):
             return None
+        audited = AUDITED.findall(self.shown)
+        if self.command.startswith("mkcheck-audit") and audited:
+            return STATUS.get(audited[-1], 1)
         if REFUSED.search(self.shown):
             return 2
         return 1 if FOUND.match(self.shown) else 0
@@ -92,12 +103,13 @@ def differs(step: Step, folder: Path, environment: dict[str, str], varies: bool)
 
 def lacks(block: str) -> bool:
     """Whether a block records, and there is no strace that may trace or no compiler."""
-    if "$ mkcheck-record" not in block:
+    if not any(word in block for word in RECORDING):
         return False
     strace, compiler = shutil.which("strace"), shutil.which("cc")
     return not (
         strace
         and compiler
+        and shutil.which("make")
         and subprocess.run([strace, "-o", os.devnull, "true"], check=False).returncode == 0
     )
 
@@ -107,7 +119,7 @@ def environment_of(program: str, tools: Path) -> dict[str, str]:
     repository's."""
     tools.mkdir()
     (tools / "mkcheck").symlink_to(program)
-    for name in ("mkcheck-record", "mkcheck-report"):
+    for name in TOOLS:
         (tools / name).symlink_to(ROOT / "bin" / name)
     path = os.pathsep.join([str(tools), os.environ.get("PATH", os.defpath)])
     kept = {name: os.environ[name] for name in ("HOME", "TMPDIR") if name in os.environ}
@@ -155,7 +167,7 @@ def try_page(program: str, page: Path) -> tuple[int, int, int]:
                 varies = is_out = False
             if source:
                 shutil.copytree(ROOT / source, folder, dirs_exist_ok=True)
-            varies = varies or "$ mkcheck-record" in block
+            varies = varies or any(word in block for word in RECORDING)
             is_out = is_out or lacks(block)
             if is_out:
                 left_out += 1

@@ -3,7 +3,7 @@
 The makefiles of docs/FROM_GNU_MAKE.md are refused by their numbers or read, and so is our own; the
 sessions of README.md, examples/ and docs/ print what stands there; links lead somewhere; lengths in
 docs/WHY.md are those of the files; `mkcheck explain` and `mkcheck check -w` print what stands in
-docs/REFERENCE.md; wrong edits apply; the tools have the rooms that tools/README.md says; and the
+docs/REFERENCE.md; docs/TROUBLE.md quotes the tools; wrong edits apply; the tools have the rooms that tools/README.md says; and the
 manual pages can be read.
 """
 
@@ -23,6 +23,7 @@ from pages.links import broken_links
 from pages.rooms import wrong_imports, wrong_names
 from pages.sentences import wrong_sentences
 from pages.sessions import try_page
+from pages.troubles import wrong_quotes
 
 ROOT = Path(__file__).resolve().parents[2]
 MKCHECK = os.path.abspath(os.environ.get("MKCHECK", ROOT / "bin" / "mkcheck"))
@@ -80,6 +81,11 @@ def test_explanations_are_those_of_the_reference() -> None:
 def test_sentences_are_those_of_the_reference() -> None:
     """What differs is printed."""
     assert wrong_sentences(MKCHECK) == 0
+
+
+def test_troubles_are_quoted_as_the_tools_say_them() -> None:
+    """In docs/TROUBLE.md; what nothing says is printed."""
+    assert wrong_quotes() == 0
 
 
 def test_links_lead_somewhere() -> None:

@@ -66,21 +66,26 @@ class Asked:
 
 # The forms of files, by the ends of their names.
 ENDS = {".json": JSON, ".sarif": SARIF, ".html": HTML, ".htm": HTML, ".txt": TEXT}
+# Those that no other form has.
+OWN_ENDS = (SARIF, HTML)
 
 
 def outputs_of(words: Sequence[tuple[str, str]]) -> tuple[Output, ...]:
     """The outputs that options ask for, which are given in their order: `format` with a form, and
-    `o` with a file, which belongs to the form in front of it. Raises Fault where they don't fit."""
+    `o` with a file, which belongs to the form in front of it, unless its name ends as another one.
+    Raises Fault where they don't fit."""
     found: list[Output] = []
     for option, value in words:
         if option == "format":
             found.append(Output(value))
             continue
         path = os.path.abspath(value)
-        if found and found[-1].path is None:
+        named = ENDS.get(os.path.splitext(value)[1])
+        waits = bool(found) and found[-1].path is None
+        if waits and (named not in OWN_ENDS or named == found[-1].form):
             found[-1] = replace(found[-1], path=path)
-        elif os.path.splitext(value)[1] in ENDS:
-            found.append(Output(ENDS[os.path.splitext(value)[1]], path))
+        elif named is not None:
+            found.insert(len(found) - waits, Output(named, path))
         else:
             raise Fault(f"-o {value}: say its form in front of it, as in --format json -o {value}")
     printed = [one.form for one in found if one.path is None]

@@ -24,7 +24,7 @@ ABOUT = (
 
 def page_text(judgement: Judgement, checker: Checker) -> str:
     """The page. The project's folder has to be the one in which this program is."""
-    told = f'<pre class="lines">{markup(Writer(judgement).whole())}</pre>'
+    told = f"<pre>{markup(Writer(judgement).whole())}</pre>"
     if judgement.reader.kind == POSIX:
         judged = judge(replace(checker, book=BOOK))
         return page(judged, f"<h2>The audit</h2>\n{told}\n")

@@ -241,7 +241,7 @@ class Import(Generic[Shown, Built]):
         if kept is None:
             return None
         if places.namespace() is None:
-            self.refuse("the system allows no mount namespace, so copies have other paths each time")
+            self.refuse("without mount namespaces copies have other paths each time")
             return None
         change = change_of(kept, now)
         if change.why:
