@@ -30,10 +30,12 @@ REFUSED = re.compile(
 )
 FOUND = re.compile(r"^no |^\S+: .* \[\w+\]$|^\{\"answer\":\"no\"", re.MULTILINE)
 # How the line of counts of an audit begins, with the status that goes with it.
+UNRECORDED = "the build can't be recorded"
 AUDITED = re.compile(
-    r"^(?:mkcheck-audit: )?(no answer|no|yes, but for .* not judged|yes)\b", re.MULTILINE
+    rf"^(?:mkcheck-audit: )?({UNRECORDED}|no answer|no|yes, but for .* not judged|yes)\b",
+    re.MULTILINE,
 )
-STATUS = {"no answer": 2, "yes": 0}
+STATUS = {UNRECORDED: 2, "no answer": 2, "yes": 0}
 TOOLS = ("mkcheck-record", "mkcheck-report", "mkcheck-import", "mkcheck-audit")
 # What needs strace that may trace, and a compiler.
 RECORDING = ("$ mkcheck-record", "$ mkcheck-import", "$ mkcheck-audit")
