@@ -278,7 +278,7 @@ def replay(
     if early is None:
         return replays.run(world.trials)
     early.slots.release()
-    replays = replace(replays, memory=early.memory, _stopped=early.stopped)
+    replays = replace(replays, memory=early.memory, slots=early.slots, _stopped=early.stopped)
     return replays.run(world.trials, early.started, early.pool)
 
 
