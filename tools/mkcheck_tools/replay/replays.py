@@ -168,7 +168,7 @@ class Replay:
                 ahead = self.halves.ahead(pool, trials) if jobs > 1 else {}
                 for number, trial in enumerate(trials):
                     waiting.append(self.begun(pool, trial, number, (started or {}).get(number)))
-                self.watch(waiting, trials, progress)
+                self.watch(waiting, started or {}, trials, progress)
                 outcomes = [future.result() for future in waiting]
                 outcomes = self.with_folders(pool, outcomes)
                 beside = jobs > 1 and (len(trials) > 1 or bool(started))
@@ -249,18 +249,29 @@ class Replay:
             remove(place.folder)
 
     def watch(
-        self, waiting: list[Future[Outcome]], trials: list[Trial], progress: Progress
+        self,
+        waiting: list[Future[Outcome]],
+        started: Mapping[int, Future[Started]],
+        trials: list[Trial],
+        progress: Progress,
     ) -> None:
         """Waits for replays, and tells those that have ended, or after a while which go on. One
-        that raises an error ends this."""
-        left = dict(zip(waiting, (trial.recipe.target for trial in trials)))
+        that began early has ended when that run has. One that raises an error ends this."""
+        left = dict(enumerate(waiting))
+        untold = dict(enumerate(trial.recipe.target for trial in trials))
         while left:
-            done, _ = futures.wait(left, SECONDS_SHOWN, futures.FIRST_COMPLETED)
-            for future in [one for one in left if one in done]:
-                progress.ended(left.pop(future))
-                future.result()
-            if not done:
-                progress.goes_on(next(iter(left.values())))
+            done, _ = futures.wait(left.values(), SECONDS_SHOWN, futures.FIRST_COMPLETED)
+            for number in [number for number, future in left.items() if future in done]:
+                left.pop(number).result()
+            ended = [
+                number
+                for number in untold
+                if number not in left or (number in started and started[number].done())
+            ]
+            for number in ended:
+                progress.ended(untold.pop(number))
+            if untold and not ended:
+                progress.goes_on(next(iter(untold.values())))
 
     def replay_safely(self, trial: Trial, number: int, folders: frozenset[Name]) -> Outcome:
         """The same, where an error that nobody thought of costs this recipe alone."""
