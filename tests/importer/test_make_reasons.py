@@ -247,6 +247,21 @@ class LookTest(UnseenTestCase):
         self.assertIn("2 of 2 recipes will be judged, for x, by GNU Make", answer.output)
         self.assertFalse((self.folder / ".mkcheck").exists())
 
+    def test_a_make_that_only_a_build_can_show(self) -> None:
+        self.write(
+            {
+                "Makefile": "all: gen.h\n\t$(MAKE) -f below.mk\ngen.h:\n\techo 1 > gen.h\n",
+                "below.mk": "x: gen.h\n\tcp gen.h x\n",
+            }
+        )
+        answer = self.imported("--look")
+        self.assertEqual(answer.status, 0, answer.errors)
+        front = "only a build shows what will be judged, for all, by GNU Make"
+        self.assertTrue(answer.output.startswith(front), answer.output)
+        self.assertIn("`make -n` fails (make[1]: *** No rule to make target 'gen.h'", answer.output)
+        self.assertNotIn("Not judged", answer.output)
+        self.assertNotIn("not judged", answer.errors)
+
 
 @can_judge
 class WordsTest(UnseenTestCase):

@@ -185,7 +185,7 @@ class Import(Generic[Shown, Built]):
         if only == "read":
             return 0
         if self.request.look:
-            return look(self.translated(shown, None), self.desk)
+            return look(self.translated(shown, None), self.desk, self.tool.unsure(shown))
         if only == "translate":
             built = self.built(shown) if self.request.build else None
             return end_early(self.translated(shown, built).build)
@@ -215,7 +215,7 @@ class Import(Generic[Shown, Built]):
             return written(build, place, self.desk)
 
         translated = self.desk.step("translate", translate, word_of_translation)
-        for text in translated.build.problems if self.request.only is None else ():
+        for text in translated.build.problems if self.request.is_whole else ():
             self.desk.say(f"not judged: {text}")
         return translated
 
@@ -342,16 +342,22 @@ def add_configured(build: Build, place: Place, asked: tuple[str, ...]) -> None:
         )
 
 
-def look(translated: Translated, desk: Desk) -> int:
-    """Says what will be judged, as far as that is known without a build."""
+def look(translated: Translated, desk: Desk, why: str) -> int:
+    """Says what will be judged, as far as that is known without a build; `why` is a reason for
+    which it isn't."""
     build = translated.build
-    desk.step("graph", partial(translated.judge.graph, translated.has_first), str)
     recipes = [node for node in build.nodes.values() if node.commands]
     named = [node for node in recipes if node.name not in build.unjudged]
     goals = ", ".join(build.goals[:5]) + (" .." if len(build.goals) > 5 else "")
-    all_of = f"{len(named)} of {counted(len(recipes), 'recipe')}"
-    print(f"{all_of} will be judged, for {goals}, by {build.tool}")
-    for heading, texts in (("Not judged:", build.problems), ("Notes:", build.notes)):
+    if why:
+        print(f"only a build shows what will be judged, for {goals}, by {build.tool}: {why}")
+        problems = []
+    else:
+        desk.step("graph", partial(translated.judge.graph, translated.has_first), str)
+        all_of = f"{len(named)} of {counted(len(recipes), 'recipe')}"
+        print(f"{all_of} will be judged, for {goals}, by {build.tool}")
+        problems = build.problems
+    for heading, texts in (("Not judged:", problems), ("Notes:", build.notes)):
         if texts:
             print("\n".join(["", heading, *(f"    {text}" for text in texts)]))
     return 0
