@@ -297,6 +297,22 @@ class WordsTest(UnseenTestCase):
             answer.output,
         )
 
+    def test_objects_in_a_folder_of_the_build_have_the_rule_beside_them(self) -> None:
+        rule = "$D/%.o: %.c | $D"
+        self.write(
+            {
+                "Makefile": "D := obj/$(shell echo 1 | tr 1 2)\nall: $D/a.o $D/b.o\n.PHONY: all\n"
+                f"{rule} # objects\n\tcat $< h > $@\n$D:\n\tmkdir -p $D\n",
+                **{"a.c": "1\n", "b.c": "1\n", "h": "1\n"},
+            }
+        )
+        answer = self.imported()
+        self.assertIn(
+            "\nMakefile:5: obj/2/a.o and obj/2/b.o aren't made again when h changes"
+            f" (their rule is `{rule}`)\n",
+            answer.output,
+        )
+
     def test_a_dependency_file_that_nothing_includes_is_the_cause(self) -> None:
         self.objects({"a": "h"}, "; echo '$@: $<' `cat $<` > $*.d")
         answer = self.imported()
