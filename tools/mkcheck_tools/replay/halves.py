@@ -14,6 +14,7 @@ from mkcheck_tools.replay.meetings import Turns
 from mkcheck_tools.replay.runs import BARE, Outcome, Runner
 from mkcheck_tools.replay.stamps import with_later_stamps
 from mkcheck_tools.replay.worlds import Trial
+from mkcheck_tools.run import places
 from mkcheck_tools.run.folders import remove
 from mkcheck_tools.run.paths import Name, RealPath
 from mkcheck_tools.run.places import Place
@@ -90,6 +91,8 @@ class Halves:
         if place.is_bound:
             place = replace(place, folder=RealPath(f"{place.folder}.half"))
         with self.slots, self.turns.turn(trial.recipe.target):
+            # Where the program ends, no more folders are laid.
+            places.pause(0)
             world = self.runner.layout.world
             return self.leaves_half(with_later_stamps(world, trial), place, folders)
 

@@ -276,6 +276,8 @@ class Replay:
     def replay_safely(self, trial: Trial, number: int, folders: frozenset[Name]) -> Outcome:
         """The same, where an error that nobody thought of costs this recipe alone."""
         try:
+            # Where the program ends, no more folders are laid.
+            places.pause(0)
             with self.turns.turn(trial.recipe.target):
                 return self.replay(trial, number, folders)
         except Exception as error:
