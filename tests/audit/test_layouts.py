@@ -10,7 +10,7 @@ import pytest
 from mkcheck_tools.audit.layouts import Layout
 from mkcheck_tools.audit.makefile_lines import mark_of
 from mkcheck_tools.audit.mending import Addition, with_additions
-from mkcheck_tools.report.makefiles import rule_line
+from mkcheck_tools.gnu.rule_lines import pattern_rule, rule_line
 
 # Each makefile has the rule that is extended at the line with `# HERE`, and the place that is
 # expected at the line `# THERE`, which isn't part of it.
@@ -171,6 +171,17 @@ def test_a_rule_is_found_above_its_recipe() -> None:
         assert rule_line(lines, number) == 1
     assert rule_line(lines, None) is None
     assert rule_line(["x = 1", "\techo"], 2) == 2
+
+
+def test_a_pattern_rule() -> None:
+    """As its makefile spells it, on one line."""
+    lines = ["$D/%.o: %.c \\", "  h | $D # objects", "", "\tcc -c $<", "x.o: x.c", "\tcc -c x.c"]
+    for number in (1, 4):
+        assert pattern_rule(lines, number) == "$D/%.o: %.c h | $D"
+    for missing in (5, 6, 9, None):
+        assert pattern_rule(lines, missing) == ""
+    assert pattern_rule(["%.o: %.c ; cc -c $<"], 1) == "%.o: %.c"
+    assert pattern_rule(["X = %"], 1) == ""
 
 
 @pytest.mark.parametrize(

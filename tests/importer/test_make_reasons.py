@@ -247,6 +247,21 @@ class LookTest(UnseenTestCase):
         self.assertIn("2 of 2 recipes will be judged, for x, by GNU Make", answer.output)
         self.assertFalse((self.folder / ".mkcheck").exists())
 
+    def test_a_make_that_only_a_build_can_show(self) -> None:
+        self.write(
+            {
+                "Makefile": "all: gen.h\n\t$(MAKE) -f below.mk\ngen.h:\n\techo 1 > gen.h\n",
+                "below.mk": "x: gen.h\n\tcp gen.h x\n",
+            }
+        )
+        answer = self.imported("--look")
+        self.assertEqual(answer.status, 0, answer.errors)
+        front = "only a build shows what will be judged, for all, by GNU Make"
+        self.assertTrue(answer.output.startswith(front), answer.output)
+        self.assertIn("`make -n` fails (make[1]: *** No rule to make target 'gen.h'", answer.output)
+        self.assertNotIn("Not judged", answer.output)
+        self.assertNotIn("not judged", answer.errors)
+
 
 @can_judge
 class WordsTest(UnseenTestCase):
@@ -279,6 +294,22 @@ class WordsTest(UnseenTestCase):
         self.assertIn(
             "\nMakefile:4: a.o, b.o, c.o, d.o, e.o and 3 more targets aren't made again when files"
             " change that their recipes read: a.o when a.h changes\n\nAdd to Makefile:\n",
+            answer.output,
+        )
+
+    def test_objects_in_a_folder_of_the_build_have_the_rule_beside_them(self) -> None:
+        rule = "$D/%.o: %.c | $D"
+        self.write(
+            {
+                "Makefile": "D := obj/$(shell echo 1 | tr 1 2)\nall: $D/a.o $D/b.o\n.PHONY: all\n"
+                f"{rule} # objects\n\tcat $< h > $@\n$D:\n\tmkdir -p $D\n",
+                **{"a.c": "1\n", "b.c": "1\n", "h": "1\n"},
+            }
+        )
+        answer = self.imported()
+        self.assertIn(
+            "\nMakefile:5: obj/2/a.o and obj/2/b.o aren't made again when h changes"
+            f" (their rule is `{rule}`)\n",
             answer.output,
         )
 

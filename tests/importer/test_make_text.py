@@ -7,10 +7,11 @@ import unittest
 from pathlib import Path
 from types import SimpleNamespace
 
+from mkcheck_tools.faults import Failure, failure_of
 from mkcheck_tools.imports.builds import Build, Command, Kind, Node, Origin, Setting, path_name
 from mkcheck_tools.imports.database import Database, read_database
 from mkcheck_tools.imports.gnumake import Make, is_harmless, options_of
-from mkcheck_tools.imports.judging import OWN_ADVICE, PROGRESS, advice
+from mkcheck_tools.imports.judging import sentence
 from mkcheck_tools.imports.ordering import Order
 from mkcheck_tools.imports.plain import makefile, quoted, shell_text
 from mkcheck_tools.imports.recursion import is_only_makes, without_makes
@@ -173,16 +174,6 @@ class TranscriptTest(unittest.TestCase):
                 self.assertEqual(prefix_of(line, values), prefix)
 
 
-class ProgressTest(unittest.TestCase):
-    """What the recorder says of its progress, which is left out where it fails."""
-
-    def test_lines(self) -> None:
-        for line in ("[9/20 0:17 left] x.o: cc -c x.c", "[replay 21/30 1:00:07 left] y", "[1/2] x"):
-            self.assertTrue(PROGRESS.match(line), line)
-        for line in ("mkcheck-record: no strace", "[a]", "\tx [1/2] y", "[1/2 of it] x"):
-            self.assertFalse(PROGRESS.match(line), line)
-
-
 class AdviceTest(unittest.TestCase):
     """What the recorder advises by options of its own."""
 
@@ -191,12 +182,17 @@ class AdviceTest(unittest.TestCase):
             ("/p/lib", "import that folder by itself (mkcheck-import -C lib), and here goals that"),
             ("/p", "its build isn't judged here; import its goals by themselves, and here goals"),
         ):
-            text = started_make("x", "make", folder, Place("/p", "/p"))
-            self.assertIn("--opaque", text)
-            text = OWN_ADVICE.sub(advice, text)
+            failure = failure_of(started_make("x", "make", folder, Place("/p", "/p")), "x")
+            self.assertIn("--opaque", failure.text)
+            text = sentence(failure)
             self.assertIn(said, text)
             self.assertNotIn("--opaque", text)
             self.assertNotIn("mkcheck-record", text)
+
+    def test_other_reasons(self) -> None:
+        self.assertEqual(
+            sentence(Failure("x", "the recipe of x failed\n\tcc x.c")), "the recipe of x failed"
+        )
 
 
 class ConditionTest(unittest.TestCase):

@@ -120,7 +120,7 @@ class MistakeTest(EndTest):
     @unittest.skipUnless(shutil.which("as"), "no assembler")
     def test_while_a_write_fails(self) -> None:
         self.write({"makefile": MAKEFILE.replace("cat s > b", "as -o b t.s"), "t.s": ".data\n"})
-        self.mistake("replay.replays", "Replay.leaves_half", "words[1].recipe.target")
+        self.mistake("replay.halves", "Halves.leaves_half", "words[1].recipe.target")
 
     @namespaces
     def test_while_a_replay_is_judged(self) -> None:

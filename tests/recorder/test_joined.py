@@ -107,9 +107,7 @@ class JoinedTest(ProjectTest):
         self.refused(makefile, {"a": "1\n"}, "the folder obj is made by the recipe of other")
 
     def test_an_output_that_was_there_when_it_was_recorded(self) -> None:
-        makefile = (
-            "out: a\n\tif test -e side; then cat a; else echo none; fi > out; cat a > side\n"
-        )
+        makefile = "out: a\n\tif test -e side; then cat a; else echo none; fi > out; cat a > side\n"
         self.refused(makefile, {"a": "1\n", "side": "0\n"}, "writes out with other contents")
 
     def test_the_order_of_stamps_with_other_bytes(self) -> None:
@@ -145,6 +143,25 @@ def told(own, trial, place):
 
 Runner.leaves_half = told
 sys.exit(program.main(sys.argv[1:]))
+"""
+
+
+# Put in front of it: tells also that a replay has ended.
+BEGUN = r"""
+import sys
+from mkcheck_tools.replay.replays import Replay
+
+replay_safely = Replay.replay_safely
+
+
+def ended(*words):
+    outcome = replay_safely(*words)
+    sys.stdout.write("replayed\n")
+    sys.stdout.flush()
+    return outcome
+
+
+Replay.replay_safely = ended
 """
 
 
@@ -186,6 +203,18 @@ class AlikeTest(ProjectTest):
         }
         tried, noted = self.tried(self.rules("cc -c -o %.o %.c"), files)
         self.assertEqual((tried, noted), ({"b.o", "c.o"}, set()))
+
+    def test_they_do_not_wait_for_what_other_runs_show(self) -> None:
+        self.write({"makefile": "a.o: a.c\n\tsleep 1; cc -c -o a.o a.c\n", "a.c": "int a;\n"})
+        words = ["-C", str(self.folder), "-o", str(self.book)]
+        done = subprocess.run(
+            [sys.executable, "-c", BEGUN + FAILING, *words],
+            env={**os.environ, "MKCHECK": MKCHECK, "PYTHONPATH": str(ROOT / "tools")},
+            capture_output=True,
+            text=True,
+            check=False,
+        )
+        self.assertEqual((done.returncode, done.stdout), (0, "a.o\nreplayed\n"), done.stderr)
 
     def test_all_are_tried_where_one_of_these_is_left_half_written(self) -> None:
         command = "cc -c -o %.o %.c || { echo > %.o; false; }"

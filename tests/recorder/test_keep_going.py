@@ -7,6 +7,8 @@ import os
 import shutil
 from pathlib import Path
 
+from mkcheck_tools.book.answer_files import read_answer
+from mkcheck_tools.faults import Fault
 from recorder.project import ProjectTest, traced
 
 
@@ -73,6 +75,48 @@ class KeepGoingTest(ProjectTest):
         self.book.write_text('{"format": 1}')
         self.assertEqual(self.record_plainly("-o", str(self.book)).status, 1)
         self.assertEqual(self.check(), ["no record a"])
+
+    def test_an_answer_for_programs(self) -> None:
+        answer = self.folder.parent / "answer.json"
+        makefile = "all: a b c\na:\n\techo > a\nb: a\n\tfalse\nc:\n\tcd sub && $(MAKE)\n"
+        self.write({"makefile": makefile, "sub/makefile": "x:\n\techo > x\n"})
+        self.assertEqual(self.record("--answer", str(answer)).status, 1)
+        found = read_answer(str(answer))
+        self.assertEqual((found.status, found.written), (1, True))
+        self.assertEqual((found.recipes, found.known, found.fault), (3, 0, ""))
+        told = {one.target: (one.text.partition("\n")[0], one.make_in) for one in found.unrecorded}
+        self.assertEqual(told["b"], ("the recipe of b failed, status 1, at false", None))
+        text, folder = told["c"]
+        self.assertTrue(
+            text.startswith("the recipe of c starts make in sub: its build isn't"), text
+        )
+        self.assertEqual(folder, "sub")
+
+    def test_an_answer_of_an_update(self) -> None:
+        answer = self.folder.parent / "answer.json"
+        self.write({"makefile": "all: a b\na: s\n\tcp s a\nb:\n\techo > b\n", "s": ""})
+        words = ("--update", str(self.book), "--answer", str(answer))
+        counts = []
+        for text in ("1", "2", "2"):
+            self.write({"s": text})
+            self.assertEqual(self.record_plainly(*words).status, 0)
+            found = read_answer(str(answer))
+            counts.append((found.recipes, found.known, found.written))
+        self.assertEqual(counts, [(2, 0, True), (2, 1, True), (2, 2, True)])
+
+    def test_an_answer_of_a_fault(self) -> None:
+        answer = self.folder.parent / "answer.json"
+        self.write({"makefile": "a: b\n\tcp b a\n"})
+        self.assertEqual(self.record("--answer", str(answer)).status, 2)
+        found = read_answer(str(answer))
+        self.assertEqual((found.status, found.written, found.unrecorded), (2, False, ()))
+        self.assertIn("b", found.fault)
+
+    def test_an_answer_that_cannot_be_read(self) -> None:
+        for text in ("", "[]", '{"format":1}', '{"format":2}'):
+            self.book.write_text(text)
+            with self.assertRaises(Fault):
+                read_answer(str(self.book))
 
     def test_standard_output_has_what_is_recorded(self) -> None:
         self.write({"makefile": "all: a b\na:\n\tfalse\nb:\n\techo > b\n"})

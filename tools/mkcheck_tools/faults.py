@@ -29,16 +29,32 @@ class RecipeFault(Fault):
         self.targets = tuple(targets)
 
 
+class MakeFault(RecipeFault):
+    """A recipe starts a make, in this folder, `.` for the project's own. The text is the fact and
+    what helps."""
+
+    def __init__(self, fact: str, cure: str, folder: str) -> None:
+        super().__init__(f"{fact}; {cure}")
+        self.fact, self.folder = fact, folder
+
+
 @dataclass(frozen=True)
 class Failure:
     """Why the recipe of a target has no record."""
 
     target: str
     text: str
+    fact: str = ""
+    """The text without what helps, where that is known; else empty."""
+
+    make_in: str | None = None
+    """The folder in which the recipe starts a make, if it does."""
 
 
 def failure_of(error: Exception, target: str) -> Failure:
     """That a recipe can't be recorded for an error, which may be the recorder's mistake."""
+    if isinstance(error, MakeFault):
+        return Failure(target, str(error), error.fact, error.folder)
     if isinstance(error, RecipeFault):
         return Failure(target, str(error))
     text = f"the recipe of {target} can't be recorded: {mistake_of(error, 'recorder')}"

@@ -63,6 +63,7 @@ complete -c mkcheck-record -l make -d 'Let make run all too'
 complete -c mkcheck-record -s k -d 'Go on where a recipe fails'
 complete -c mkcheck-record -l strict -d 'Take a doubt for an error'
 complete -c mkcheck-record -l opaque -r -d 'Its recipe may start a make'
+complete -c mkcheck-record -l answer -r -d 'Where what it came to goes, as JSON'
 
 complete -c mkcheck-import -l from -x -a 'make ninja' -d 'The build tool'
 complete -c mkcheck-import -s o -x -a '(__fish_complete_directories)' -d 'Where the translation goes'

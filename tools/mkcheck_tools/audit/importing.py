@@ -16,8 +16,8 @@ from mkcheck_tools.audit.recording import KEPT, program
 from mkcheck_tools.audit.verdicts import Audited, Finding, Mend, Spot
 from mkcheck_tools.book.note_files import read_notes
 from mkcheck_tools.faults import Fault
+from mkcheck_tools.gnu.rule_lines import rule_line
 from mkcheck_tools.imports.told import FORMAT
-from mkcheck_tools.report.makefiles import rule_line
 from mkcheck_tools.run.stopping import Stopped
 
 STORE = ".mkcheck"

@@ -5,6 +5,7 @@ from __future__ import annotations
 import os
 import shutil
 import sys
+import tempfile
 from collections.abc import Sequence
 from functools import partial
 from pathlib import Path
@@ -13,6 +14,7 @@ from mkcheck_tools.answers.findings import Group, answer_of
 from mkcheck_tools.audit.asking import Asked
 from mkcheck_tools.audit.readers import Reader, Wanted, checker_of, own_folder
 from mkcheck_tools.audit.verdicts import Audited, Finding, Mend, Spot
+from mkcheck_tools.book.answer_files import read_answer
 from mkcheck_tools.book.choices import Choice
 from mkcheck_tools.book.earlier import choice_before
 from mkcheck_tools.book.footprint_files import read_footprints
@@ -20,7 +22,6 @@ from mkcheck_tools.book.note_files import read_notes
 from mkcheck_tools.book.paths import path_of_notes, path_of_stamps, path_of_state
 from mkcheck_tools.faults import Fault
 from mkcheck_tools.imports.copies import Tail, run_here
-from mkcheck_tools.imports.recorded import lines_of
 from mkcheck_tools.imports.telling import Telling
 from mkcheck_tools.run.folders import prefix_of
 from mkcheck_tools.run.places import Place
@@ -54,42 +55,36 @@ def recorded(asked: Asked, wanted: Wanted) -> list[str]:
     """Brings the footprints up to date; gives the recorder's sentences on recipes without one."""
     book = Path(wanted.root, BOOK)
     forget_other_choice(str(book), choice_of(asked, wanted))
-    before = stamp_of(book)
     tail = Tail()
     words = [sys.executable, program("mkcheck-record"), "-C", wanted.root, "--update", str(book)]
     words += ["-f", wanted.makefile] if wanted.makefile else []
     words += [word for prefix in asked.fixed for word in ("--fixed", prefix)]
     words += [word for target in asked.trusted for word in ("--trust", target)]
     words += [] if asked.replay else ["--no-replay"]
-    words += ["--", *wanted.words]
     environment = {**os.environ, "MKCHECK": checker_of(wanted).program}
     place = Place.of(wanted.root)
     telling = Telling(program="mkcheck-audit")
-    record = partial(run_here, place, words, environment, tail)
-    try:
-        status, said, errors = telling.during("record", tail.text, record)
-    except Stopped as stopped:
-        stopped.rest = KEPT
-        raise
-    lines = lines_of(said + errors, asked.trusted)
-    if status not in (0, 1) or not book.exists() or (status == 1 and stamp_of(book) == before):
-        raise Fault(f"the build can't be recorded:\n{said_of(said + errors)}")
-    return lines.failures
+    with tempfile.TemporaryDirectory() as scratch:
+        written = os.path.join(scratch, "answer.json")
+        words += ["--answer", written, "--", *wanted.words]
+        record = partial(run_here, place, words, environment, tail)
+        try:
+            status, said, errors = telling.during("record", tail.text, record)
+        except Stopped as stopped:
+            stopped.rest = KEPT
+            raise
+        if not os.path.exists(written):
+            raise Fault(unrecorded([f"mkcheck-record ends with status {status}", said + errors]))
+        answer = read_answer(written)
+    if not answer.written:
+        raise Fault(unrecorded(answer.reasons))
+    return [text.partition("\n")[0] for text in answer.reasons]
 
 
-def said_of(text: str) -> str:
-    """What the recorder said, without its lines of progress."""
-    lines = [line for line in text.splitlines() if line.strip() and not line.startswith("[")]
-    return "\n".join(f"    {line.removeprefix('mkcheck-record: ')}" for line in lines)
-
-
-def stamp_of(path: Path) -> tuple[int, int] | None:
-    """What tells a file from one that is written in its place; None where there is none."""
-    try:
-        status = path.stat()
-    except OSError:
-        return None
-    return status.st_ino, status.st_mtime_ns
+def unrecorded(reasons: Sequence[str]) -> str:
+    """What is said where nothing could be recorded."""
+    lines = [line for reason in reasons for line in reason.splitlines() if line.strip()]
+    return "\n".join(["the build can't be recorded:", *(f"    {line}" for line in lines)])
 
 
 def choice_of(asked: Asked, wanted: Wanted) -> Choice:

@@ -5,7 +5,7 @@ from __future__ import annotations
 import json
 import os
 import re
-from collections.abc import Mapping
+from collections.abc import Iterable, Mapping
 from dataclasses import dataclass, field, replace
 from pathlib import Path
 
@@ -13,13 +13,13 @@ from mkcheck_tools.answers.checkers import Checker, Reply
 from mkcheck_tools.answers.findings import Answer, answer_of
 from mkcheck_tools.answers.graphs import read_graph
 from mkcheck_tools.answers.refusals import CYCLE, NO_RULE, numbered
+from mkcheck_tools.book.answer_files import RecordingAnswer, read_answer
 from mkcheck_tools.book.footprint_files import Footprints, Record, read_footprints
 from mkcheck_tools.book.formats import first
 from mkcheck_tools.book.note_files import Noted, read_notes, text_of_notes
 from mkcheck_tools.book.paths import path_of_notes
 from mkcheck_tools.book.states import State
-from mkcheck_tools.book.updating import FIRST_TIME
-from mkcheck_tools.faults import Fault
+from mkcheck_tools.faults import Failure, Fault
 from mkcheck_tools.imports.alike import HANDING_ON, passing_through
 from mkcheck_tools.imports.builds import Build, Kind, Node
 from mkcheck_tools.imports.copies import Tail, run_here
@@ -33,21 +33,12 @@ LATER = "makefile"
 # A makefile with the prerequisites that both the first build and later ones have. Only races count.
 BETWEEN = "makefile.between"
 NODES_AT_MOST = 4096
-# What the recorder advises where a recipe starts a make, by options that the importer lacks.
-OWN_ADVICE = re.compile(
-    r"(?:name its goals on the command line of mkcheck-record|record that folder by itself"
-    r" \(mkcheck-record -C (.*)\)), or give --opaque \S+ to take it as one recipe"
-)
+# This many lines of the recorder are shown where it ends without an answer.
+LINES_SHOWN = 20
 # A makefile in which files change that recipes leave alike. Only stale reads count.
 THROUGH = "makefile.through"
 # The kind of a finding that `check` doesn't have: commands depend on a file that make reads.
 UNAWARE = "unaware"
-# The target of which the recorder tells.
-OF_RECIPE = re.compile(r"the recipe of (\S+)")
-# What the recorder says of its state, whose place is the importer's.
-OF_UPDATE = re.compile(r": all recipes are recorded$|mkcheck-record --update ")
-# The front of the recorder's lines of progress.
-PROGRESS = re.compile(r"\[(?:\w+ )?\d+/\d+(?: [\d:]+ left)?\] ")
 
 
 @dataclass(frozen=True)
@@ -216,21 +207,26 @@ class Judge:
         """Asks mkcheck, in the folder of the project."""
         return Checker(self.mkcheck, self.place, environment=self.environment).run(*words)
 
-    def record(self, recorder: list[str], first: bool, book: str) -> str:
+    def record(self, recorder: list[str], first: bool, book: str) -> tuple[RecordingAnswer, str]:
         """Records the build, as far as it has changed since the last recording whose state lies
-        beside the footprints; gives what the recorder said."""
-        Path(book).unlink(missing_ok=True)
+        beside the footprints; gives what it came to, and what the recorder said."""
+        written = f"{book}.answer"
+        for path in (book, written):
+            Path(path).unlink(missing_ok=True)
         name = FIRST if first else LATER
         words = [*recorder, "-f", self.path(name), "-C", self.place.seen, "--update", book]
+        words += ["--answer", written]
         status, said, errors = run_here(self.place, words, self.environment, self.tail)
-        is_written = os.path.exists(book)
-        if status not in (0, 1) or not is_written:
-            lines = (said + errors).splitlines(keepends=True)
-            lines = [line for line in lines if not OF_UPDATE.search(line)]
-            text = "".join(line for line in lines if not PROGRESS.match(line))
-            raise RecordingFault(OWN_ADVICE.sub(advice, text))
-        lines = errors.splitlines(keepends=True)
-        return "".join(line for line in lines if not line.rstrip().endswith(FIRST_TIME))
+        if not os.path.exists(written):
+            end = f"mkcheck-record ends with status {status}"
+            raise RecordingFault("\n".join([end, *(said + errors).splitlines()[-LINES_SHOWN:]]))
+        answer = read_answer(written)
+        if not answer.written:
+            own = [
+                sentence(one) if one.make_in is not None else one.text for one in answer.unrecorded
+            ]
+            raise RecordingFault(answer.fault or "\n".join(dict.fromkeys(own)))
+        return answer, errors
 
     def looks(self, state: State, folders: set[str]) -> dict[str, list[str]]:
         """At which of these folders each recipe looked; with a `/` behind it one whose names it
@@ -261,16 +257,13 @@ class Judge:
         kept = [note for note in noted.notes if note.kind not in left_out]
         return Noted(tuple(one for one in kept if one.target not in trusted or not is_trust(one)))
 
-    def unrecorded(self, said: list[str]) -> dict[str, str]:
-        """Of each recipe that the recorder names in these lines the line."""
+    def unrecorded(self, failures: Iterable[Failure]) -> dict[str, str]:
+        """Of each recipe that has no record what the recorder says of it, in a line."""
         back = {word: name for name, word in self.names().written.items() if "\0" not in name}
         found: dict[str, str] = {}
-        for line in said:
-            for word in OF_RECIPE.findall(line)[:1]:
-                name = back.get(word.rstrip(",:;"), word.rstrip(",:;"))
-                if name in self.build.nodes:
-                    found.setdefault(name, OWN_ADVICE.sub(advice, line))
-        return found
+        for failure in failures:
+            found.setdefault(back.get(failure.target, failure.target), sentence(failure))
+        return {name: text for name, text in found.items() if name in self.build.nodes}
 
     def complete(self, footprints: Footprints, first: bool, unrecorded: Mapping[str, str]) -> None:
         """Gives recipes without a record one by which they write their targets alone, and names
@@ -453,14 +446,16 @@ def without_first_only(build: Build) -> Build:
     return replace(build, nodes=nodes)
 
 
-def advice(found: re.Match[str]) -> str:
-    """What is advised instead."""
-    if found.group(1) is None:
-        return "import its goals by themselves, and here goals that don't need that recipe"
-    return (
-        f"import that folder by itself (mkcheck-import -C {found.group(1)}), and here goals that"
-        " don't need that recipe"
-    )
+def sentence(failure: Failure) -> str:
+    """Why a recipe has no record, in a line. Where it starts a make, that is mended by goals, since
+    an import lacks the recorder's options."""
+    if failure.make_in is None:
+        return failure.text.partition("\n")[0]
+    if failure.make_in == ".":
+        way = "import its goals by themselves"
+    else:
+        way = f"import that folder by itself (mkcheck-import -C {failure.make_in})"
+    return f"{failure.fact}; {way}, and here goals that don't need that recipe"
 
 
 class RecordingFault(Fault):

@@ -42,7 +42,7 @@ from mkcheck_tools.imports.kept import (
 )
 from mkcheck_tools.imports.leftovers import tracked_files
 from mkcheck_tools.imports.probing import Probing
-from mkcheck_tools.imports.recorded import Recorded, lines_of
+from mkcheck_tools.imports.recorded import Recorded
 from mkcheck_tools.imports.request import Request
 from mkcheck_tools.imports.saving import build_of_text, recorded_of_text, text_of_build
 from mkcheck_tools.imports.sentences import Sentences
@@ -104,7 +104,7 @@ class Recording:
 
     recorded: Recorded
     count: str
-    """How many of all recipes were recorded, where some were known already."""
+    """How many of all recipes were recorded by now, where all have a record."""
 
     state: State | None
     recipes: int
@@ -185,7 +185,7 @@ class Import(Generic[Shown, Built]):
         if only == "read":
             return 0
         if self.request.look:
-            return look(self.translated(shown, None), self.desk)
+            return look(self.translated(shown, None), self.desk, self.tool.unsure(shown))
         if only == "translate":
             built = self.built(shown) if self.request.build else None
             return end_early(self.translated(shown, built).build)
@@ -215,7 +215,7 @@ class Import(Generic[Shown, Built]):
             return written(build, place, self.desk)
 
         translated = self.desk.step("translate", translate, word_of_translation)
-        for text in translated.build.problems if self.request.only is None else ():
+        for text in translated.build.problems if self.request.is_whole else ():
             self.desk.say(f"not judged: {text}")
         return translated
 
@@ -342,16 +342,22 @@ def add_configured(build: Build, place: Place, asked: tuple[str, ...]) -> None:
         )
 
 
-def look(translated: Translated, desk: Desk) -> int:
-    """Says what will be judged, as far as that is known without a build."""
+def look(translated: Translated, desk: Desk, why: str) -> int:
+    """Says what will be judged, as far as that is known without a build; `why` is a reason for
+    which it isn't."""
     build = translated.build
-    desk.step("graph", partial(translated.judge.graph, translated.has_first), str)
     recipes = [node for node in build.nodes.values() if node.commands]
     named = [node for node in recipes if node.name not in build.unjudged]
     goals = ", ".join(build.goals[:5]) + (" .." if len(build.goals) > 5 else "")
-    all_of = f"{len(named)} of {counted(len(recipes), 'recipe')}"
-    print(f"{all_of} will be judged, for {goals}, by {build.tool}")
-    for heading, texts in (("Not judged:", build.problems), ("Notes:", build.notes)):
+    if why:
+        print(f"only a build shows what will be judged, for {goals}, by {build.tool}: {why}")
+        problems = []
+    else:
+        desk.step("graph", partial(translated.judge.graph, translated.has_first), str)
+        all_of = f"{len(named)} of {counted(len(recipes), 'recipe')}"
+        print(f"{all_of} will be judged, for {goals}, by {build.tool}")
+        problems = build.problems
+    for heading, texts in (("Not judged:", problems), ("Notes:", build.notes)):
         if texts:
             print("\n".join(["", heading, *(f"    {text}" for text in texts)]))
     return 0
@@ -364,7 +370,7 @@ def recorded(request: Request, translated: Translated, desk: Desk) -> Recording:
 
 
 def word_of_recording(recording: Recording) -> str:
-    """How many of all recipes were recorded, where some were known already."""
+    """How many of all recipes were recorded by now, where all have a record."""
     return recording.count
 
 
@@ -379,31 +385,29 @@ def record_build(request: Request, translated: Translated, desk: Desk) -> Record
     desk.take_state()
     if is_other_choice(desk.recording, request.fixed, trusted):
         os.unlink(path_of_state(desk.recording))
-    text = judge.record(
+    came, text = judge.record(
         [sys.executable, str(recorder()), *words], translated.has_first, desk.recording
     )
     shutil.copyfile(desk.recording, desk.path(BOOK))
     if os.path.exists(path_of_notes(desk.recording)):
         shutil.copyfile(path_of_notes(desk.recording), path_of_notes(desk.path(BOOK)))
     desk.log += [line for line in text.splitlines() if line.startswith("mkcheck-record: ")]
-    lines = lines_of(text, own)
     state = state_of(desk.recording)
     folders = {name.rstrip("/") for name in build.made if name.endswith("/")}
     if folders and state is None:
         raise Fault("what recipes looked at isn't known: import again")
     found = Recorded(
-        judge.unrecorded(lines.failures),
-        lines.warnings,
+        judge.unrecorded(came.unrecorded),
         judge.notes(OF_TRANSLATION, frozenset(own)),
         judge.looks(state, folders) if state is not None else {},
     )
     save(judge, desk, found)
     return Recording(
         found,
-        lines.count,
+        "" if came.unrecorded else f"{came.recipes - came.known} of {came.recipes} recipes",
         state,
         len(judge.read_book().records),
-        digest_of_value([desk.text(BOOK), found.warnings, found.unrecorded, str(found.noted)]),
+        digest_of_value([desk.text(BOOK), found.unrecorded, str(found.noted)]),
     )
 
 

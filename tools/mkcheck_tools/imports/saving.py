@@ -32,7 +32,6 @@ def text_of_build(build: Build, recorded: Recorded | None = None) -> str:
     if recorded is not None:
         said = {
             "unrecorded": dict(recorded.unrecorded),
-            "warnings": list(recorded.warnings),
             "looked": dict(recorded.looked),
         }
     return json.dumps({"format": FORMAT, "build": build, "recorded": said}, default=plain_value)
@@ -66,7 +65,7 @@ def recorded_of_text(text: str, noted: Noted) -> Recorded:
     values = json.loads(text)["recorded"]
     if not values:
         return Recorded(noted=noted)
-    return Recorded(values["unrecorded"], values["warnings"], noted, values["looked"])
+    return Recorded(values["unrecorded"], noted, values["looked"])
 
 
 def node_of(values: dict[str, Any]) -> Node:

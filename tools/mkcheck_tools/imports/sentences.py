@@ -6,6 +6,7 @@ import os
 from dataclasses import dataclass, field
 
 from mkcheck_tools.book.footprint_files import Footprints
+from mkcheck_tools.gnu.rule_lines import pattern_rule
 from mkcheck_tools.imports.builds import Build, Kind, Node
 from mkcheck_tools.imports.judging import UNAWARE, BuildFinding
 
@@ -53,6 +54,15 @@ GENERATED = {
     "Meson": "Meson writes it, so say it in meson.build, by depends, depend_files or link_depends",
     CONFIGURING: "config.status writes it, so say it in Makefile.am or Makefile.in",
 }
+
+
+def lines_in(path: str) -> list[str]:
+    """The lines of a makefile; none where it can't be read."""
+    try:
+        with open(path, encoding="utf-8", errors="surrogateescape", newline="\n") as file:
+            return file.read().split("\n")
+    except OSError:
+        return []
 
 
 @dataclass
@@ -243,8 +253,22 @@ class Sentences:
                     text += f" made again when files change that their recipes read{example}"
                 else:
                     text += f" made again when {listed(list(same))} changes"
-                found.append(text + self.cause({recipe: stale[recipe] for recipe in group}))
+                cause = self.cause({recipe: stale[recipe] for recipe in group})
+                found.append(text + (cause or self.rule(group)))
         return found
+
+    def rule(self, recipes: list[str]) -> str:
+        """The pattern rule of targets, where a name of theirs stands in no makefile: its folder is
+        one that the build makes."""
+        node = self.build.nodes.get(recipes[0])
+        folders = {os.path.dirname(self.called(recipe)) for recipe in recipes}
+        made = [one for one in folders if not os.path.isdir(os.path.join(self.build.root, one))]
+        if node is None or node.origin is None or not made:
+            return ""
+        lines = lines_in(os.path.join(self.build.root, node.origin.makefile))
+        rule = pattern_rule(lines, node.origin.line)
+        whose = "its" if len(recipes) == 1 else "their"
+        return f" ({whose} rule is `{rule}`)" if rule else ""
 
     def cause(self, stale: dict[str, list[str]]) -> str:
         """What is seen of the cause of stale reads: a dependency file that nothing includes."""

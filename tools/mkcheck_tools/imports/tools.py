@@ -63,6 +63,9 @@ class Tool(Protocol[Shown, Built]):
     def hidden(self, shown: Shown) -> frozenset[str]:
         """The files of the project that count for nothing."""
 
+    def unsure(self, shown: Shown) -> str:
+        """Why only a build shows what the tool would do; empty where the tool has shown it."""
+
     def how_far(self, shown: Shown) -> str:
         """A text with counts of what the build has done so far."""
 
@@ -111,6 +114,10 @@ class MakeTool:
     def hidden(self, shown: MakeShown) -> frozenset[str]:
         """The files of the project that an earlier build left, and that count for nothing."""
         return shown.leftovers.hidden
+
+    def unsure(self, shown: MakeShown) -> str:
+        """That `make -n` fails, as where a make reads what one before it makes."""
+        return to_build(shown.makes, [])
 
     def how_far(self, shown: MakeShown) -> str:
         """How many commands the present make has begun, of those that `make -n` showed."""
@@ -222,6 +229,10 @@ class NinjaTool:
     def hidden(self, shown: NinjaShown) -> frozenset[str]:
         """None."""
         return frozenset()
+
+    def unsure(self, shown: NinjaShown) -> str:
+        """Nothing: `build.ninja` says all."""
+        return ""
 
     def how_far(self, shown: NinjaShown) -> str:
         """The last lines of ninja, which count its commands."""

@@ -104,6 +104,11 @@ class Note:
         """Whether a yes may be wrong for what it says."""
         return self.kind.weight == DOUBT
 
+    @property
+    def told(self) -> str:
+        """The line by which it is told: a warning, unless it was asked for."""
+        return self.text if self.kind in ASKED_FOR else f"warning: {self.text}"
+
 
 Warn = Callable[[Note], None]
 # What is known by these was asked for, and is no warning.
@@ -122,11 +127,11 @@ class Notes:
     found: dict[str, Note] = field(default_factory=dict)
 
     def add(self, note: Note) -> None:
-        """Takes a note, and tells it as a warning, unless it was asked for."""
+        """Takes a note, and tells it."""
         if note.text not in self.found:
             self.found[note.text] = note
             if note.kind not in QUIET:
-                self.say(note.text if note.kind in ASKED_FOR else f"warning: {note.text}")
+                self.say(note.told)
 
     def without(self, targets: Container[str]) -> list[Note]:
         """The notes, without those on the recipes of some targets."""

@@ -7,7 +7,7 @@ from collections.abc import Iterable
 from typing import Protocol
 
 from mkcheck_tools.answers.graphs import Recipe
-from mkcheck_tools.faults import Fault, RecipeFault
+from mkcheck_tools.faults import Fault, MakeFault, RecipeFault
 from mkcheck_tools.run.places import Place
 from mkcheck_tools.trace.accesses import Accesses
 
@@ -50,7 +50,7 @@ def refuse_unseen(recipe: Recipe, accesses: Accesses, left: tuple[str, ...], sho
         )
     for name, folder in accesses.makes:
         if target not in shop.opaque:
-            raise RecipeFault(started_make(target, name, shop.place.real(folder), shop.place))
+            raise started_make(target, name, shop.place.real(folder), shop.place)
 
 
 def refuse_unmade(recipe: Recipe, shop: Shop) -> None:
@@ -78,16 +78,17 @@ def size_of(path: str) -> int | None:
         return None
 
 
-def started_make(target: str, name: str, folder: str, place: Place) -> str:
-    """What is said of a recipe that starts a make."""
+def started_make(target: str, name: str, folder: str, place: Place) -> MakeFault:
+    """The refusal of a recipe that starts a make."""
     inner = os.path.relpath(folder, place.folder)
     if inner == ".":
         way = "name its goals on the command line of mkcheck-record"
-        front = f"the recipe of {target} starts {name} in the folder itself"
+        where = "the folder itself"
     else:
         way = f"record that folder by itself (mkcheck-record -C {inner})"
-        front = f"the recipe of {target} starts {name} in {inner}"
-    return f"{front}: {MAKE_BUILDS}; {way}, or give --opaque {target} to take it as one recipe"
+        where = inner
+    fact = f"the recipe of {target} starts {name} in {where}: {MAKE_BUILDS}"
+    return MakeFault(fact, f"{way}, or give --opaque {target} to take it as one recipe", inner)
 
 
 def check_opaque(opaque: Iterable[str], recipes: Iterable[Recipe]) -> None:

@@ -7,11 +7,13 @@ import shutil
 import sys
 from collections.abc import Iterable, Mapping, Sequence
 
+from mkcheck_tools.book.answer_files import RecordingAnswer, text_of_answer
 from mkcheck_tools.book.note_files import read_notes
 from mkcheck_tools.book.premises import Premises, variables_now
 from mkcheck_tools.faults import Fault, RecipeFault
 from mkcheck_tools.judge.notes import Note, Notes
 from mkcheck_tools.record.request import Request
+from mkcheck_tools.run.ending import write_text
 
 # Where this package lies.
 PACKAGE = os.path.dirname(os.path.dirname(os.path.realpath(__file__)))
@@ -22,6 +24,12 @@ PROGRAM = "program "
 def tell(text: str) -> None:
     """Tells something on standard error."""
     print(f"mkcheck-record: {text}", file=sys.stderr)
+
+
+def write_answer(path: str | None, answer: RecordingAnswer) -> None:
+    """Writes what a recording came to, where that is asked for."""
+    if path is not None:
+        write_text(text_of_answer(answer), path)
 
 
 def tell_of_update(recipes: int, kept: int) -> None:
@@ -55,7 +63,9 @@ def unchanged(request: Request, before: Premises) -> int | None:
     for note in noted.notes:
         notes.add(note)
     tell_of_update(before.recipes, before.recipes)
-    return status_of(request, noted.notes)
+    status = status_of(request, noted.notes)
+    write_answer(request.answer, RecordingAnswer(status, True, before.recipes, before.recipes))
+    return status
 
 
 def is_same(request: Request, before: Premises) -> bool:

@@ -10,6 +10,7 @@ from contextlib import AbstractContextManager, nullcontext
 from dataclasses import dataclass, replace
 
 from mkcheck_tools.book import formats
+from mkcheck_tools.book.answer_files import RecordingAnswer
 from mkcheck_tools.book.books import make_book
 from mkcheck_tools.book.footprint_files import Footprints
 from mkcheck_tools.book.note_files import text_of_notes
@@ -26,7 +27,7 @@ from mkcheck_tools.judge.leftovers import warn_of_left_over
 from mkcheck_tools.judge.modules import warn_of_modules
 from mkcheck_tools.judge.notes import Kind, Note, Notes, Warn, ignore
 from mkcheck_tools.replay.verdicts import ReplayVerdict, judge
-from mkcheck_tools.record.answering import status_of, tell, tell_of_update
+from mkcheck_tools.record.answering import status_of, tell, tell_of_update, write_answer
 from mkcheck_tools.record.building import Build, build_of, makefile_of, removes_on_error
 from mkcheck_tools.record.presuming import Beginning, keep_premises
 from mkcheck_tools.record.recording import Recorded, Workshop, record
@@ -179,9 +180,7 @@ def early_replays_of(shop: Workshop, build: Build) -> AbstractContextManager[Ear
 
     def replay_early(world: World, writers: Mapping[Name, list[str]], early: Early) -> Replay:
         replays = replay_of(shop, build, world, {}, writers)
-        return replace(
-            replays, targets=early.targets, memory=early.memory, _stopped=early.stopped
-        )
+        return replace(replays, targets=early.targets, memory=early.memory, _stopped=early.stopped)
 
     targets = frozenset(map(Name, shop.absent))
     return early_replays(replay_early, targets, real_in(shop.scratch, "replays"))
@@ -278,7 +277,7 @@ def replay(
     if early is None:
         return replays.run(world.trials)
     early.slots.release()
-    replays = replace(replays, memory=early.memory, _stopped=early.stopped)
+    replays = replace(replays, memory=early.memory, slots=early.slots, _stopped=early.stopped)
     return replays.run(world.trials, early.started, early.pool)
 
 
@@ -393,13 +392,16 @@ def write(
         else:
             pass_over_signals()
             updating.forget()
-    if whole and request.update and updating is not None:
-        count = len(recorded.footprints)
-        tell_of_update(count, len(updating.reused) + len(updating.resumed))
+    known = len(updating.reused) + len(updating.resumed) if updating is not None else 0
+    recipes = len(recorded.footprints) + len(recorded.failures)
+    if whole and request.update:
+        tell_of_update(recipes, known)
     if not whole:
-        tell_failures(request, result, len(recorded.footprints) + len(recorded.failures), kept)
-        return RecipeFault.status, False
-    return status_of(request, found), kept
+        tell_failures(request, result, recipes, kept)
+    status = status_of(request, found) if whole else RecipeFault.status
+    is_written, failures = result.text is not None, tuple(result.failures)
+    write_answer(request.answer, RecordingAnswer(status, is_written, recipes, known, failures))
+    return status, kept and whole
 
 
 def tell_failures(request: Request, result: Result, recipes: int, kept: bool) -> None:

@@ -11,12 +11,13 @@ from functools import partial
 from pathlib import Path
 
 from mkcheck_tools import VERSION
-from mkcheck_tools.book.choices import Choice
 from mkcheck_tools.book import premises
+from mkcheck_tools.book.answer_files import RecordingAnswer
+from mkcheck_tools.book.choices import Choice
 from mkcheck_tools.book.paths import path_of_state
 from mkcheck_tools.book.premises import Premises
-from mkcheck_tools.faults import Fault
-from mkcheck_tools.record.answering import tell, unchanged
+from mkcheck_tools.faults import Fault, sentence_of
+from mkcheck_tools.record.answering import tell, unchanged, write_answer
 from mkcheck_tools.record.request import Request
 from mkcheck_tools.run.ending import ended
 from mkcheck_tools.run.folders import prefix_of, scratch_folder
@@ -67,6 +68,9 @@ def words_of(arguments: list[str]) -> argparse.Namespace:
         "-k", action="store_true", help="go on where a recipe fails, which is always done"
     )
     parser.add_argument("--strict", action="store_true", help="take a doubt for an error")
+    parser.add_argument(
+        "--answer", metavar="FILE", help="write what the recording came to as JSON, for a program"
+    )
     parser.add_argument(
         "--no-replay", action="store_true", help="don't run each recipe again to test its footprint"
     )
@@ -127,6 +131,7 @@ def request_of(asked: argparse.Namespace, before: Premises | None) -> Request:
         asked.again,
         asked.make,
         asked.strict,
+        asked.answer,
     )
 
 
@@ -187,10 +192,22 @@ def record(asked: argparse.Namespace) -> int:
         places.end_all()
 
 
+def answered(asked: argparse.Namespace) -> int:
+    """Records, and gives the status. Where an answer is asked for, it tells of a fault too."""
+    try:
+        return record(asked)
+    except Exception as error:
+        if asked.answer is not None:
+            status = error.status if isinstance(error, Fault) else Fault.status
+            said = sentence_of(error, "recorder")
+            write_answer(asked.answer, RecordingAnswer(status, False, fault=said))
+        raise
+
+
 def main(arguments: list[str]) -> int:
     """Records, and gives the status."""
     asked = words_of(arguments)
-    return ended("mkcheck-record", "recorder", partial(record, asked))
+    return ended("mkcheck-record", "recorder", partial(answered, asked))
 
 
 def run() -> None:

@@ -15,7 +15,7 @@ from dataclasses import dataclass, field, replace
 
 from mkcheck_tools.answers.graphs import Ancestors, Command, Recipe
 from mkcheck_tools.book.updating import Updating
-from mkcheck_tools.faults import FULL, Failure, Fault, RecipeFault, failure_of
+from mkcheck_tools.faults import FULL, Failure, Fault, MakeFault, RecipeFault, failure_of
 from mkcheck_tools.judge.footprints import (
     HERE,
     Footprint,
@@ -394,6 +394,8 @@ def showing(output: str) -> Iterator[None]:
     """Shows what a recipe put out behind the refusal of it."""
     try:
         yield
+    except MakeFault:
+        raise
     except RecipeFault as fault:
         lines = [f"\t{line}" for line in output.rstrip("\n").split("\n")[-LINES_SHOWN:] if line]
         raise RecipeFault("\n".join([str(fault), *lines, *said_of_leaks(output)])) from None

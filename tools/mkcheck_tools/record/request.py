@@ -30,6 +30,8 @@ class Request:
     again: bool = False
     make: bool = False
     strict: bool = False
+    answer: str | None = None
+    """Where what it came to is written for another program."""
 
     @property
     def book(self) -> str | None:
@@ -53,4 +55,5 @@ class Request:
         inside = os.listdir(store) if os.path.isdir(store) else []
         paths = [path_of_state(self.book), path_of_notes(self.book), path_of_stamps(self.book)]
         paths += [store, *(os.path.join(store, name) for name in inside)]
+        paths += [os.path.realpath(self.answer)] if self.answer else []
         return frozenset(paths)

@@ -23,7 +23,8 @@ from concurrent import futures
 from concurrent.futures import Future, ThreadPoolExecutor
 from dataclasses import dataclass, field
 
-from mkcheck_tools.replay.replays import Replay, Started, processors
+from mkcheck_tools.replay.replays import WAITING, Replay, Started, processors
+from mkcheck_tools.replay.runs import wait_for_clock
 from mkcheck_tools.replay.worlds import Trial, World
 from mkcheck_tools.run import places
 from mkcheck_tools.run.memory import Memory, memory
@@ -90,7 +91,9 @@ class Early:
         self.started[number] = self.pool.submit(self.replayed, world, trial, number)
 
     def replayed(self, world: World, trial: Trial, number: int) -> Started:
-        """A replay, which waits for a free processor, and takes the world as it is then."""
+        """A replay, which waits for the clock and a free processor, and takes the world as it is
+        then."""
+        wait_for_clock(trial)
         with self.slots:
             with self.changing:
                 now = world.as_now()
@@ -121,7 +124,7 @@ def early_replays(
     """What starts replays early; one processor is left for the recording."""
     os.makedirs(scratch, exist_ok=True)
     jobs = processors()
-    with memory(unbound(scratch)) as found, ThreadPoolExecutor(jobs) as pool:
+    with memory(unbound(scratch)) as found, ThreadPoolExecutor(WAITING * jobs) as pool:
         early = Early(replay, targets, pool, found, threading.Semaphore(jobs - 1))
         try:
             yield early

@@ -22,7 +22,7 @@ import contextlib
 import functools
 import os
 import threading
-from collections.abc import Iterator, Mapping
+from collections.abc import Iterable, Iterator, Mapping
 from concurrent import futures
 from concurrent.futures import Future, ThreadPoolExecutor
 from dataclasses import dataclass, field, replace
@@ -31,13 +31,22 @@ from mkcheck_tools.answers.graphs import Ancestors
 from mkcheck_tools.faults import FULL, Fault, mistake_of
 from mkcheck_tools.judge.late import Late, Met, folders_of
 from mkcheck_tools.replay import orders
-from mkcheck_tools.replay.alike import groups_of, way_of
-from mkcheck_tools.replay.differences import is_file
+from mkcheck_tools.replay.alike import way_of
 from mkcheck_tools.replay.glances import Glances
+from mkcheck_tools.replay.halves import Halves
 from mkcheck_tools.replay.layouts import Layout
 from mkcheck_tools.replay.listings import Age, age_of, is_listed
 from mkcheck_tools.replay.meetings import Meetings, Turns
-from mkcheck_tools.replay.runs import BARE, HANDED, ORDERED, VARIED, Followed, Outcome, Runner
+from mkcheck_tools.replay.runs import (
+    BARE,
+    HANDED,
+    ORDERED,
+    VARIED,
+    Followed,
+    Outcome,
+    Runner,
+    wait_for_clock,
+)
 from mkcheck_tools.replay.stamps import with_later_stamps
 from mkcheck_tools.replay.surroundings import (
     AS_RECORDED,
@@ -64,6 +73,8 @@ from mkcheck_tools.trace.trees import Tree
 LIKELY = (FLAGS, CLOCK, FOLDERS)
 # How long a replay goes on before that is told.
 SECONDS_SHOWN = 1.0
+# How many replays there are for each processor. Most wait for the clock, which takes none.
+WAITING = 4
 
 
 @dataclass(frozen=True)
@@ -108,6 +119,8 @@ class Replay:
     targets: frozenset[Name] = frozenset()
     """Files that recipes will have written in the end, where they are still recorded."""
     _stopped: threading.Event = field(default_factory=threading.Event)
+    slots: threading.Semaphore = field(default_factory=lambda: threading.Semaphore(processors()))
+    """One for each processor, held by the replays that run."""
 
     @functools.cached_property
     def layout(self) -> Layout:
@@ -124,6 +137,11 @@ class Replay:
         """What keeps recipes from meeting."""
         return Turns(self.meetings)
 
+    @functools.cached_property
+    def halves(self) -> Halves:
+        """What tries recipes where a write to their target fails."""
+        return Halves(self.runner, self.turns, self.slots, self.place_of, self.failing)
+
     def run(
         self,
         trials: list[Trial],
@@ -136,7 +154,7 @@ class Replay:
         os.makedirs(self.scratch, exist_ok=True)
         jobs = processors()
         if places.namespace() is None:
-            jobs = 1
+            jobs, self.slots = 1, threading.Semaphore(1)
             aside = real_in(self.scratch, "built")
             os.rename(self.world.place, aside)
             self.world.place = aside
@@ -145,16 +163,17 @@ class Replay:
         with contextlib.ExitStack() as stack:
             if workers is None:
                 self.memory = stack.enter_context(memory(unbound(self.scratch)))
-            pool = workers or stack.enter_context(ThreadPoolExecutor(jobs))
+            pool = workers or stack.enter_context(ThreadPoolExecutor(WAITING * jobs))
             try:
+                ahead = self.halves.ahead(pool, trials) if jobs > 1 else {}
                 for number, trial in enumerate(trials):
                     waiting.append(self.begun(pool, trial, number, (started or {}).get(number)))
-                self.watch(waiting, trials, progress)
+                self.watch(waiting, started or {}, trials, progress)
                 outcomes = [future.result() for future in waiting]
                 outcomes = self.with_folders(pool, outcomes)
                 beside = jobs > 1 and (len(trials) > 1 or bool(started))
-                outcomes = self.alone(outcomes) if beside else outcomes
-                outcomes = self.with_halves(pool, outcomes)
+                outcomes = self.alone(outcomes, ahead.values()) if beside else outcomes
+                outcomes = self.halves.of(pool, outcomes, ahead)
             except BaseException as end:
                 ended = [one for one in waiting if one.done() and one.exception() is None]
                 self._stopped.set()
@@ -174,9 +193,7 @@ class Replay:
         started: Future[Started] | None,
     ) -> Future[Outcome]:
         """A replay that begins now, or what comes of one that began early."""
-        if started is None:
-            return pool.submit(self.replay_safely, trial, number, frozenset())
-        if started.done() and trial.recipe.target not in self.late:
+        if started is not None and started.done() and trial.recipe.target not in self.late:
             outcome = self.shown_early(started, trial)
             if outcome is not None:
                 known: Future[Outcome] = Future()
@@ -184,14 +201,28 @@ class Replay:
                 return known
         return pool.submit(self.settled, started, trial, number)
 
-    def settled(self, started: Future[Started], trial: Trial, number: int) -> Outcome:
-        """The outcome of a replay that began early, or of one that begins once more, where that
-        one doesn't count. Late files are known only now."""
-        outcome = self.shown_early(started, trial)
+    @contextlib.contextmanager
+    def processor(self, trial: Trial) -> Iterator[None]:
+        """A processor for a replay, as soon as one is free and the clock shows another second than
+        when the recipe ended."""
+        wait_for_clock(trial)
+        with self.slots:
+            yield
+
+    def settled(self, started: Future[Started] | None, trial: Trial, number: int) -> Outcome:
+        """The outcome of a replay that began early, or of one that begins now, where there is none
+        or that one doesn't count. Late files are known only now."""
+        outcome = self.shown_early(started, trial) if started is not None else None
         late = self.late.get(trial.recipe.target, ())
         if outcome is not None and late:
-            outcome = self.with_late(outcome, number, late)
-        return outcome or self.replay_safely(trial, number, frozenset())
+            with self.processor(trial):
+                outcome = self.with_late(outcome, number, late)
+        return outcome or self.in_turn(trial, number, frozenset())
+
+    def in_turn(self, trial: Trial, number: int, folders: frozenset[Name]) -> Outcome:
+        """A replay that begins as soon as a processor is free."""
+        with self.processor(trial):
+            return self.replay_safely(trial, number, folders)
 
     def shown_early(self, started: Future[Started], trial: Trial) -> Outcome | None:
         """The outcome of a replay that began early; None where an error ended it, or it took from
@@ -218,22 +249,35 @@ class Replay:
             remove(place.folder)
 
     def watch(
-        self, waiting: list[Future[Outcome]], trials: list[Trial], progress: Progress
+        self,
+        waiting: list[Future[Outcome]],
+        started: Mapping[int, Future[Started]],
+        trials: list[Trial],
+        progress: Progress,
     ) -> None:
         """Waits for replays, and tells those that have ended, or after a while which go on. One
-        that raises an error ends this."""
-        left = dict(zip(waiting, (trial.recipe.target for trial in trials)))
+        that began early has ended when that run has. One that raises an error ends this."""
+        left = dict(enumerate(waiting))
+        untold = dict(enumerate(trial.recipe.target for trial in trials))
         while left:
-            done, _ = futures.wait(left, SECONDS_SHOWN, futures.FIRST_COMPLETED)
-            for future in [one for one in left if one in done]:
-                progress.ended(left.pop(future))
-                future.result()
-            if not done:
-                progress.goes_on(next(iter(left.values())))
+            done, _ = futures.wait(left.values(), SECONDS_SHOWN, futures.FIRST_COMPLETED)
+            for number in [number for number, future in left.items() if future in done]:
+                left.pop(number).result()
+            ended = [
+                number
+                for number in untold
+                if number not in left or (number in started and started[number].done())
+            ]
+            for number in ended:
+                progress.ended(untold.pop(number))
+            if untold and not ended:
+                progress.goes_on(next(iter(untold.values())))
 
     def replay_safely(self, trial: Trial, number: int, folders: frozenset[Name]) -> Outcome:
         """The same, where an error that nobody thought of costs this recipe alone."""
         try:
+            # Where the program ends, no more folders are laid.
+            places.pause(0)
             with self.turns.turn(trial.recipe.target):
                 return self.replay(trial, number, folders)
         except Exception as error:
@@ -241,12 +285,16 @@ class Replay:
                 raise
             return Outcome(trial, BARE, broken=mistake_of(error, "recorder"))
 
-    def alone(self, outcomes: list[Outcome]) -> list[Outcome]:
+    def alone(self, outcomes: list[Outcome], others: Iterable[Future[bool]]) -> list[Outcome]:
         """The outcomes, where each that shows something is of a replay with no other beside it:
-        two may meet elsewhere by what no trace shows, or need all processors.
+        two may meet elsewhere by what no trace shows, or need all processors. So it waits for the
+        `others` first.
 
         One that differs without its outputs is first run as it differed at last.
         """
+        left = set() if all(outcome.passed for outcome in outcomes) else set(others)
+        while left:
+            left = futures.wait(left, SECONDS_SHOWN).not_done
         found: list[Outcome] = []
         for number, outcome in enumerate(outcomes):
             if not outcome.passed and not self.differs_alone(outcome, number):
@@ -265,46 +313,6 @@ class Replay:
             return self.tried(tried, place, outcome.given).run == BARE
         finally:
             remove(place.folder)
-
-    def with_halves(self, pool: ThreadPoolExecutor, outcomes: list[Outcome]) -> list[Outcome]:
-        """The outcomes, with what recipes leave where a write fails. Of those that are alike two
-        are tried, and the others where one of these leaves its target half-written."""
-        waiting = [
-            (number, outcome.trial, self.size_of_target(outcome.trial))
-            for number, outcome in enumerate(outcomes)
-            if outcome.half is None
-        ]
-        groups = groups_of(waiting)
-        found = dict(enumerate(outcomes))
-        for numbers in ([group[:2] for group in groups], [group[2:] for group in groups]):
-            tried = {
-                number: pool.submit(self.with_half, found[number], number)
-                for group, wanted in zip(groups, numbers)
-                for number in wanted
-                if wanted == group[:2] or any(found[one].half is not False for one in group[:2])
-            }
-            found.update((number, one.result()) for number, one in tried.items())
-        return [replace(outcome, half=bool(outcome.half)) for outcome in found.values()]
-
-    def with_half(self, outcome: Outcome, number: int) -> Outcome:
-        """The outcome of a recipe that passed, with whether it leaves its target half-written if a
-        write fails. An error that nobody thought of costs this recipe alone."""
-        trial = outcome.trial
-        try:
-            with self.turns.turn(trial.recipe.target):
-                tried = with_later_stamps(self.world, trial)
-                half = self.leaves_half(tried, self.place_of(number), outcome.given)
-                return replace(outcome, half=half)
-        except Exception as error:
-            if isinstance(error, OSError) and error.errno in FULL:
-                raise
-            return replace(outcome, run=BARE, broken=mistake_of(error, "recorder"))
-
-    def size_of_target(self, trial: Trial) -> int:
-        """How many bytes a recipe left in its target, a file."""
-        target = Name(trial.recipe.target)
-        version = trial.after.get(target)
-        return self.world.size(target, version) if version is not None else 0
 
     def place_of(self, number: int) -> Place:
         """The folder for a replay, and where the recipe sees it."""
@@ -334,9 +342,7 @@ class Replay:
                     *self.layout.taken_away(outcome.trial),
                 }
             tried.append(
-                pool.submit(self.replay_safely, outcome.trial, number, others)
-                if others
-                else outcome
+                pool.submit(self.in_turn, outcome.trial, number, others) if others else outcome
             )
         return [one.result() if isinstance(one, Future) else one for one in tried]
 
@@ -352,17 +358,6 @@ class Replay:
         if outcome is None:
             outcome = self.replay_at(trial, self.place_of(number), folders)
         return replace(outcome, given=folders)
-
-    def leaves_half(self, trial: Trial, place: Place, folders: frozenset[Name]) -> bool:
-        """Whether a recipe that makes its target anew leaves it half-written if a write fails."""
-        target = Name(trial.recipe.target)
-        if not self.failing or target in trial.before or not is_file(trial.after.get(target)):
-            return False
-        try:
-            self.layout.furnish(trial, place.folder, folders)
-            return self.runner.leaves_half(trial, place)
-        finally:
-            remove(place.folder)
 
     def size_of(self, trial: Trial) -> int:
         """How many bytes a recipe reads and writes in files of the project."""
@@ -411,7 +406,7 @@ class Replay:
                         return outcome
                     if not seen and way_of(trial) is not None:
                         return replace(outcome, half=None)
-                    return replace(outcome, half=self.leaves_half(tried, place, folders))
+                    return replace(outcome, half=self.halves.leaves_half(tried, place, folders))
                 failed.append(outcome)
             absent = trial.known - {*self.layout.folders_of(trial), *folders}
             for outcome, seen in zip(failed, sets):

@@ -116,7 +116,7 @@ class Runner:
     def runs(self, trial: Trial, place: Place, order: str, amid: Surroundings) -> Outcome:
         """The runs of a recipe in a folder, up to the first that shows something. `order` tells
         which stamps its reads get when its outputs are there, and `amid` what else it finds."""
-        self.wait(trial)
+        wait_for_clock(trial)
         outcome = self.one(trial, place, BARE, stamps_of(trial, place.folder))
         if not outcome.passed:
             return outcome
@@ -147,7 +147,7 @@ class Runner:
         """The same by two runs, where `Layout.joins` allows that: the bare one and the damaged one
         are one, which comes first. None where that one shows something: then each has to be run by
         itself."""
-        self.wait(trial)
+        wait_for_clock(trial)
         self.layout.reorder(trial, place.folder, order)
         laid = stamps_of(trial, place.folder)
         outputs = list(trial.writes)
@@ -156,11 +156,6 @@ class Runner:
         outcome = Outcome(trial, folders=folders_in(place))
         found = self.again(trial, place, laid, outputs, amid)
         return outcome if found.passed else found
-
-    def wait(self, trial: Trial) -> None:
-        """Waits until the clock shows another second than when the recipe ended."""
-        while int(time.time()) <= int(trial.ended):
-            places.pause(0.05)
 
     def again(
         self,
@@ -277,6 +272,12 @@ class Runner:
                     [f"status {ended.status}, at {first_line(command.text)}", *shown(output)]
                 )
         return ""
+
+
+def wait_for_clock(trial: Trial) -> None:
+    """Waits until the clock shows another second than when the recipe ended."""
+    while int(time.time()) <= int(trial.ended):
+        places.pause(0.05)
 
 
 def folders_in(place: Place) -> frozenset[Name]:

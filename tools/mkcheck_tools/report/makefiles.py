@@ -3,7 +3,6 @@
 from __future__ import annotations
 
 import os
-import re
 from dataclasses import dataclass
 
 from mkcheck_tools.answers.graphs import goes_on
@@ -13,8 +12,6 @@ BEFORE, BEHIND = 2, 5
 SHOWN_AT_MOST = 14
 BYTES_AT_MOST = 240
 WORDS_AT_MOST = 6
-# What may stand between the lines of a recipe: comments, and conditionals of GNU make.
-BETWEEN = re.compile(r"\s*(?:#|(?:ifeq|ifneq|ifdef|ifndef|else|endif)\b)")
 
 
 @dataclass
@@ -126,21 +123,3 @@ def shown_line(text: str) -> str:
         front = text[:BYTES_AT_MOST]
         return f"{markup(front.rpartition(' ')[0] or front)} …"
     return markup(text)
-
-
-def rule_line(lines: list[str], line: int | None) -> int | None:
-    """The line that begins the rule whose recipe, or whose rule line, a line is."""
-    if line is None or not 1 <= line <= len(lines):
-        return line
-    number = line
-    while number > 1 and is_within(lines, number):
-        number -= 1
-    return line if is_within(lines, number) or ":" not in lines[number - 1] else number
-
-
-def is_within(lines: list[str], number: int) -> bool:
-    """Whether a line doesn't begin a rule: one of a recipe, an empty one, a comment, a line of a
-    conditional, or one that goes on with the line before it."""
-    text = lines[number - 1]
-    goes = number > 1 and goes_on(lines[number - 2])
-    return goes or text.startswith("\t") or not text.strip() or bool(BETWEEN.match(text))

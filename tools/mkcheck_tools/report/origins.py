@@ -11,7 +11,8 @@ from pathlib import Path
 from typing import Any
 
 from mkcheck_tools.answers.findings import Group
-from mkcheck_tools.report.makefiles import Makefiles, rule_line
+from mkcheck_tools.gnu.rule_lines import rule_line
+from mkcheck_tools.report.makefiles import Makefiles
 
 MAP = "map.json"
 

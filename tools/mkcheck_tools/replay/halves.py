@@ -1,0 +1,114 @@
+"""Runs recipes where writes to their target fail, and tells which leave it half-written."""
+
+from __future__ import annotations
+
+import threading
+from collections.abc import Callable, Mapping
+from concurrent.futures import Future, ThreadPoolExecutor
+from dataclasses import dataclass, replace
+
+from mkcheck_tools.faults import FULL, mistake_of
+from mkcheck_tools.replay.alike import groups_of, way_of
+from mkcheck_tools.replay.differences import is_file
+from mkcheck_tools.replay.meetings import Turns
+from mkcheck_tools.replay.runs import BARE, Outcome, Runner
+from mkcheck_tools.replay.stamps import with_later_stamps
+from mkcheck_tools.replay.worlds import Trial
+from mkcheck_tools.run import places
+from mkcheck_tools.run.folders import remove
+from mkcheck_tools.run.paths import Name, RealPath
+from mkcheck_tools.run.places import Place
+
+
+@dataclass(frozen=True)
+class Halves:
+    """What tries them: `place_of` gives the folder for the recipe of this place among all. Where it
+    isn't `wanted`, nothing is run, and no target counts as half-written."""
+
+    runner: Runner
+    turns: Turns
+    slots: threading.Semaphore
+    place_of: Callable[[int], Place]
+    wanted: bool
+
+    def ahead(self, pool: ThreadPoolExecutor, trials: list[Trial]) -> Mapping[int, Future[bool]]:
+        """Whether recipes that are alike leave their targets half-written, of those two of each
+        kind that are tried first. They begin before it is known whether they pass, since they
+        needn't wait for the clock. By the places of the recipes."""
+        sizes = [
+            (number, trial, self.size_of_target(trial))
+            for number, trial in enumerate(trials)
+            if self.wanted and way_of(trial) is not None
+        ]
+        return {
+            number: pool.submit(self.half, trials[number], number, frozenset())
+            for group in groups_of(sizes)
+            for number in group[:2]
+        }
+
+    def of(
+        self,
+        pool: ThreadPoolExecutor,
+        outcomes: list[Outcome],
+        ahead: Mapping[int, Future[bool]],
+    ) -> list[Outcome]:
+        """The outcomes, with what recipes leave where a write fails. Of those that are alike two
+        are tried, and the others where one of these leaves its target half-written. Some of that
+        began `ahead`."""
+        waiting = [
+            (number, outcome.trial, self.size_of_target(outcome.trial))
+            for number, outcome in enumerate(outcomes)
+            if outcome.half is None
+        ]
+        groups = groups_of(waiting)
+        found = dict(enumerate(outcomes))
+        for numbers in ([group[:2] for group in groups], [group[2:] for group in groups]):
+            tried = {
+                number: pool.submit(self.with_half, found[number], number, ahead.get(number))
+                for group, wanted in zip(groups, numbers)
+                for number in wanted
+                if wanted == group[:2] or any(found[one].half is not False for one in group[:2])
+            }
+            found.update((number, one.result()) for number, one in tried.items())
+        return [replace(outcome, half=bool(outcome.half)) for outcome in found.values()]
+
+    def with_half(self, outcome: Outcome, number: int, ahead: Future[bool] | None) -> Outcome:
+        """The outcome of a recipe that passed, with whether it leaves its target half-written if a
+        write fails. An error that nobody thought of costs this recipe alone."""
+        try:
+            if ahead is not None and not outcome.given:
+                return replace(outcome, half=ahead.result())
+            return replace(outcome, half=self.half(outcome.trial, number, outcome.given))
+        except Exception as error:
+            if isinstance(error, OSError) and error.errno in FULL:
+                raise
+            return replace(outcome, run=BARE, broken=mistake_of(error, "recorder"))
+
+    def half(self, trial: Trial, number: int, folders: frozenset[Name]) -> bool:
+        """Whether a recipe leaves its target half-written if a write fails. It runs in a folder of
+        its own, since its replay may go on meanwhile."""
+        place = self.place_of(number)
+        if place.is_bound:
+            place = replace(place, folder=RealPath(f"{place.folder}.half"))
+        with self.slots, self.turns.turn(trial.recipe.target):
+            # Where the program ends, no more folders are laid.
+            places.pause(0)
+            world = self.runner.layout.world
+            return self.leaves_half(with_later_stamps(world, trial), place, folders)
+
+    def leaves_half(self, trial: Trial, place: Place, folders: frozenset[Name]) -> bool:
+        """Whether a recipe that makes its target anew leaves it half-written if a write fails."""
+        target = Name(trial.recipe.target)
+        if not self.wanted or target in trial.before or not is_file(trial.after.get(target)):
+            return False
+        try:
+            self.runner.layout.furnish(trial, place.folder, folders)
+            return self.runner.leaves_half(trial, place)
+        finally:
+            remove(place.folder)
+
+    def size_of_target(self, trial: Trial) -> int:
+        """How many bytes a recipe left in its target, a file."""
+        target = Name(trial.recipe.target)
+        version = trial.after.get(target)
+        return self.runner.layout.world.size(target, version) if version is not None else 0
