@@ -106,7 +106,7 @@ fn lists_all(rt: HostRuntime) -> Result<(), Fail> {
 fn names_words_that_begin_alike(rt: HostRuntime) -> Result<(), Fail> {
     let near = [
         ("nojason", "NoJobFree"),
-        ("STAL", "stale"),
+        ("STAL", "stale, Static"),
         ("reco", "record, Recursive"),
         ("xyz", ""),
         ("st", ""),

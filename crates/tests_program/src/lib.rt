@@ -1,8 +1,6 @@
-//! Tests of mk_command, mkcheck_host and mkcheck_run, by their public calls.
+//! Tests of mkcheck_host and mkcheck_run, by their public calls.
 #![tactic(auto)]
 
-#[cfg(test)]
-mod commands;
 #[cfg(test)]
 mod edges;
 #[cfg(test)]
