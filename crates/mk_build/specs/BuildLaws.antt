@@ -135,7 +135,7 @@ OneBuildIsRight =
 
 -- If footprints are sound, there is no race, and each read of a file that can change has a way,
 -- then every trace is right: after each finished make, with any number of jobs, in any order of
--- steps, after any edits, makes, stops and recipes that broke off, the goals of that make are built.
+-- steps, after any edits, makes, stops and recipes that broke off, its goals are built.
 abbrev pub AcceptedIsRight : Type 0
 AcceptedIsRight =
     (g : Graph) (s : Setting) → IsGraph g → AreSound g s → HaveNoRace g s → HaveWays g s →

@@ -55,7 +55,7 @@ pub record IsBuilt (g : Graph) (s : Setting) (d : Disk) (goals : List ℕ) : Typ
   pub holds : (t : ℕ) (f : FileName) → ReachedFrom g goals t → Has (writes g s t) f → (c : ℕ) ×
       (clean f ≡ Some c) × (content d f ≡ Some c)
 
--- The recipe is fresh: the files that it writes contain the known outcome of what its reads contain.
+-- The recipe is fresh: what it writes contains the known outcome of what its reads contain.
 pub record IsFresh (g : Graph) (s : Setting) (d : Disk) (t : ℕ) : Type 0 where
   pub written : List ℕ
   pub known : outcome d.known t (map (content d) (reads g s t)) ≡ Some written

@@ -19,7 +19,8 @@ pub record LastRun : Type 0 where
 abbrev pub IsMissing : Graph → Setting → Disk → FileName → Type 0
 IsMissing g s d f = (d.files f ≡ None) × ((o : ℕ) × Has (writes g s o) f)
 
--- The recipe is bound to run: it must run, or it must once a missing direct prerequisite is written.
+-- The recipe is bound to run: it must run, or it must once a missing direct prerequisite is
+-- written.
 abbrev pub IsBoundToRun : Graph → Setting → Disk → ℕ → Type 0
 IsBoundToRun g s d t =
     MustRun g d t ⊎ ((p : ℕ) × Has (prerequisites g t) p × IsMissing g s d (name g p))

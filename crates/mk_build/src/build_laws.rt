@@ -52,8 +52,8 @@ pub fn start_is_coherent()
     ensures { StartIsCoherent }
 {}
 
-/// If footprints are sound and there is no race, each trace keeps a disk coherent, after each of its
-/// steps.
+/// If footprints are sound and there is no race, each trace keeps a disk coherent, after each of
+/// its steps.
 pub fn coherence_is_kept()
     ensures { CoherenceIsKept }
 {}

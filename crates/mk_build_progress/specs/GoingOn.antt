@@ -9,8 +9,8 @@ use Rattle.mk_build.specs.Steps.{Step, Edit, Pass, MustRun, make_of, after, afte
 use Rattle.mk_build.specs.SerialMake.{whole_run, one_make}
 use Rattle.mk_build.specs.NodeByNode.{to_put}
 
--- The steps make these nodes in order from this world. Nodes without a recipe are passed, and so are
--- the spared recipes that need not run then; the other recipes run whole.
+-- The steps make these nodes in order from this world. Nodes without a recipe are passed, and so
+-- are the spared recipes that need not run then; the other recipes run whole.
 pub data MakesInTurn (g : Graph) (s : Setting) (spared : ℕ → Bool) : World → List ℕ → List Step →
     Type 0 where
   ends : {w : World} → MakesInTurn g s spared w [] []
@@ -26,8 +26,8 @@ pub data MakesInTurn (g : Graph) (s : Setting) (spared : ℕ → Bool) : World �
       MakesInTurn g s spared (after_all g s w (whole_run g s t (to_put g s (disk_of w) t))) ns steps
       → MakesInTurn g s spared w (t ∷ ns) (whole_run g s t (to_put g s (disk_of w) t) ++ steps)
 
--- After a trace that leaves no make in progress, each editable file may be edited to any content, if
--- there is a stamp left.
+-- After a trace that leaves no make in progress, each editable file may be edited to any content,
+-- if there is a stamp left.
 abbrev pub EditsCanFollow : Type 0
 EditsCanFollow =
     (g : Graph) (s : Setting) (d now : Disk) (steps : List Step) → IsLegal g s (Idle d) steps →
@@ -36,8 +36,8 @@ EditsCanFollow =
     IsLegal g s (Idle d) (steps ++ Edit f c ∷ []) ×
     (after_all g s (Idle d) (steps ++ Edit f c ∷ []) ≡ Idle (written now f c))
 
--- After a trace from a start disk that leaves no make in progress, each part of the goals can be made
--- with one job, whichever recipes are to be spared, if there are enough stamps.
+-- After a trace from a start disk that leaves no make in progress, each part of the goals can be
+-- made with one job, whichever recipes are to be spared, if there are enough stamps.
 abbrev pub MakesCanFollow : Type 0
 MakesCanFollow =
     (g : Graph) (s : Setting) (d now : Disk) (steps : List Step) → HasNoCycle g →

@@ -69,9 +69,9 @@ impl Judge for CheckBuild {
 ///
 /// After a yes every legal history of source edits, makes of any of the goals, stops between
 /// recipes, and recipes that fail or are killed, with any number of jobs and in any order that make
-/// allows, is right: after each finished make, each file that a recipe reached from its goals writes
-/// holds what a clean serial build of these goals gives from the sources as they are then (IEEE Std
-/// 1003.1-2024, XCU make).
+/// allows, is right: after each finished make, each file that a recipe reached from its goals
+/// writes holds what a clean serial build of these goals gives from the sources as they are then
+/// (IEEE Std 1003.1-2024, XCU make).
 ///
 /// Without a footprint file there are no records, and only the makefile's texts are given.
 ///

@@ -55,8 +55,8 @@ fn push_findings(alloc: Global, text: &mut String, found: &[Finding]) -> Result<
     text.push_str("]")
 }
 
-/// Appends the texts of the groups of what the findings hide, given what they claim, and the closing
-/// bracket.
+/// Appends the texts of the groups of what the findings hide, given what they claim, and the
+/// closing bracket.
 fn push_later(
     alloc: Global,
     text: &mut String,

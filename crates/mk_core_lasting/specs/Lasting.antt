@@ -25,8 +25,8 @@ use Rattle.mk_core.specs.Ready.{Ready, ready_for}
 
 -- Take recipes that read by what they find, and any trace from a start disk of edits, makes, stops
 -- and recipes that break off, in which no file that a recipe reads changes before the end of its
--- run. If the footprints are present on the disk that it leaves, then a make of any part of the goals
--- from there builds them, if it ends, and in that make too no such file changes.
+-- run. If the footprints are present on the disk that it leaves, then a make of any part of the
+-- goals from there builds them, if it ends, and in that make too no such file changes.
 abbrev pub IsLasting : Graph → Setting → Type 0
 IsLasting g s =
     (b : Behaviours) (d now : Disk) (past : List Step) → IsStartDisk s d →
@@ -37,8 +37,8 @@ IsLasting g s =
     IsRightBy g s b (after_all_by g s (Idle now) (Make jobs goals ∷ steps)) ×
     AreUndisturbed g s b (Idle now) (Make jobs goals ∷ steps)
 
--- The files and the request give a makefile, goals and footprints, and these give a graph, over which
--- makes at sources for which the footprints are present are right, whatever happened before.
+-- The files and the request give a makefile, goals and footprints, and these give a graph, over
+-- which makes at sources for which the footprints are present are right, whatever happened before.
 pub record IsLastingFor (files : Told) (request : Request) : Type 0 where
   pub ready : Ready
   pub graph : Graph

@@ -1,4 +1,5 @@
-//! Laws about findings. Each function exists for its contract alone: a caller has the law as a fact.
+//! Laws about findings. Each function exists for its contract alone: a caller has the law as a
+//! fact.
 
 ghost use Rattle.mk_find.specs.FindingLaws.{ListIsOne, ListedExactly, NothingFoundIsSound, NothingFoundIsSelected, NoRaceFoundIsNone, NothingFoundIsRight, FindingsAreOne, HiddenAreAll, NoFindings};
 

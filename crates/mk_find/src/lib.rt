@@ -1,5 +1,5 @@
-//! All findings of a build: static ones, races and stale reads; or the certificate of a build without
-//! findings. The laws say what it means that there are none.
+//! All findings of a build: static ones, races and stale reads; or the certificate of a build
+//! without findings. The laws say what it means that there are none.
 #![tactic(auto)]
 
 mod certifying;

@@ -1,5 +1,5 @@
-//! Laws about first paths and the certificates that have them. Each function exists for its contract
-//! alone: a caller has the law as a fact.
+//! Laws about first paths and the certificates that have them. Each function exists for its
+//! contract alone: a caller has the law as a fact.
 
 ghost use Rattle.mk_find.specs.WayLaws.{FirstPathIsOne, FirstPathIsShortest, CertificateIsOne, CertificateIsShortest, EntriesAreShortest};
 

@@ -1,5 +1,5 @@
--- Laws of schedules: the serial order is one, whether a node runs before another one is decided, and
--- more nodes are wanted and can start as more are done.
+-- Laws of schedules: the serial order is one, whether a node runs before another one is decided,
+-- and more nodes are wanted and can start as more are done.
 use Rattle.std.specs.Prelude.{◌≡◌, ℕ, List, reverse, true, ◌⊎◌}
 use Rattle.mk_graph.specs.Membership.{Has, IsWithin}
 use Rattle.mk_graph.specs.Graph.{Graph, node, HasNoCycle, IsGraph}

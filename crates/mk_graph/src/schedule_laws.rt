@@ -1,4 +1,5 @@
-//! Laws of schedules. Each is the contract of an empty function; calling the function gives the law.
+//! Laws of schedules. Each is the contract of an empty function; calling the function gives the
+//! law.
 
 ghost use Rattle.mk_graph.specs.ScheduleLaws.{SerialOrderIsASchedule, AllGoalsSuffice, BeforeIsDecided, WantedGrows, CanStartStays};
 

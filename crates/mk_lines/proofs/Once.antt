@@ -63,7 +63,7 @@ once-fold_append names more = sym (fold-append with_name [] names more) ∙ once
 pub once-push : (names : List (List ℕ)) (name : List ℕ) → once (names ++ name ∷ []) ≡ with_name (once names) name
 once-push names name = sym (once-fold (names ++ name ∷ [])) ∙ (fold-append with_name [] names (name ∷ []) ∙ ap (λ set. with_name set name) (once-fold names))
 
--- No name stands twice.
+-- No name occurs twice.
 pub once-distinct : (names : List (List ℕ)) → IsDistinct (once names)
 once-distinct [] = tt
 once-distinct (name ∷ names) =

@@ -213,8 +213,8 @@ fn claim_of<'a>(subject: &'a Subject<'_>, lookups: &Lookups<'a>, finding: &'a Fi
     }
 }
 
-/// The claims of the findings, in the same order. Takes the time of `words_of`. The only error is out
-/// of memory.
+/// The claims of the findings, in the same order. Takes the time of `words_of`. The only error is
+/// out of memory.
 pub fn claims_of<'a>(
     alloc: Global,
     subject: &'a Subject<'_>,

@@ -1,4 +1,5 @@
-//! Laws about subjects. Each function exists for its contract alone: a caller has the law as a fact.
+//! Laws about subjects. Each function exists for its contract alone: a caller has the law as a
+//! fact.
 
 ghost use Rattle.mk_subject.specs.Carried.{CarriedExactly};
 ghost use Rattle.mk_subject.specs.Laws.{AllWritesExactly, PathsAreWays, SelectedGoals};

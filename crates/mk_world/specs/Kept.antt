@@ -5,8 +5,8 @@ use Rattle.mk_graph.specs.Graph.{node}
 use Rattle.mk_graph_ready.specs.Progress.{Progress}
 use Rattle.mk_world.specs.State.{Scene, MakeState}
 
--- The progress has the make's graph, goals and done nodes, and every node that runs or broke off has
--- a recipe.
+-- The progress has the make's graph, goals and done nodes, and every node that runs or broke off
+-- has a recipe.
 pub record IsKept (scene : Scene) (m : MakeState) (p : Progress) : Type 0 where
   pub graph : p.graph ≡ scene.graph
   pub goals : (n : ℕ) → Has p.goals n ↔ Has m.goals n

@@ -51,7 +51,8 @@ pub fn break_and_remove(
 }
 
 /// Breaks off a running recipe that must run on the disk as it is. `NotRunning` (66) if it isn't
-/// running; then `NotLeftToRun` (78) if it need not run; or out of memory. An error changes nothing.
+/// running; then `NotLeftToRun` (78) if it need not run; or out of memory. An error changes
+/// nothing.
 pub fn break_off(
     scene: &Scene,
     disk: &Disk,

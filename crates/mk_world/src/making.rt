@@ -177,7 +177,8 @@ impl Making {
         Ok(())
     }
 
-    /// Marks a running recipe as broken off. The only error is out of memory, which changes nothing.
+    /// Marks a running recipe as broken off. The only error is out of memory, which changes
+    /// nothing.
     pub fn break_off(&mut self, number: usize) -> Result<(), AllocError>
         requires { number < length self.old.runs }
         ensures ok { OnOk result (self.new ≡ broken_off self.old number) }

@@ -120,7 +120,8 @@ impl<'a> World<'a> {
     ///   `ClockSpent` (59).
     /// - End: `NotRunning` (66); `NotAllDone` (68) if it hasn't read and written all its files;
     ///   `OtherOutcome` (60) if it has read the same before and wrote something else.
-    /// - Break: `NotRunning` (66); `NotLeftToRun` (78) if the recipe would not have to run then: its
+    /// - Break: `NotRunning` (66); `NotLeftToRun` (78) if the recipe would not have to run then:
+    /// its
     ///   target isn't removed and it need not run, or it doesn't write the target that is removed.
     /// - Pass: `NotReady` (63); `OutOfDate` (65) if the node has a recipe that must run.
     /// - Stop: `NotAllDone` (68) if a recipe runs.

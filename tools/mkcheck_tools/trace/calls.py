@@ -151,8 +151,8 @@ RESUMED = re.compile(r"<\.\.\. (\w+) resumed>")
 ENDED = re.compile(r"\+\+\+ (?:exited with \d+|killed by \w+(?: \(core dumped\))?) \+\+\+$")
 SUPERSEDED = re.compile(r"\+\+\+ superseded by execve in pid (\d+) \+\+\+$")
 # Stops by a signal, and a note on programs for another processor.
-# A process that was killed as it began a call leaves ???(), which did nothing. Where another
-# process is told of in between, that stands in two lines, or the first of them alone.
+# A process that was killed as it began a call leaves ???(), a call that did nothing. If a line of
+# another process comes in between, strace splits it into two lines, and may leave out the second.
 NOTE = re.compile(
     r"--- .* ---$|\[ .* \]$|\?\?\?\(\)\s+= \?(?: <unavailable>)?$"
     r"|\?\?\?\( <unfinished \.\.\.>$|<\.\.\. \?\?\? resumed>\)\s+= \?(?: <unavailable>)?$"
