@@ -1,8 +1,8 @@
-"""Holds what `mkcheck explain` prints to docs/REFERENCE.md.
+"""Holds what `mkcheck explain` prints to docs/FINDINGS.md and docs/FAULTS.md.
 
-The overview has the rows of the page's tables. Each explanation has the paragraphs of its section
-there, word for word and in their order, and its example stands in a session of that section. A
-number and each name of a fault give the same explanation.
+The overview has the rows of the tables of these pages. Each explanation has the paragraphs of its
+section there, word for word and in their order, and its example stands in a session of that
+section. A number and each name of a fault give the same explanation.
 """
 
 from __future__ import annotations
@@ -14,7 +14,7 @@ from dataclasses import dataclass
 from pathlib import Path
 
 ROOT = Path(__file__).resolve().parents[2]
-PAGE = ROOT / "docs" / "REFERENCE.md"
+PAGES = (ROOT / "docs" / "FINDINGS.md", ROOT / "docs" / "FAULTS.md")
 NO_COMMAND = "unrecognized subcommand"
 FINDING = re.compile(r"^\| \[`(\w+)`\]\(#[\w-]+\) \| (.*) \|$", re.MULTILINE)
 FAULT = re.compile(r"^\| (\d+) \| `([\w:]+)` \| (.*) \|$", re.MULTILINE)
@@ -42,7 +42,7 @@ def faults(page: str) -> list[tuple[str, str, str]]:
 def topics(page: str) -> Iterator[Topic]:
     """The findings and the faults of the page's tables."""
     for place, (word, sentence) in enumerate(FINDING.findall(page), 1):
-        yield Topic(f"### {place}. `{word}`\n", (word,), f"{word}: {sentence}")
+        yield Topic(f"## {place}. `{word}`\n", (word,), f"{word}: {sentence}")
     rows = faults(page)
     for number in dict.fromkeys(number for number, _, _ in rows):
         names = [(name, sentence) for own, name, sentence in rows if own == number]
@@ -107,21 +107,21 @@ def explain(mkcheck: str, *words: str) -> subprocess.CompletedProcess[str]:
 
 
 def wrong_explanations(mkcheck: str) -> int:
-    """Prints where `mkcheck explain` and docs/REFERENCE.md differ, and tells how many times."""
+    """Prints where `mkcheck explain` and its pages differ, and tells how many times."""
     whole = explain(mkcheck)
     if NO_COMMAND in whole.stderr:
         print("pages: this mkcheck has no command `explain`: its texts weren't compared")
         return 0
-    page, wrong, count = PAGE.read_text(encoding="utf-8"), 0, 0
+    page, wrong, count = "\n".join(page.read_text(encoding="utf-8") for page in PAGES), 0, 0
     if whole.stdout.splitlines() != overview(page):
         wrong += 1
-        print("pages: `mkcheck explain` doesn't print the rows of docs/REFERENCE.md")
+        print("pages: `mkcheck explain` doesn't print the rows of its pages")
     for topic in topics(page):
         found = section(page, topic)
         for word in topic.words:
             count += 1
             for said in faults_of(topic, explain(mkcheck, word).stdout, found):
                 wrong += 1
-                print(f"docs/REFERENCE.md: `mkcheck explain {word}` {said}")
-    print(f"pages: {count} words are explained as in docs/REFERENCE.md, but for {wrong}")
+                print(f"`mkcheck explain {word}` {said}")
+    print(f"pages: {count} words are explained as on their pages, but for {wrong}")
     return wrong

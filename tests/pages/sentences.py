@@ -1,4 +1,4 @@
-"""Holds the table of sentences in docs/REFERENCE.md to what `mkcheck check -w` prints.
+"""Holds the table of sentences in docs/COMMANDS.md to what `mkcheck check -w` prints.
 
 For each row there are small builds with one to three names and files. What the row says, filled in,
 has to be printed, with the lines to add or the advice below it. A row that no build makes is wrong,
@@ -17,7 +17,7 @@ from dataclasses import dataclass
 from pathlib import Path
 
 ROOT = Path(__file__).resolve().parents[2]
-PAGE = ROOT / "docs" / "REFERENCE.md"
+PAGE = ROOT / "docs" / "COMMANDS.md"
 HEAD = "| word | sentence | `add:` | `do:` |\n|---|---|---|---|\n"
 THEN = "once these are mended, as far as can be seen now:"
 MORE = "once these are mended, check again: races and stale reads may show"
@@ -316,11 +316,11 @@ def unmade(rows: list[Row]) -> Iterator[str]:
 
 
 def wrong_sentences(mkcheck: str) -> int:
-    """Prints where `mkcheck check -w` and docs/REFERENCE.md differ, and tells how many times."""
+    """Prints where `mkcheck check -w` and docs/COMMANDS.md differ, and tells how many times."""
     page = PAGE.read_text(encoding="utf-8")
     rows = rows_of(page)
     if not rows:
-        print("docs/REFERENCE.md: no table of sentences")
+        print("docs/COMMANDS.md: no table of sentences")
         return 1
     wrong, count = list(unmade(rows)), 0
     unsaid = [line for line in (THEN, MORE) if f"`{line}`" not in page.replace("\n", " ")]
@@ -334,6 +334,6 @@ def wrong_sentences(mkcheck: str) -> int:
         if f"\n{text}" not in f"\n{placed}" or not placed.endswith(last):
             wrong.append(f"`mkcheck check -w` prints\n{printed}and not\n{text}..\n{last}")
     for said in wrong:
-        print(f"docs/REFERENCE.md: {said}")
-    print(f"pages: {count} groups in sentences as in docs/REFERENCE.md, but for {len(wrong)}")
+        print(f"docs/COMMANDS.md: {said}")
+    print(f"pages: {count} groups in sentences as in docs/COMMANDS.md, but for {len(wrong)}")
     return len(wrong)

@@ -3,8 +3,8 @@
 The makefiles of docs/FROM_GNU_MAKE.md are refused by their numbers or read, and so is our own; the
 sessions of README.md, examples/ and docs/ print what stands there; links lead somewhere; lengths in
 docs/WHY.md are those of the files; `mkcheck explain` and `mkcheck check -w` print what stands in
-docs/REFERENCE.md; docs/TROUBLE.md quotes the tools; wrong edits apply; the tools have the rooms that tools/README.md says; and the
-manual pages can be read.
+the pages of docs/REFERENCE.md; docs/TROUBLE.md quotes the tools; wrong edits apply; the tools have
+the rooms that tools/README.md says; and the manual pages can be read.
 """
 
 from __future__ import annotations

@@ -17,11 +17,11 @@ DATED = "all: a b\na:\n\tdate +%F > a\nb: s\n\tcp s b\n"
 
 
 class TableTest(unittest.TestCase):
-    """The table of the reference."""
+    """The table of docs/FORMATS.md."""
 
     def test_it_has_just_the_kinds_of_the_recorder(self) -> None:
-        text = (ROOT / "docs" / "REFERENCE.md").read_text(encoding="utf-8")
-        text = text[text.index("#### Notes") :]
+        text = (ROOT / "docs" / "FORMATS.md").read_text(encoding="utf-8")
+        text = text[text.index("\n## Notes\n") :]
         rows = re.findall(r"(?m)^\| `([a-z-]+)` \| (doubt|hint) \| (.*) \|$", text)
         self.assertEqual(rows, [(kind.word, kind.weight, kind.about) for kind in Kind])
 

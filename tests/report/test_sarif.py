@@ -62,7 +62,7 @@ class SarifTest(ReportTest):
         self.assertEqual(found["informationUri"], "https://mkcheck.example")
         base, _, page = found["rules"][0]["helpUri"].partition("/docs/")
         self.assertEqual(base, "https://mkcheck.example")
-        self.assertFalse(leads_nowhere(ROOT / "docs" / "REFERENCE.md", page))
+        self.assertFalse(leads_nowhere(ROOT / "docs" / "FINDINGS.md", page))
 
     def test_fixes_mend(self) -> None:
         """The makefile with a fix is right, however the makefile ends."""

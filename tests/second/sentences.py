@@ -11,7 +11,7 @@ from lines import Refused
 from reading import Files, Makefile
 from repair import cut, lines_between, makers, word_of, writes_its_own
 
-PAGE = Path(__file__).resolve().parents[2] / "docs" / "REFERENCE.md"
+PAGE = Path(__file__).resolve().parents[2] / "docs" / "FAULTS.md"
 FAULT = re.compile(rb"^\| (\d+) \| `([\w:]+)` \| (.*) \|$", re.MULTILINE)
 
 RENAME = b"rename the file: a makefile can't hold its name"

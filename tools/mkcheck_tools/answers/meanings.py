@@ -1,6 +1,6 @@
 """What a refusal of mkcheck means, in a sentence that says what to do.
 
-docs/REFERENCE.md has more of each.
+docs/FAULTS.md has more of each.
 """
 
 from __future__ import annotations

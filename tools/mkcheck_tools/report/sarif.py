@@ -24,7 +24,7 @@ from mkcheck_tools.report.makefiles import Makefiles
 SCHEMA = "https://json.schemastore.org/sarif-2.1.0.json"
 NAME = "mkcheck"
 # Where each kind of findings is explained, from the top of the repository.
-FINDINGS = "docs/REFERENCE.md#findings"
+FINDINGS = "docs/FINDINGS.md"
 VERSION_NUMBER = re.compile(rf"{NAME} (\d+\.\d+\.\d+)\b")
 ROOT = "%SRCROOT%"
 RELATED_AT_MOST = 20
