@@ -23,7 +23,7 @@ BLOCK = re.compile(r"^```console(?: (more)| in (\S+))?\n(.*?)^```$", re.MULTILIN
 COMMENT = re.compile(r"<!--.*?-->", re.DOTALL)
 # What a recorder says now and then of how far it is, where a machine is slow.
 PROGRESS = re.compile(r"^\[[^][]*\d+/\d+[^][]*\] .*\n", re.MULTILINE)
-READS = re.compile(r"^(yes \d+ recipes) \d+ reads$", re.MULTILINE)
+READS = re.compile(r"\b(\d+ recipes,?) \d+ reads\b")
 SECONDS = 300
 REFUSED = re.compile(
     r"^(refused \d|error: |(\S+:\d+: )?[\w:]+ \(\d+\): |\{\"answer\":\"refused\")", re.MULTILINE
@@ -39,6 +39,8 @@ STATUS = {UNRECORDED: 2, "no answer": 2, "yes": 0}
 TOOLS = ("mkcheck-record", "mkcheck-report", "mkcheck-import", "mkcheck-audit")
 # What needs strace that may trace, and a compiler.
 RECORDING = ("$ mkcheck-record", "$ mkcheck-import", "$ mkcheck-audit")
+# What some systems lack.
+NEEDED = ("cc", "cmake", "make")
 
 
 @dataclass(frozen=True)
@@ -59,7 +61,7 @@ class Step:
         if not self.command.startswith("mkcheck") or any(byte in self.command for byte in "|;&"):
             return None
         audited = AUDITED.findall(self.shown)
-        if self.command.startswith("mkcheck-audit") and audited:
+        if self.command.startswith(("mkcheck-audit", "mkcheck-import")) and audited:
             return STATUS.get(audited[-1], 1)
         if REFUSED.search(self.shown):
             return 2
@@ -104,7 +106,10 @@ def differs(step: Step, folder: Path, environment: dict[str, str], varies: bool)
 
 
 def lacks(block: str) -> bool:
-    """Whether a block records, and there is no strace that may trace or no compiler."""
+    """Whether a block records, and there is no strace that may trace or no compiler; or whether it
+    starts another program that isn't there."""
+    if any(f"$ {name} " in block and not shutil.which(name) for name in NEEDED):
+        return True
     if not any(word in block for word in RECORDING):
         return False
     strace, compiler = shutil.which("strace"), shutil.which("cc")

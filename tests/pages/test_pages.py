@@ -1,10 +1,10 @@
 """What the pages show is what mkcheck does.
 
 The makefiles of docs/FROM_GNU_MAKE.md are refused by their numbers or read, and so is our own; the
-sessions of README.md, examples/ and docs/ print what stands there; links lead somewhere; lengths in
-docs/WHY.md are those of the files; `mkcheck explain` and `mkcheck check -w` print what stands in
-the pages of docs/REFERENCE.md; docs/TROUBLE.md quotes the tools; wrong edits apply; the tools have
-the rooms that tools/README.md says; and the manual pages can be read.
+sessions of all pages print what stands there, and other commands are marked as not run; links lead
+somewhere; lengths in docs/WHY.md are those of the files; `mkcheck explain` and `mkcheck check -w`
+print what stands in the pages of docs/REFERENCE.md; docs/TROUBLE.md quotes the tools; wrong edits
+apply; the tools have the rooms that tools/README.md says; and the manual pages can be read.
 """
 
 from __future__ import annotations
@@ -19,7 +19,8 @@ import pytest
 from pages.edits import wrong_edits
 from pages.explained import wrong_explanations
 from pages.lengths import wrong_lengths
-from pages.links import broken_links
+from pages.links import broken_links, pages
+from pages.marks import unmarked_commands
 from pages.rooms import wrong_imports, wrong_names
 from pages.sentences import wrong_sentences
 from pages.sessions import try_page
@@ -28,11 +29,7 @@ from pages.troubles import wrong_quotes
 ROOT = Path(__file__).resolve().parents[2]
 MKCHECK = os.path.abspath(os.environ.get("MKCHECK", ROOT / "bin" / "mkcheck"))
 PAGE = ROOT / "docs" / "FROM_GNU_MAKE.md"
-SESSIONS = (
-    ROOT / "README.md",
-    ROOT / "examples" / "README.md",
-    *sorted((ROOT / "docs").glob("*.md")),
-)
+SESSIONS = tuple(page for page in pages() if "```console" in page.read_text(encoding="utf-8"))
 BLOCK = re.compile(r"^```make ?(\d*)\n(.*?)^```$", re.MULTILINE | re.DOTALL)
 
 
@@ -71,6 +68,11 @@ def test_sessions_print_what_the_page_shows(page: Path) -> None:
     assert wrong == 0
     if left_out and not ran:
         pytest.skip("no strace that may trace, or no compiler")
+
+
+def test_other_commands_are_marked_as_not_run() -> None:
+    """What is neither run nor marked is printed."""
+    assert unmarked_commands(set(SESSIONS)) == 0
 
 
 def test_explanations_are_those_of_the_reference() -> None:
