@@ -4,7 +4,7 @@ from __future__ import annotations
 
 import json
 from collections.abc import Iterable, Sequence
-from dataclasses import asdict, dataclass
+from dataclasses import dataclass
 
 from mkcheck_tools.book.footprint_files import Footprints, Record
 from mkcheck_tools.faults import Fault
@@ -46,7 +46,7 @@ def text_of(footprints: Footprints) -> str:
 
 def first(footprints: Footprints) -> str:
     """The text of format 1: readable, with a record on a line."""
-    values = (asdict(record) for record in footprints.records.values())
+    values = (vars(record) for record in footprints.records.values())
     return f'{{"format":1,{presumed(footprints)},"records":[{lines(map(compact, values))}]}}\n'
 
 
@@ -99,7 +99,7 @@ def share(records: Sequence[Record]) -> Shared:
         reads = dict.fromkeys(record.reads)
         own = [name for name in reads if name not in list_of]
         shared = list(dict.fromkeys(list_of[name] for name in reads if name in list_of))
-        found.append({**asdict(record), "reads": own, "shared": shared})
+        found.append({**vars(record), "reads": own, "shared": shared})
     return Shared(found, lists)
 
 

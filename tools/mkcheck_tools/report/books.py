@@ -2,6 +2,7 @@
 
 from __future__ import annotations
 
+from collections.abc import Collection
 from dataclasses import dataclass
 
 from mkcheck_tools.answers.graphs import Graph
@@ -17,6 +18,15 @@ class Reached:
     sources: frozenset[str]
     records: dict[str, Record]
     writers: dict[str, list[str]]
+
+    @property
+    def reads(self) -> int:
+        """How many reads the records have."""
+        return sum(len(record.reads) for record in self.records.values())
+
+    def reads_of(self, files: Collection[str]) -> int:
+        """How many of these are of some files."""
+        return sum(file in files for record in self.records.values() for file in record.reads)
 
     def can_change(self, name: str) -> bool:
         """Whether a file is a source, or a recipe writes it."""

@@ -8,7 +8,6 @@ from concurrent.futures import ThreadPoolExecutor
 from dataclasses import dataclass, field
 from functools import partial
 
-from mkcheck_tools.answers.checkers import Checker
 from mkcheck_tools.answers.findings import Finding, Group
 from mkcheck_tools.answers.plans import phases_of
 from mkcheck_tools.report import timelines
@@ -19,6 +18,7 @@ from mkcheck_tools.report.overview import what_to_do
 from mkcheck_tools.report.pairs import Shared, shared
 from mkcheck_tools.report.parts import Budget, clipped_lines, look_of, place_of
 from mkcheck_tools.report.pictures import Drawing, around, as_list, drawn
+from mkcheck_tools.report.schedules import Plans, plans
 
 # How much is shown in full, so that a page stays small.
 DETAILED_AT_MOST = 60
@@ -160,10 +160,10 @@ def meaning(kind: str, explanation: str) -> str:
     )
 
 
-def plans_at_most(judged: Judged) -> int:
-    """For how many findings a schedule is asked for. Each time mkcheck judges the build anew, which
-    takes as long as it has reads."""
-    reads = sum(len(record.reads) for record in judged.book.records.values())
+def plans_at_most(judged: Judged, asked: Sequence[Finding]) -> int:
+    """For how many of these findings a schedule is asked for. mkcheck goes through the reads of
+    their files for each of them."""
+    reads = judged.book.reads_of({one.file for one in asked[:PLANS_AT_MOST]})
     return max(PLANS_AT_LEAST, min(PLANS_AT_MOST, READS_AT_MOST // (reads + 1)))
 
 
@@ -172,12 +172,15 @@ def prepare(judged: Judged, those: Sequence[Shared]) -> Shown:
     groups = [group for one in those for group in one.groups]
     asked = [one for group in groups if group.kind in PICTURED for one in group.findings[:1]]
     asked += [one for group in groups if group.kind == "race" for one in group.findings[1:]]
-    del asked[plans_at_most(judged) :]
+    del asked[plans_at_most(judged, asked) :]
     kinds = dict.fromkeys([*judged.kinds, *(group.kind for group in judged.hidden)])
-    with ThreadPoolExecutor(min(4, os.cpu_count() or 1)) as pool:
+    with (
+        plans(judged.checker, judged.book, judged.graph.goals, asked) as plan_of,
+        ThreadPoolExecutor(min(4, os.cpu_count() or 1)) as pool,
+    ):
         repair = pool.submit(repair_of, judged.checker)
         explained = {kind: pool.submit(judged.checker.explained, kind) for kind in kinds}
-        figures = pool.map(partial(timeline, judged.checker), asked)
+        figures = pool.map(partial(timeline, plan_of), asked)
         drawn_plans = {one.number: figure for one, figure in zip(asked, figures)}
     shown = Shown(
         {kind: told.result() for kind, told in explained.items()},
@@ -309,9 +312,9 @@ def bare_lines(findings: Sequence[Finding], budget: Budget, is_open: bool = Fals
     )
 
 
-def timeline(checker: Checker, finding: Finding) -> str:
+def timeline(plan_of: Plans, finding: Finding) -> str:
     """The schedule that shows a finding."""
-    phases = phases_of(checker.plan(finding.number), finding.reader, finding.file)
+    phases = phases_of(plan_of(finding), finding.reader, finding.file)
     if not phases:
         return ""
     draw = timelines.race if finding.kind == "race" else timelines.stale
