@@ -54,8 +54,11 @@ class OriginsTest(ReportTest):
         self.write("T/map.json", json.dumps({"tool": "GNU Make 4.3", "nodes": nodes}))
 
     def test_a_page(self) -> None:
-        """Places, lines to add and the marked words are those of the original makefiles."""
-        text = self.page(1, "-f", "T/makefile").text
+        """Places, lines to add and the marked words are those of the original makefiles. In a
+        pattern rule no word is marked, since other targets don't need it."""
+        page = self.page(1, "-f", "T/makefile")
+        text = page.text
+        self.assertEqual([sorted(one.split()) for one in page.inserted], [["../h.h", "x.h"]])
         self.assertIn("Makefile:3:", text)
         self.assertIn("sub/Makefile:1:", text)
         self.assertNotIn("T/makefile:", text)

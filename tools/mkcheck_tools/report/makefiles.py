@@ -3,6 +3,7 @@
 from __future__ import annotations
 
 import os
+import re
 from dataclasses import dataclass
 
 from mkcheck_tools.answers.graphs import goes_on
@@ -12,6 +13,8 @@ BEFORE, BEHIND = 2, 5
 SHOWN_AT_MOST = 14
 BYTES_AT_MOST = 240
 WORDS_AT_MOST = 6
+# The target of an inference rule: one suffix, or two.
+INFERENCE = re.compile(r"(?:\.[^./\s]+){1,2}")
 
 
 @dataclass
@@ -71,6 +74,7 @@ class Makefiles:
             and behind - first < SHOWN_AT_MOST
         ):
             behind += 1
+        missing = [] if is_for_others(lines[line - 1]) else missing
         spot = insertion(lines, line, end) if missing else (0, 0)
         shown = []
         for number in range(first, behind + 1):
@@ -82,6 +86,13 @@ class Makefiles:
                 body = shown_line(text)
             shown.append(f"<span{look}><i>{number}</i>{body}\n</span>")
         return f'<pre class="lines">{"".join(shown)}</pre>'
+
+
+def is_for_others(text: str) -> bool:
+    """Whether a rule line may be for other targets than those that it names: a pattern rule, an
+    inference rule, or one whose targets a macro has. What one of them lacks isn't written there."""
+    front, _, _ = text.partition(":")
+    return "%" in front or "$" in front or INFERENCE.fullmatch(front.strip()) is not None
 
 
 def insertion(lines: list[str], line: int, end: int) -> tuple[int, int]:
