@@ -22,6 +22,8 @@ MAKEFILES = (GNU_ALONE, "makefile", "Makefile")
 NINJA_FILE = "build.ninja"
 # A command that starts a make, which a recipe of a footprint can't.
 STARTS_MAKE = re.compile(r"(?:^|[\s;&|(])g?make(?:\s|$)")
+# A refusal of a line of a makefile, as `mkcheck graph` prints it.
+REFUSED_AT = re.compile(r"refused \d+ (?!operand:|goal:|\(default\):)(\S+:\d+)$", re.MULTILINE)
 # What a folder of a configured build holds, beside the build itself.
 CONFIGURED = ("CMakeCache.txt", os.path.join("meson-private", "coredata.dat"))
 # What has to be run where a project has no build yet.
@@ -133,7 +135,9 @@ def why_not_posix(wanted: Wanted) -> str:
         refusal = answer_of(checker_of(wanted, os.devnull).check()).refusal
         if refusal is not None and refusal.is_of_file:
             return f"{refusal.file}:{refusal.line} isn't POSIX's"
-        return "it isn't POSIX's"
+        # What is wrong in commands comes behind what is wrong in footprints, which are none here.
+        told = REFUSED_AT.match(reply.shown)
+        return f"{told[1]} isn't POSIX's" if told else "it isn't POSIX's"
     recipes = read_graph(reply.shown).recipes
     for recipe in recipes:
         if any(STARTS_MAKE.search(line) for line in recipe.lines):
