@@ -204,6 +204,19 @@ class AlikeTest(ProjectTest):
         tried, noted = self.tried(self.rules("cc -c -o %.o %.c"), files)
         self.assertEqual((tried, noted), ({"b.o", "c.o"}, set()))
 
+    def test_objects_are_alike_by_the_names_of_other_tools(self) -> None:
+        """CMake's objects have the ending of their source too, and lie in folders that are named
+        after it; those of Automake may have the name of their program."""
+        for front, count in (("obj/%.dir/%.c", 2), ("p-%", 2), ("p-q-%", 4), ("lib.%", 4)):
+            made = [front.replace("%", name) + ".o" for name in "abcd"]
+            rules = "".join(
+                f"{target}: {name}.c\n\tmkdir -p ./{os.path.dirname(target)}\n"
+                f"\tcc -c -o {target} {name}.c\n"
+                for name, target in zip("abcd", made)
+            )
+            tried, noted = self.tried(f"all: {' '.join(made)}\n{rules}", self.SOURCES)
+            self.assertEqual((len(tried), noted), (count, set()), front)
+
     def test_they_do_not_wait_for_what_other_runs_show(self) -> None:
         self.write({"makefile": "a.o: a.c\n\tsleep 1; cc -c -o a.o a.c\n", "a.c": "int a;\n"})
         words = ["-C", str(self.folder), "-o", str(self.book)]

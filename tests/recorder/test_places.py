@@ -82,6 +82,14 @@ class PlaceTest(ProjectTest):
         ended = self.run_here("echo begun; sleep 60", 0.5)
         self.assertEqual((ended.timed_out, ended.output), (True, "begun\n"))
 
+    def test_waiting_for_a_time(self) -> None:
+        with subprocess.Popen(["sleep", "60"]) as process:
+            for seconds in (0, 0.01):
+                with self.assertRaises(subprocess.TimeoutExpired):
+                    places.waited(process, seconds)
+            process.kill()
+            self.assertEqual(places.waited(process, 60), -signal.SIGKILL)
+
     def test_what_stays_in_the_background_is_killed(self) -> None:
         mark = str(self.scratch / "mark")
         self.assertEqual(

@@ -29,10 +29,16 @@ def no(findings: Sequence[str], groups: Sequence[Value], later: Sequence[Value] 
     return answer_of(Reply(1, json.dumps(value).encode()))
 
 
+def line(file: str, number: int) -> Value:
+    """The value of a place."""
+    return {"file": file, "line": number}
+
+
 def refused(text: str, name: str, sentence: str, **more: object) -> Refusal:
     """A refusal as it is read."""
     value: Value = {"answer": "refused", "format": 1, "place": None, "name": name, "text": text}
-    value |= {"number": int(text.split()[1]), "sentence": sentence, **more}
+    number = text.split()[1]
+    value |= {"number": int(number) if number.isdecimal() else 0, "sentence": sentence, **more}
     found = answer_of(Reply(2, json.dumps(value).encode())).refusal
     assert found is not None
     return found
@@ -145,40 +151,63 @@ class GroupsTest(unittest.TestCase):
 
 
 class RefusalsTest(unittest.TestCase):
-    """Refusals: the place, the words and the sentence."""
+    """Refusals: the place, the words and the word that is no name."""
 
     def test_at_a_line(self) -> None:
-        found = refused("refused 25 a.mk:7", "NotALine", "a.mk:7: NotALine (25): no line")
+        said = "a.mk:7: NotALine (25): no line"
+        found = refused("refused 25 a.mk:7", "NotALine", said, place=line("a.mk", 7))
         self.assertEqual((found.file, found.line), ("a.mk", 7))
-        self.assertEqual((found.words, found.sentence), ("", "no line"))
+        self.assertEqual((found.words, found.sentence), ("", said))
         self.assertTrue(found.is_of_file)
 
-    def test_with_the_word_that_is_refused(self) -> None:
-        found = refused("refused 27 m:1", "BadName", "m:1: BadName (27): ./b: it is no name: no")
-        self.assertEqual((found.words, found.sentence), ("./b", "it is no name: no"))
+    def test_with_the_word_that_is_no_name(self) -> None:
+        said = "m:1: BadName (27): ./b: it is no name: no"
+        found = refused("refused 27 m:1", "BadName", said, place=line("m", 1))
+        self.assertEqual((found.words, found.bad_name), ("", "./b"))
+        other = refused("refused 27 goal:1", "BadGoal", "goal:1: BadGoal (27): it is no name")
+        self.assertEqual(other.bad_name, "")
 
     def test_with_words_at_a_line(self) -> None:
         said = "m:1: NoInclude (32): x.mk: it isn't there"
-        found = refused("refused 32 m:1 x.mk", "NoInclude", said)
+        found = refused("refused 32 m:1 x.mk", "NoInclude", said, place=line("m", 1))
         self.assertEqual((found.file, found.line, found.words), ("m", 1, "x.mk"))
-        self.assertEqual(found.sentence, "it isn't there")
 
     def test_words_that_look_like_a_place(self) -> None:
-        found = refused("refused 38 d:5", "NoFile", "NoFile (38): d:5: it isn't there")
-        self.assertEqual((found.file, found.line, found.words), (None, None, "d:5"))
-        self.assertEqual(found.sentence, "it isn't there")
+        for number, name in ((38, "NoFile"), (27, "BadMakefileName")):
+            for words in ("d:5", "goal:1", "operand:1"):
+                said = f"{name} ({number}): {words}: it isn't there"
+                found = refused(f"refused {number} {words}", name, said)
+                self.assertEqual((found.file, found.line, found.words), (None, None, words))
 
     def test_without_a_place(self) -> None:
         found = refused("refused 42 a b a", "Cycle", "Cycle (42): a b a: they form a cycle")
-        self.assertEqual((found.file, found.words), (None, "a b a"))
-        self.assertEqual(found.sentence, "they form a cycle")
+        self.assertEqual((found.file, found.words, found.is_of_file), (None, "a b a", False))
         bare = refused("refused 51", "NotJson", "NotJson (51): it is no JSON")
-        self.assertEqual((bare.words, bare.sentence), ("", "it is no JSON"))
+        self.assertEqual(bare.words, "")
 
     def test_of_a_word_of_the_command_line(self) -> None:
-        found = refused("refused 27 goal:2", "BadGoal", "goal:2: BadGoal (27): it is no name")
-        self.assertEqual((found.file, found.line, found.is_of_file), ("goal", 2, False))
-        self.assertEqual(found.shown("makefile"), "")
+        for text, name, kind in (
+            ("refused 27 goal:2", "BadGoal", "goal"),
+            ("refused 11 operand:2", "BadMacroName", "operand"),
+        ):
+            found = refused(text, name, f"{kind}:2: {name}: it is no name")
+            self.assertEqual((found.file, found.line, found.words), (kind, 2, ""))
+            self.assertEqual((found.is_of_word, found.is_of_file), (True, False))
+            self.assertEqual(found.shown("makefile"), "")
+
+    def test_a_makefile_that_is_called_like_such_a_word(self) -> None:
+        said = "operand:1: NotALine (25): no line"
+        found = refused("refused 25 operand:1", "NotALine", said, place=line("operand", 1))
+        self.assertEqual((found.is_of_word, found.is_of_file), (False, True))
+
+    def test_a_text_that_no_refusal_has(self) -> None:
+        for text, name, number in (
+            ("refused 25 m:1", "NotJson", 51),
+            ("no stale a b", "NotJson", 51),
+            ("refused 27 a", "BadGoal", 27),
+        ):
+            with self.assertRaisesRegex(Fault, "in which text is no refusal"):
+                refused(text, name, "", number=number)
 
     def test_its_line(self) -> None:
         """The line of the makefile or of a file below its folder; none of another file, which may
@@ -186,12 +215,13 @@ class RefusalsTest(unittest.TestCase):
         said = "NotALine (25): no line"
         with TemporaryDirectory() as folder:
             for name in ("m", "../above", f"{folder}/m"):
-                found = refused(f"refused 25 {name}:2", "NotALine", f"{name}:2: {said}")
+                place = line(name, 2)
+                found = refused(f"refused 25 {name}:2", "NotALine", said, place=place)
                 path = Path(folder, "in", name)
                 path.parent.mkdir(exist_ok=True)
                 path.write_bytes(b"a:\n\tx\x1b\xe2\x80\xaey \n")
                 shown = found.shown("m", f"{folder}/in")
                 self.assertEqual(shown, "\tx??y " if name == "m" else "")
                 self.assertEqual(found.shown(name, f"{folder}/in"), "\tx??y ")
-            far = refused("refused 25 m:9", "NotALine", f"m:9: {said}")
+            far = refused("refused 25 m:9", "NotALine", said, place=line("m", 9))
             self.assertEqual(far.shown("m", f"{folder}/in"), "")

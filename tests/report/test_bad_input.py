@@ -145,7 +145,7 @@ class MissingTest(ReportTest):
     def test_other_graphs(self) -> None:
         """A program that answers, and then has no graph."""
         for then, said in (
-            ("echo nonsense; exit 1", "mkcheck graph: nonsense"),
+            ("echo nonsense; exit 1", "refuses the graph of a build that it checks; install the"),
             ("echo goals; exit 0", "mkcheck graph printed no goals"),
         ):
             program = self.stand_in(f"echo '{YES}'; exit 0", then)

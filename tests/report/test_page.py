@@ -157,9 +157,8 @@ class RefusalTest(ReportTest):
         self.write("makefile", "all: a.o\n\n%.o: %.c\n\tcc -c $<\n")
         page = self.page(2)
         self.assertIn("refused 27 makefile:3", page.text)
-        self.assertIn("makefile:3:\n BadName (27): %.o\n", page.text)
-        said = "A word is no file name; look for %, *, ./, |, &, quotes or CR LF."
-        self.assertIn(said, page.text)
+        said = "a word is no file name; look for %, *, ./, |, &, quotes or CR LF"
+        self.assertIn(f"makefile:3: BadName (27): %.o: {said}\n", page.text)
         self.assertIn("What BadName means", page.text)
         self.assertIn("Pattern rules (`%`), wildcards", page.text)
         self.assertIn("%.o: %.c", page.text)
@@ -177,15 +176,14 @@ class RefusalTest(ReportTest):
         self.race()
         page = self.page(2, "prog", "A:=<b>")
         self.assertIn("refused 11 operand:1", page.text)
-        self.assertIn("operand:1:\n BadMacroName (11)\n", page.text)
+        self.assertIn("operand:1: BadMacroName (11): ", page.text)
         self.assertIn("A:=<b>", page.text)
 
     def test_shared_number(self) -> None:
         """Of the faults with a number that several have, the page tells of the one that it is."""
         self.race()
         text = self.page(2, "50%").text
-        self.assertIn("goal:1:\n BadGoal (27)\n", text)
-        self.assertIn("A goal is no name, or is", text)
+        self.assertIn("goal:1: BadGoal (27): a goal is no name, or is", text)
 
     def test_line_of_another_project(self) -> None:
         """The line of a file that lies elsewhere, and that a makefile includes, isn't shown."""
@@ -204,8 +202,7 @@ class RefusalTest(ReportTest):
         """A file whose name ends as a line's number would has no place."""
         self.race()
         text = self.page(2, book="d:5").text
-        self.assertIn("NoFile (38): d:5", text)
-        self.assertNotIn("d:5:\n", text)
+        self.assertIn("\nNoFile (38): d:5: ", text)
 
     def test_name_with_a_newline(self) -> None:
         """Words may hold a newline."""

@@ -5,7 +5,7 @@ from __future__ import annotations
 from dataclasses import dataclass, replace
 from functools import cached_property
 
-from mkcheck_tools.answers.checkers import INSTALL, NO, REFUSED, Reply
+from mkcheck_tools.answers.checkers import INSTALL, NO, REFUSED, Checker, Reply
 from mkcheck_tools.answers.members import Members
 from mkcheck_tools.answers.refusals import Refusal, refusal_of
 from mkcheck_tools.faults import Fault
@@ -164,6 +164,14 @@ def answer_of(reply: Reply) -> Answer:
         groups=with_findings(tuple(map(group_of, value.objects("groups"))), findings),
         later=tuple(map(group_of, value.objects("later"))),
     )
+
+
+def refusal_by(checker: Checker) -> Refusal:
+    """Why mkcheck refuses a build whose graph it doesn't give, as `check` says it."""
+    refusal = answer_of(checker.check()).refusal
+    if refusal is None:
+        raise Fault(f"{checker.program} refuses the graph of a build that it checks; {INSTALL}")
+    return refusal
 
 
 def way_of(value: Members) -> Way:

@@ -57,13 +57,13 @@ WORDS = {
 }
 
 
-def meaning(number: int, words: str, word: str = "") -> str:
-    """The sentence for a refusal with this number and these words, or nothing. `word` is the one
-    that is no name, where it is known."""
-    where = words.partition(":")[0]
-    if where in WORDS and words[len(where) :][:1] == ":":
-        return WORDS[where]
-    sentence = why_no_name(word) if word else MEANINGS.get(number, "")
+def meaning(number: int, kind: str | None, name: str) -> str:
+    """The sentence for a refusal with this number, or nothing. `kind` is what the word of the
+    command line is that was refused, if it is one, and `name` the word of the makefile that is no
+    name, if that is why."""
+    if kind is not None:
+        return WORDS[kind]
+    sentence = why_no_name(name) if name else MEANINGS.get(number, "")
     return f"{sentence}; {IMPORT}" if number in LANGUAGE else sentence
 
 

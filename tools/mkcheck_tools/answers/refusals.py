@@ -1,4 +1,4 @@
-"""A refusal of mkcheck, as `check --json` prints it, and as the other commands do."""
+"""A refusal of mkcheck, as `check --json` prints it."""
 
 from __future__ import annotations
 
@@ -10,12 +10,11 @@ from mkcheck_tools.answers.meanings import meaning
 from mkcheck_tools.answers.members import Members
 from mkcheck_tools.faults import Fault
 
-BAD_NAME, NO_MAKEFILE, NO_RULE, CYCLE = 27, 37, 41, 42
-REFUSED = "refused "
-# What stands in the place of a file where a word of the command line is refused.
-OPERAND, GOAL = "operand", "goal"
-# The faults of a makefile whose word stands in their sentences alone. It has no blanks.
-TOLD_IN_WORDS = ("BadName", "ArchiveMember")
+BAD_NAME, NO_MAKEFILE, NO_RULE, CYCLE = "BadName", "NoMakefile", "NoRule", "Cycle"
+# What stands in the place of a line where a word of the command line is refused: a goal by these
+# faults, and an operand by the faults of macros, which have these numbers.
+GOAL, OF_GOALS = "goal", ("BadGoal", "GoalIsMember")
+OPERAND, OF_MACROS = "operand", range(11, 18)
 SHOWN_AT_MOST = 200
 
 
@@ -28,14 +27,18 @@ class Refusal:
     name: str
     words: str
     sentence: str
+    """What is said of it to people, with its place, its name and its words."""
+
     text: str
     file: str | None = None
     line: int | None = None
+    is_of_word: bool = False
+    """Whether its place is a word of the command line."""
 
     @property
     def is_of_file(self) -> bool:
         """Whether it is at a line of a file."""
-        return self.file not in (None, OPERAND, GOAL)
+        return self.file is not None and not self.is_of_word
 
     def is_shown(self, makefile: str) -> bool:
         """Whether its line may be shown: that of the makefile, and of files below the folder. One
@@ -50,51 +53,53 @@ class Refusal:
             return ""
         return line_of(os.path.join(folder, self.file), self.line)
 
+    @property
+    def bad_name(self) -> str:
+        """The word that is no name, where that is why. No member has it, so it is taken from the
+        sentence, in which it stands behind what other members have."""
+        if self.name != BAD_NAME:
+            return ""
+        front = f"{self.file}:{self.line}: {self.name} ({self.number}): "
+        return self.sentence.removeprefix(front).partition(": ")[0]
+
 
 class Refused(Fault):
-    """mkcheck refused the makefile, by the text `said`. `word` is the one that is no name, if that
-    is why; `sentence` is said in place of the usual one, and `line` is the line of the makefile."""
+    """mkcheck refused the makefile. `sentence` is said in place of the usual one, and `line` is the
+    line of the makefile."""
 
-    def __init__(
-        self, said: str, word: str = "", sentence: str | None = None, line: str = ""
-    ) -> None:
-        self.said = said
-        self.number, self.words = numbered(said)
-        sentence = meaning(self.number, self.words, word) if sentence is None else sentence
-        text = f"mkcheck graph: {said}{': ' if sentence else ''}{sentence}"
+    def __init__(self, refusal: Refusal, sentence: str | None = None, line: str = "") -> None:
+        self.refusal = refusal
+        if sentence is None:
+            word = refusal.file if refusal.is_of_word else None
+            sentence = meaning(refusal.number, word, refusal.bad_name)
+        text = f"mkcheck graph: {refusal.text}{': ' if sentence else ''}{sentence}"
         super().__init__(f"{text}\n\t{line}" if line else text)
 
     @property
     def missing(self) -> str | None:
         """The name that no rule makes and that is no source, where that was the reason."""
-        return self.words if self.number == NO_RULE else None
-
-
-def numbered(said: str) -> tuple[int, str]:
-    """The number and the words of a refusal that is printed with its number; 0 and nothing for
-    another text."""
-    number, _, words = said.removeprefix(REFUSED).partition(" ")
-    is_one = said.startswith(REFUSED) and number.isascii() and number.isdigit()
-    return (int(number), words) if is_one else (0, "")
+        return self.refusal.words if self.refusal.name == NO_RULE else None
 
 
 def refusal_of(value: Members) -> Refusal:
-    """A refusal by its members. In front of its sentence stand its place, its name and its words,
-    which are known from the others."""
+    """A refusal by its members. Its text is `refused`, its number, its place and its words."""
     number, name, text = value.number("number"), value.text("name"), value.text("text")
-    words = numbered(text)[1]
-    place, _, rest = words.partition(" ")
-    named = f"{name} ({number}): "
-    is_placed = value.text("sentence").startswith(f"{place}: {named}")
-    words = rest if is_placed else words
-    told = value.text("sentence").removeprefix(f"{place}: " if is_placed else "")
-    sentence = told.removeprefix(named).removeprefix(f"{words}: ")
-    if name in TOLD_IN_WORDS and not words:
-        words, _, sentence = sentence.partition(": ")
-    if not is_placed:
+    said, _, words = text.removeprefix("refused ").partition(" ")
+    if said != str(number):
+        raise value.wrong("text", f"refusal {number}")
+    sentence = value.text("sentence")
+    if not value.is_null("place"):
+        place = value.inner("place")
+        file, line = place.text("file"), place.number("line")
+        words = words.removeprefix(f"{file}:{line}").removeprefix(" ")
+        return Refusal(number, name, words, sentence, text, file, line)
+    kind = GOAL if name in OF_GOALS else OPERAND if number in OF_MACROS else ""
+    if not kind:
         return Refusal(number, name, words, sentence, text)
-    file, _, line = place.rpartition(":")
-    return Refusal(number, name, words, sentence, text, file, int(line))
+    where, _, words = words.removeprefix(f"{kind}:").partition(" ")
+    if not where.isdecimal():
+        raise value.wrong("text", f"refusal of one {kind}")
+    return Refusal(number, name, words, sentence, text, kind, int(where), True)
 
 
 def line_of(path: str, number: int) -> str:

@@ -8,10 +8,10 @@ from dataclasses import dataclass, field, replace
 from pathlib import Path
 
 from mkcheck_tools.answers.checkers import Checker, Reply
-from mkcheck_tools.answers.findings import Answer, answer_of
+from mkcheck_tools.answers.findings import Answer, answer_of, refusal_by
 from mkcheck_tools.answers.graphs import Graph, names_in, read_graph, target_that_is_not_utf8
 from mkcheck_tools.answers.meanings import IMPORT
-from mkcheck_tools.answers.refusals import BAD_NAME, NO_MAKEFILE, Refused
+from mkcheck_tools.answers.refusals import NO_MAKEFILE, Refused
 from mkcheck_tools.faults import Fault
 from mkcheck_tools.run.folders import is_plain_path
 
@@ -54,7 +54,7 @@ class Unrecorded:
         """What mkcheck prints, unless it refuses."""
         reply = self.ask(command, *more)
         if reply.status != 0:
-            raise Refused(reply.shown.strip())
+            raise Refused(refusal_by(self.over_nothing()))
         return reply.output
 
     def varying(self) -> list[str]:
@@ -76,21 +76,12 @@ class Unrecorded:
             ) from None
 
     def explained(self, refused: Refused) -> Refused:
-        """A refusal with what else is known of it: the word that is no name, and the line of the
-        makefile; what the folder has in place of a makefile."""
-        folder = self.checker.place.folder
-        if refused.number == NO_MAKEFILE:
+        """A refusal with the line of the makefile, or what the folder has in place of one."""
+        folder, refusal = self.checker.place.folder, refused.refusal
+        if refusal.name == NO_MAKEFILE:
             there = (name for name in NOT_READ if os.path.isfile(os.path.join(folder, name)))
-            sentence = next((NOT_READ[name] for name in there), None)
-            return Refused(refused.said, sentence=sentence)
-        try:
-            told = self.checked().refusal
-        except Fault:
-            return refused
-        if told is None or told.number != refused.number:
-            return refused
-        word = told.words if told.number == BAD_NAME else ""
-        return Refused(refused.said, word, line=told.shown(self.checker.makefile, folder).strip())
+            return Refused(refusal, sentence=next((NOT_READ[name] for name in there), None))
+        return Refused(refusal, line=refusal.shown(self.checker.makefile, folder).strip())
 
     def refuse_open_end(self, graph: Graph) -> None:
         """Refuses a command that ends in a backslash behind which no line comes: `graph -c` prints

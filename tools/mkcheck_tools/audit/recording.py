@@ -109,10 +109,7 @@ def judged(wanted: Wanted, failures: Sequence[str]) -> Audited:
     checker = checker_of(wanted, BOOK)
     answer, makefile = answer_of(checker.check()), checker.makefile
     if answer.refusal is not None:
-        refusal = answer.refusal
-        place = f"{refusal.file}:{refusal.line}: " if refusal.line else ""
-        words = f"{refusal.words}: " if refusal.words else ""
-        return Audited(makefile, TOOL, refused=f"{place}{words}{refusal.sentence}")
+        return Audited(makefile, TOOL, refused=answer.refusal.sentence)
     notes = read_notes(os.path.join(wanted.root, BOOK)).notes
     if answer.is_yes:
         return Audited(makefile, TOOL, notes=notes, recipes=answer.recipes, reads=answer.reads)

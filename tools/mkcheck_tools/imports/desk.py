@@ -12,7 +12,7 @@ from typing import TypeVar
 
 from mkcheck_tools.book.paths import path_of_notes, path_of_state, path_of_store
 from mkcheck_tools.book.states import DIGEST
-from mkcheck_tools.imports.judging import FIRST, write
+from mkcheck_tools.imports.judging import BOOK, FIRST, write
 from mkcheck_tools.imports.kept import Kept, read_kept, text_of
 from mkcheck_tools.imports.request import Request
 from mkcheck_tools.imports.telling import Telling
@@ -21,7 +21,6 @@ from mkcheck_tools.run.paths import RealPath
 
 # The translation, for steps that are done one at a time.
 SAVED = "translation.json"
-BOOK = "footprint.json"
 LOG = "import.log"
 ANSWER = "answer.json"
 RESULTS = ("makefile", FIRST, BOOK, path_of_notes(BOOK), "map.json", SAVED, ANSWER)

@@ -10,9 +10,9 @@ from dataclasses import dataclass, field, replace
 from pathlib import Path
 
 from mkcheck_tools.answers.checkers import Checker, Reply
-from mkcheck_tools.answers.findings import Answer, answer_of
+from mkcheck_tools.answers.findings import Answer, answer_of, refusal_by
 from mkcheck_tools.answers.graphs import read_graph
-from mkcheck_tools.answers.refusals import CYCLE, NO_RULE, numbered
+from mkcheck_tools.answers.refusals import CYCLE, NO_RULE, Refusal
 from mkcheck_tools.book.answer_files import RecordingAnswer, read_answer
 from mkcheck_tools.book.footprint_files import Footprints, Record, read_footprints
 from mkcheck_tools.book.formats import first
@@ -28,6 +28,9 @@ from mkcheck_tools.judge.notes import Kind as NoteKind
 from mkcheck_tools.judge.notes import Note
 from mkcheck_tools.run.places import Place
 
+BOOK = "footprint.json"
+# Footprints without a record, by which a makefile is checked before there are others.
+PRESUMED = "presumed.json"
 FIRST = "makefile.first"
 LATER = "makefile"
 # A makefile with the prerequisites that both the first build and later ones have. Only races count.
@@ -145,7 +148,9 @@ class Judge:
         for name in [FIRST, LATER] if first else [LATER]:
             reply = self.ask("graph", "-f", self.path(name))
             if reply.status != 0:
-                raise Fault(self.refusal(reply.shown.strip(), name))
+                self.presume()
+                refusal = refusal_by(self.checker(name, PRESUMED))
+                raise Fault(self.refusal(refusal, name))
         recipes = sum(bool(node.commands) for node in self.build.nodes.values())
         return f"{nodes} nodes, {recipes} recipes"
 
@@ -186,22 +191,31 @@ class Judge:
                 found += [child, *(self.build.node(word) for word in child.prerequisites(True))]
         return found
 
-    def refusal(self, said: str, name: str) -> str:
+    def presume(self) -> None:
+        """Writes footprints without a record, in which all that no rule makes is a source."""
+        names, sources = self.names(), set()
+        for name in {*self.build.reached(False), *self.build.reached(True)}:
+            node = self.build.nodes.get(name)
+            if node is None or not node.has_rule:
+                sources.add(names[name])
+        write(self.path(PRESUMED), first(Footprints([], sorted(sources), {})))
+
+    def refusal(self, refusal: Refusal, name: str) -> str:
         """A refusal of mkcheck as a sentence."""
-        number, words = numbered(said)
-        if number == CYCLE:
-            return f"the prerequisites of the build form a cycle: {words}"
-        if number == NO_RULE:
-            return f"nothing makes {words}, and it isn't there"
-        return f"mkcheck doesn't read {name}, the translated makefile: {said}"
+        if refusal.name == CYCLE:
+            return f"the prerequisites of the build form a cycle: {refusal.words}"
+        if refusal.name == NO_RULE:
+            return f"nothing makes {refusal.words}, and it isn't there"
+        return f"mkcheck doesn't read {name}, the translated makefile: {refusal.text}"
+
+    def checker(self, name: str, book: str) -> Checker:
+        """What asks mkcheck about one of the makefiles, with these footprints."""
+        options, path = ("-f", self.path(name)), self.path(book)
+        return Checker(self.mkcheck, self.place, options, book=path, environment=self.environment)
 
     def answer(self, name: str) -> Answer:
         """What `check` answers of one of the makefiles."""
-        options, book = ("-f", self.path(name)), self.path("footprint.json")
-        checker = Checker(
-            self.mkcheck, self.place, options, book=book, environment=self.environment
-        )
-        return answer_of(checker.check())
+        return answer_of(self.checker(name, BOOK).check())
 
     def ask(self, *words: str) -> Reply:
         """Asks mkcheck, in the folder of the project."""
@@ -242,7 +256,7 @@ class Judge:
 
     def read_book(self) -> Footprints:
         """The footprints, their targets and files named as nodes are."""
-        raw = read_footprints(self.path("footprint.json"))
+        raw = read_footprints(self.path(BOOK))
         back = {word: name for name, word in self.names().written.items() if "\0" not in name}
         targets = {}
         for record in raw.records.values():
@@ -253,7 +267,7 @@ class Judge:
     def notes(self, left_out: frozenset[NoteKind], trusted: frozenset[str]) -> Noted:
         """The notes of the recorder, without those of some kinds, and on recipes that the importer
         trusts by itself."""
-        noted = read_notes(self.path("footprint.json"))
+        noted = read_notes(self.path(BOOK))
         kept = [note for note in noted.notes if note.kind not in left_out]
         return Noted(tuple(one for one in kept if one.target not in trusted or not is_trust(one)))
 
@@ -316,8 +330,8 @@ class Judge:
         sources = [word(name) for name in footprints.sources]
         book = Footprints(footprints.fixed, sources, records)
         text = first(book)
-        write(self.path("footprint.json"), text)
-        write(path_of_notes(self.path("footprint.json")), text_of_notes(text, noted.notes))
+        write(self.path(BOOK), text)
+        write(path_of_notes(self.path(BOOK)), text_of_notes(text, noted.notes))
 
     def check(self, first: bool) -> BuildVerdict:
         """Checks later builds, and the first one where its makefile is another one. What recipes
@@ -397,14 +411,14 @@ class Judge:
         names = self.names()
         back = {word: node for node, word in names.written.items() if "\0" not in node}
         if answer.refusal is not None:
-            verdict.refused = self.refusal(answer.refusal.text, name)
+            verdict.refused = self.refusal(answer.refusal, name)
         needs = {one.number: group.lacks(one) for group in answer.groups for one in group.findings}
         for one in answer.findings:
             words = tuple(back.get(word, word) for word in one.names)
             lacks = needs.get(one.number, "")
             found = BuildFinding(one.kind, words, False, True, back.get(lacks, lacks))
             verdict.findings.append(found)
-        records = read_footprints(self.path("footprint.json")).records.values()
+        records = read_footprints(self.path(BOOK)).records.values()
         reached = {names[name] for name in self.build.reached(True)}
         used = [record for record in records if record.target in reached]
         verdict.targets = {back.get(record.target, record.target) for record in used}

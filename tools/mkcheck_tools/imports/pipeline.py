@@ -28,9 +28,16 @@ from mkcheck_tools.imports.answers import AS_FAR_AS_JUDGED, answer_of, counted, 
 from mkcheck_tools.imports.builds import Build
 from mkcheck_tools.imports.configured import configured_files, configuring
 from mkcheck_tools.imports.copies import Copies, listing
-from mkcheck_tools.imports.desk import ANSWER, BOOK, LOG, SAVED, Desk
+from mkcheck_tools.imports.desk import ANSWER, LOG, SAVED, Desk
 from mkcheck_tools.imports.gnumake import outer_environment
-from mkcheck_tools.imports.judging import FIRST, BuildVerdict, Judge, RecordingFault, write
+from mkcheck_tools.imports.judging import (
+    BOOK,
+    FIRST,
+    BuildVerdict,
+    Judge,
+    RecordingFault,
+    write,
+)
 from mkcheck_tools.imports.kept import (
     Answer,
     Kept,

@@ -21,8 +21,8 @@ from mkcheck_tools.run.paths import Name
 @dataclass(frozen=True)
 class Way:
     """How recipes make their targets: commands in which names of the target's stem are left out,
-    each with whether its failure is ignored; the folder; the assembler, and what those read that
-    started it."""
+    each with whether its failure is ignored; the folder, without such names too; the assembler, and
+    what those read that started it."""
 
     commands: tuple[tuple[str, bool], ...]
     folder: str
@@ -35,12 +35,23 @@ def way_of(trial: Trial) -> Way | None:
     if effects is None or not effects.assembled or not is_file(trial.after.get(target)):
         return None
     folder, base = os.path.split(target)
-    stem = re.compile(rf"(?<![\w+-]){re.escape(os.path.splitext(base)[0])}(?=\.)")
+    names = "|".join(map(re.escape, stems_of(base)))
+    stem = re.compile(rf"(?<![\w+-])(?:{names})(?=\.)")
     commands = tuple(
         ("\0".join(stem.sub("%", word) for word in command.words), command.ignored)
         for command in trial.recipe.commands
     )
-    return Way(commands, folder, effects.assembled)
+    return Way(commands, stem.sub("%", folder), effects.assembled)
+
+
+def stems_of(name: str) -> list[str]:
+    """What the names of a target's files begin with, longest first: `a` for `a.o`, `a.c` and `a`
+    for CMake's `a.c.o`, and `p-a` and `a` for Automake's `p-a.o`."""
+    found = [os.path.splitext(name)[0]]
+    while (shorter := os.path.splitext(found[-1])[0]) != found[-1]:
+        found.append(shorter)
+    _, dash, last = found[-1].partition("-")
+    return [*found, last] if dash and last else found
 
 
 def groups_of(trials: Iterable[tuple[int, Trial, int]]) -> list[list[int]]:

@@ -3,7 +3,7 @@
 from __future__ import annotations
 
 import threading
-from collections.abc import Callable, Mapping
+from collections.abc import Callable, Iterator, Mapping
 from concurrent.futures import Future, ThreadPoolExecutor
 from dataclasses import dataclass, replace
 
@@ -16,19 +16,20 @@ from mkcheck_tools.replay.stamps import with_later_stamps
 from mkcheck_tools.replay.worlds import Trial
 from mkcheck_tools.run import places
 from mkcheck_tools.run.folders import remove
-from mkcheck_tools.run.paths import Name, RealPath
+from mkcheck_tools.run.memory import is_full
+from mkcheck_tools.run.paths import Name
 from mkcheck_tools.run.places import Place
 
 
 @dataclass(frozen=True)
 class Halves:
-    """What tries them: `place_of` gives the folder for the recipe of this place among all. Where it
-    isn't `wanted`, nothing is run, and no target counts as half-written."""
+    """What tries them: `places_of` gives those for a run of the recipe of this place among all, one
+    after another. Where it isn't `wanted`, nothing is run, and no target counts as half-written."""
 
     runner: Runner
     turns: Turns
     slots: threading.Semaphore
-    place_of: Callable[[int], Place]
+    places_of: Callable[[Trial, int], Iterator[Place]]
     wanted: bool
 
     def ahead(self, pool: ThreadPoolExecutor, trials: list[Trial]) -> Mapping[int, Future[bool]]:
@@ -85,25 +86,30 @@ class Halves:
             return replace(outcome, run=BARE, broken=mistake_of(error, "recorder"))
 
     def half(self, trial: Trial, number: int, folders: frozenset[Name]) -> bool:
-        """Whether a recipe leaves its target half-written if a write fails. It runs in a folder of
-        its own, since its replay may go on meanwhile."""
-        place = self.place_of(number)
-        if place.is_bound:
-            place = replace(place, folder=RealPath(f"{place.folder}.half"))
+        """Whether a recipe leaves its target half-written if a write fails."""
+        world = self.runner.layout.world
         with self.slots, self.turns.turn(trial.recipe.target):
-            # Where the program ends, no more folders are laid.
-            places.pause(0)
-            world = self.runner.layout.world
-            return self.leaves_half(with_later_stamps(world, trial), place, folders)
+            for place in self.places_of(trial, number):
+                # Where the program ends, no more folders are laid.
+                places.pause(0)
+                found = self.leaves_half(with_later_stamps(world, trial), place, folders)
+                if found is not None:
+                    return found
+        return False
 
-    def leaves_half(self, trial: Trial, place: Place, folders: frozenset[Name]) -> bool:
-        """Whether a recipe that makes its target anew leaves it half-written if a write fails."""
+    def leaves_half(self, trial: Trial, place: Place, folders: frozenset[Name]) -> bool | None:
+        """Whether a recipe that makes its target anew leaves it half-written if a write fails; None
+        where a place in memory has no room, or not all that it needs."""
         target = Name(trial.recipe.target)
         if not self.wanted or target in trial.before or not is_file(trial.after.get(target)):
             return False
         try:
             self.runner.layout.furnish(trial, place.folder, folders)
             return self.runner.leaves_half(trial, place)
+        except OSError as error:
+            if place.inner and is_full(error):
+                return None
+            raise
         finally:
             remove(place.folder)
 

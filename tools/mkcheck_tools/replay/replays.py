@@ -62,7 +62,7 @@ from mkcheck_tools.replay.versions import Version
 from mkcheck_tools.replay.worlds import GIVEN, Trial, World, stamps_of
 from mkcheck_tools.run import places
 from mkcheck_tools.run.folders import remove
-from mkcheck_tools.run.memory import LACKS, Memory, is_full, memory
+from mkcheck_tools.run.memory import LACKS, NO_ROOM, Memory, is_full, memory
 from mkcheck_tools.run.paths import Name, RealPath, SeenPath, real_in, seen_in, unbound
 from mkcheck_tools.run.places import Place
 from mkcheck_tools.run.progress import Progress
@@ -140,7 +140,7 @@ class Replay:
     @functools.cached_property
     def halves(self) -> Halves:
         """What tries recipes where a write to their target fails."""
-        return Halves(self.runner, self.turns, self.slots, self.place_of, self.failing)
+        return Halves(self.runner, self.turns, self.slots, self.places_beside, self.failing)
 
     def run(
         self,
@@ -350,14 +350,30 @@ class Replay:
         """Replays one recipe, with these further folders: in memory, where there is room, and
         elsewhere if it needs what memory doesn't have."""
         outcome = None
-        if self.memory is not None:
-            with self.memory.room(self.size_of(trial)) as there:
-                if there:
-                    place = self.memory.place(str(number), self.seen)
-                    outcome = self.replay_in_memory(trial, place, folders)
+        with self.in_memory(trial, str(number)) as place:
+            if place is not None:
+                outcome = self.replay_in_memory(trial, place, folders)
         if outcome is None:
             outcome = self.replay_at(trial, self.place_of(number), folders)
         return replace(outcome, given=folders)
+
+    @contextlib.contextmanager
+    def in_memory(self, trial: Trial, name: str) -> Iterator[Place | None]:
+        """A place in memory for what a recipe reads and writes, where there is room."""
+        if self.memory is None:
+            yield None
+            return
+        with self.memory.room(self.size_of(trial)) as there:
+            yield self.memory.place(name, self.seen) if there else None
+
+    def places_beside(self, trial: Trial, number: int) -> Iterator[Place]:
+        """The places for one more run of a recipe, whose replay may go on meanwhile: in memory,
+        where there is room, and elsewhere."""
+        with self.in_memory(trial, f"{number}.half") as place:
+            if place is not None:
+                yield place
+        place = self.place_of(number)
+        yield replace(place, folder=RealPath(f"{place.folder}.half")) if place.is_bound else place
 
     def size_of(self, trial: Trial) -> int:
         """How many bytes a recipe reads and writes in files of the project."""
@@ -375,7 +391,7 @@ class Replay:
             if not is_full(error):
                 raise
             return None
-        lacks = any(text in outcome.failed for text in LACKS)
+        lacks = any(text in outcome.failed for text in (*LACKS, NO_ROOM))
         return None if lacks else outcome
 
     def replay_at(self, trial: Trial, place: Place, folders: frozenset[Name]) -> Outcome:

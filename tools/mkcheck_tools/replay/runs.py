@@ -18,6 +18,7 @@ from mkcheck_tools.replay.versions import version_of
 from mkcheck_tools.replay.worlds import Trial, entries, stamp_of, stamps_of
 from mkcheck_tools.run import places
 from mkcheck_tools.run.folders import remove
+from mkcheck_tools.run.memory import LACKS
 from mkcheck_tools.run.paths import Name, RealPath, real_in, seen_in
 from mkcheck_tools.run.places import Place
 from mkcheck_tools.run.progress import first_line
@@ -31,6 +32,8 @@ VARIED, HANDED = "varied", "handed"
 LEAST_SECONDS = 60.0
 TIMES_AS_LONG = 20.0
 LINES_SHOWN = 20
+# The clock by which files get their stamps goes on in steps, which are shorter than this.
+STEP = 0.01
 
 
 @dataclass(frozen=True)
@@ -220,12 +223,15 @@ class Runner:
             trial, run, "", tuple(self.comparison.differences(trial, place.folder, laid))
         )
 
-    def leaves_half(self, trial: Trial, place: Place) -> bool:
+    def leaves_half(self, trial: Trial, place: Place) -> bool | None:
         """Whether a recipe leaves its target, which wasn't there, with other contents than whole
-        ones where each write to it fails. The folder is ready for it."""
+        ones where each write to it fails; None where it lacks something in memory. The folder is
+        ready for it."""
         target = Name(trial.recipe.target)
         front = failing(seen_in(place.seen, target))
-        self.run_commands(trial, place, front=front)
+        said = self.run_commands(trial, place, front=front)
+        if place.inner and any(text in said for text in LACKS):
+            return None
         left = version_of(real_in(place.folder, target))
         return left is not None and left != trial.after.get(target)
 
@@ -276,8 +282,8 @@ class Runner:
 
 def wait_for_clock(trial: Trial) -> None:
     """Waits until the clock shows another second than when the recipe ended."""
-    while int(time.time()) <= int(trial.ended):
-        places.pause(0.05)
+    while (left := int(trial.ended) + 1 + STEP - time.time()) > 0:
+        places.pause(left)
 
 
 def folders_in(place: Place) -> frozenset[Name]:

@@ -6,7 +6,14 @@ from collections.abc import Iterable
 from dataclasses import dataclass, field, replace
 
 from mkcheck_tools.answers.checkers import Checker
-from mkcheck_tools.answers.findings import KINDS, Answer, Finding, Group, answer_of
+from mkcheck_tools.answers.findings import (
+    KINDS,
+    Answer,
+    Finding,
+    Group,
+    answer_of,
+    refusal_by,
+)
 from mkcheck_tools.answers.graphs import Graph, read_graph
 from mkcheck_tools.answers.refusals import Refusal, Refused
 from mkcheck_tools.book.note_files import Noted, read_notes
@@ -113,7 +120,8 @@ def graph_and_book(checker: Checker) -> tuple[Graph, Reached]:
     """The graph, and the footprints that count for it."""
     reply = checker.ask("graph")
     if reply.status != 0:
-        raise Refused(visible(reply.text.strip("\n")))
+        refusal = refusal_by(checker)
+        raise Refused(replace(refusal, text=visible(refusal.text)))
     if not reply.text.startswith("goals "):
         raise Fault("mkcheck graph printed no goals")
     graph = read_graph(reply.text)

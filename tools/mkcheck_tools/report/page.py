@@ -8,11 +8,11 @@ from mkcheck_tools import VERSION
 from mkcheck_tools.answers.refusals import OPERAND, Refusal
 from mkcheck_tools.book.note_files import Noted, with_doubts
 from mkcheck_tools.judge.notes import Note
-from mkcheck_tools.report.escaping import as_sentence, clipped, counted, markup, prose, shortened
+from mkcheck_tools.report.escaping import clipped, counted, markup, prose, shortened
 from mkcheck_tools.report.judging import Judged
 from mkcheck_tools.report.makefiles import Makefiles
 from mkcheck_tools.report.panels import findings
-from mkcheck_tools.report.parts import Budget, look_of, place_of
+from mkcheck_tools.report.parts import Budget, look_of
 from mkcheck_tools.report.pictures import (
     EDGES_AT_MOST,
     WHOLE_AT_MOST,
@@ -122,12 +122,7 @@ def refusal(judged: Judged) -> str:
     """What a refusal means, with its line."""
     refused = judged.refusal
     assert refused is not None
-    words = f": {markup(clipped(refused.words))}" if refused.words else ""
-    parts = [
-        f"<h3>{place_of(refused)}{refused.name} ({refused.number}){words}</h3>",
-        f"<p>{prose(as_sentence(refused.sentence))}</p>",
-        line_of(refused, judged),
-    ]
+    parts = [f"<h3>{markup(clipped(refused.sentence))}</h3>", line_of(refused, judged)]
     rest = judged.checker.explain(refused.name).partition("\n")[2].strip("\n")
     if rest:
         parts.append(f"<h4>What {refused.name} means</h4><pre>{markup(rest)}</pre>")

@@ -6,7 +6,6 @@ from collections.abc import Sequence
 from dataclasses import dataclass
 
 from mkcheck_tools.answers.findings import Group
-from mkcheck_tools.answers.refusals import Refusal
 from mkcheck_tools.report.escaping import clipped, counted, markup
 from mkcheck_tools.report.pictures import width_of
 
@@ -28,9 +27,9 @@ class Budget:
         return self.left > 0
 
 
-def place_of(one: Group | Refusal) -> str:
-    """The place of a group or a refusal, if it has one."""
-    place = f"{one.file}:{one.line}" if one.line else one.file
+def place_of(group: Group) -> str:
+    """The place of a group, if it has one."""
+    place = f"{group.file}:{group.line}" if group.line else group.file
     return f'<span class="place">{markup(clipped(place))}:</span> ' if place else ""
 
 

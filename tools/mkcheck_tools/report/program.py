@@ -96,10 +96,7 @@ def answer_of(judged: Judged) -> str:
         if judged.findings:
             return f"no, {judged.counts}"
         return with_doubts(judged.yes or judged.answer, judged.noted)
-    words = f"{one.words}: " if one.words else ""
-    place = f"{one.file}:{one.line}: " if one.line else ""
-    said = f"{place}{one.name} ({one.number}): {words}{one.sentence}".replace("\n", " ")
-    return f"{judged.answer}, {visible(clipped(said))}"
+    return f"{judged.answer}, {visible(clipped(one.sentence.replace(chr(10), ' ')))}"
 
 
 def output_of(asked: argparse.Namespace, checker: Checker) -> str | None:

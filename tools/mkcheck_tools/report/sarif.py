@@ -98,9 +98,9 @@ def sarif(judged: Judged) -> str:
         for group, level in ordered[:RESULTS_AT_MOST]
     ]
     if judged.refusal is not None:
-        name, sentence = judged.refusal.name, judged.refusal.sentence
+        name = judged.refusal.name
         results.append(result_of_refusal(judged.refusal, len(rules), judged.makefile))
-        rules.append(rule(name, sentence, judged.checker.explain(name), "error"))
+        rules.append(rule(name, *judged.checker.explained(name), "error"))
     invocation: Value = {
         "executionSuccessful": judged.refusal is None,
         "exitCode": judged.status,
@@ -236,13 +236,12 @@ def result_of_refusal(refusal: Refusal, index: int, makefile: str) -> Value:
     """A refusal as a result."""
     is_there = refusal.is_of_file and os.path.isfile(refusal.file or "")
     file = refusal.file if is_there else None
-    words = f"{refusal.words}: " if refusal.words else ""
     line = refusal.shown(makefile)
     shown = f"\n{line}" if line else ""
     return {
         "ruleId": refusal.name,
         "ruleIndex": index,
         "level": "error",
-        "message": text(f"{words}{refusal.sentence} ({refusal.text}){shown}"),
+        "message": text(f"{refusal.sentence} ({refusal.text}){shown}"),
         "locations": [location(file or makefile, refusal.line if file else None)],
     }

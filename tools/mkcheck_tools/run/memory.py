@@ -28,8 +28,9 @@ TIMES = 4
 MORE = 16 << 20
 READY = b"ready\n"
 HOLD = ' -t tmpfs -o "$1" mkcheck-record "$2" && echo ready && exec cat > /dev/null'
-# What a command says where the file system has no room, or lacks something that disks have.
-LACKS = ("No space left on device", "Operation not supported", "Cannot allocate memory")
+# What a command says where the file system lacks something that disks have, or has no room.
+LACKS = ("Operation not supported", "Cannot allocate memory")
+NO_ROOM = "No space left on device"
 
 
 @dataclass

@@ -11,6 +11,7 @@ from __future__ import annotations
 
 import contextlib
 import functools
+import math
 import os
 import select
 import shlex
@@ -19,6 +20,7 @@ import signal
 import subprocess
 import tempfile
 import threading
+import time
 from collections.abc import Iterable, Iterator, Mapping, Sequence
 from dataclasses import dataclass
 from pathlib import Path
@@ -276,7 +278,7 @@ def run(
             source = output = source.inner
         with started(words, place.seen, environment, output, source) as process:
             try:
-                status, timed_out = process.wait(seconds), False
+                status, timed_out = waited(process, seconds), False
             except subprocess.TimeoutExpired:
                 status, timed_out = -signal.SIGKILL, True
         file.seek(0)
@@ -327,8 +329,9 @@ def started(
                 _running.pop(process.pid, None)
 
 
-def waited(process: subprocess.Popen[bytes]) -> int:
-    """Waits for a process, and gives its status.
+def waited(process: subprocess.Popen[bytes], seconds: float | None = None) -> int:
+    """Waits for a process, and gives its status as soon as it has ended, which `Popen.wait` with a
+    time only does some 50 ms later. Raises `TimeoutExpired` after so many seconds.
 
     A signal that comes just before a wait begins, or that another thread takes, doesn't end that;
     so this wakes now and then.
@@ -336,12 +339,14 @@ def waited(process: subprocess.Popen[bytes]) -> int:
     try:
         descriptor = os.pidfd_open(process.pid)
     except (AttributeError, OSError):
-        return process.wait()
+        return process.wait(seconds)
+    until = math.inf if seconds is None else time.monotonic() + seconds
     try:
         poll = select.poll()
         poll.register(descriptor, select.POLLIN)
-        while not poll.poll(WAKING):
-            continue
+        while not poll.poll(min(WAKING, max(0.0, 1000 * (until - time.monotonic())))):
+            if seconds is not None and time.monotonic() >= until:
+                raise subprocess.TimeoutExpired(process.args, seconds)
     finally:
         os.close(descriptor)
     return process.wait()
