@@ -534,7 +534,7 @@ class World:
 
 def above(name: Name) -> Name:
     """The name of the folder in which a file lies; nothing for the project's own."""
-    return Name(name.rpartition("/")[0])
+    return Name(os.path.dirname(name))
 
 
 def mode_of(path: RealPath) -> int:
