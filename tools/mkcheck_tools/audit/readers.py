@@ -26,6 +26,8 @@ STARTS_MAKE = re.compile(r"(?:^|[\s;&|(])g?make(?:\s|$)")
 REFUSED_AT = re.compile(r"refused \d+ (?!operand:|goal:|\(default\):)(\S+:\d+)$", re.MULTILINE)
 # What a folder of a configured build holds, beside the build itself.
 CONFIGURED = ("CMakeCache.txt", os.path.join("meson-private", "coredata.dat"))
+# The line of CMake's cache that names the folder of the sources.
+HOME = re.compile(r"^CMAKE_HOME_DIRECTORY:INTERNAL=(.+)$", re.MULTILINE)
 # What has to be run where a project has no build yet.
 BEFORE = (
     ("CMakeLists.txt", "run `cmake -S . -B build`"),
@@ -70,6 +72,7 @@ class Reader:
 
 def picked(wanted: Wanted) -> Reader:
     """The reader for a project. Raises Fault where there is nothing to read."""
+    refuse_build_folder(Path(wanted.root))
     below = found_below(wanted)
     folder = Path(wanted.root, below)
     file = wanted.makefile or first_of(folder)
@@ -87,6 +90,19 @@ def picked(wanted: Wanted) -> Reader:
     if below != "." or reason:
         return Reader(MAKE, below, file, f"GNU make reads it{f', since {reason}' * bool(reason)}")
     return Reader(POSIX, ".", file, "POSIX defines make")
+
+
+def refuse_build_folder(root: Path) -> None:
+    """Refuses the build folder of CMake below a project's: its recipes read the sources above it."""
+    cache = root / CONFIGURED[0]
+    told = HOME.search(cache.read_text(errors="replace")) if cache.is_file() else None
+    home = Path(told[1]).resolve() if told else root
+    if home in root.resolve().parents:
+        below = root.resolve().relative_to(home)
+        raise Fault(
+            f"{root} is a build folder, whose sources lie in {home}: give that folder with -C, and"
+            f" this one with -S {below}"
+        )
 
 
 def found_below(wanted: Wanted) -> str:
