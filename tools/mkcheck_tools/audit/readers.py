@@ -93,7 +93,7 @@ def picked(wanted: Wanted) -> Reader:
 
 
 def refuse_build_folder(root: Path) -> None:
-    """Refuses the build folder of CMake below a project's: its recipes read the sources above it."""
+    """Refuses the build folder of CMake below a project's: recipes read the sources above it."""
     cache = root / CONFIGURED[0]
     told = HOME.search(cache.read_text(errors="replace")) if cache.is_file() else None
     home = Path(told[1]).resolve() if told else root
