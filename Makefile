@@ -13,7 +13,7 @@ CHECKED =
 
 all: build
 
-# The program, optimized and not proved, in one to three minutes. A bin/mkcheck that
+# The program, optimized and not proved, in two to four minutes. A bin/mkcheck that
 # is newer than all sources stays as it is, also a proved one.
 build:
 	@python3 tools/quick.py bin/mkcheck

@@ -168,7 +168,7 @@ def main() -> None:
     program = Path(sys.argv[1])
     if is_up_to_date(program):
         return
-    print(f"building {program} without proving it: one to three minutes", flush=True)
+    print(f"building {program} without proving it: two to four minutes", flush=True)
     start = time.monotonic()
     program.parent.mkdir(parents=True, exist_ok=True)
     origin = kit()
