@@ -21,7 +21,7 @@ from mkcheck_tools.book.formats import first
 from mkcheck_tools.faults import Fault
 from mkcheck_tools.report.books import Reached
 
-# So many reads take mkcheck some milliseconds.
+# How many reads mkcheck answers for in no time that a person notices.
 FEW_READS = 2_000
 
 # Gives the plan that shows a finding.

@@ -330,8 +330,8 @@ def started(
 
 
 def waited(process: subprocess.Popen[bytes], seconds: float | None = None) -> int:
-    """Waits for a process, and gives its status as soon as it has ended, which `Popen.wait` with a
-    time only does some 50 ms later. Raises `TimeoutExpired` after so many seconds.
+    """Waits for a process, and gives its status as soon as it has ended: `Popen.wait` with a time
+    only looks now and then. Raises `TimeoutExpired` after so many seconds.
 
     A signal that comes just before a wait begins, or that another thread takes, doesn't end that;
     so this wakes now and then.
