@@ -12,7 +12,7 @@ from collections.abc import Iterator, Sequence
 from pathlib import Path
 
 from case_file import Answer, Case, CaseError, Section
-from json_answers import misspoken
+from json_answers import OTHERS, misprinted, misspoken
 
 SECONDS = 60
 FOOTPRINTS = "footprint.json"
@@ -175,13 +175,15 @@ def broken_promises(
 ) -> Iterator[str]:
     """What is wrong about an answer that must lead to another one: with the lines of `repair` the
     answer is yes, `verify` accepts the certificate of a yes, but not for other goals, and
-    `check --json` says what `check` says."""
-    if words[0] == "repair" and answer.status == 0 and answer.output:
+    each command says with `--json` what it says without it."""
+    if words[0] == "repair" and answer.status == 0 and answer.output and "--json" not in words:
         yield from repaired(program, folder, words, answer.output)
     if words[0] == "check" and answer.output.startswith(b"yes "):
         yield from certified(program, folder, words, answer.output.splitlines()[0])
     if words[0] == "check":
         yield from misspoken(lambda words: ask(program, words, folder), words)
+    elif words[0] in OTHERS:
+        yield from misprinted(lambda words: ask(program, words, folder), words)
 
 
 def repaired(program: Path, folder: Path, words: Sequence[str], lines: bytes) -> Iterator[str]:

@@ -1,5 +1,5 @@
-"""What is wrong about `check --json`: its answer must have the form of docs/answer.schema.json, and
-say what `check`, `check -c` and `check -w` say of the same files."""
+"""What is wrong about `--json`: its answer must have the form of docs/answer.schema.json, and say what
+the command says without it, `check` also with `-c` and `-w`."""
 
 from __future__ import annotations
 
@@ -18,6 +18,7 @@ EVIDENCE = re.compile(r"-e\+?\d+")
 SEEN = "once these are mended, as far as can be seen now:"
 UNSEEN = "once these are mended, check again: races and stale reads may show"
 LEFT_OUT = re.compile(r"  (?:targets|files): ")
+OTHERS = ("graph", "repair", "verify", "simulate")
 SCHEMA = Path(__file__).resolve().parents[2] / "docs" / "answer.schema.json"
 
 
@@ -121,6 +122,37 @@ def said_of(value: dict[str, Any], plain: Answer, ask: Asks, rest: list[str]) ->
     if plain.status == 1:
         return said_of_no(value, plain, ask(["check", "-w", *rest]), rest)
     return list(said_of_refusal(value, plain, ask(["check", "-w", *rest])))
+
+
+def printed_of(value: dict[str, Any]) -> tuple[str, str]:
+    """What a command other than `check` prints on both streams, by its answer as JSON."""
+    if "printed" not in value:
+        output = value.get("lines", "") + value.get("text", "")
+        newline = "\n" if value["answer"] == "refused" else ""
+        return output + newline, value.get("reason", "")
+    if value["answer"] == "yes":
+        return value["printed"] + "plan ok\n", ""
+    return f"{value['printed']}{value['text']}\n{value['left']}", ""
+
+
+def misprinted(ask: Asks, words: Sequence[str]) -> Iterator[str]:
+    """What is wrong about the answer as JSON to another command than `check`."""
+    rest = [word for word in words[1:] if word not in ("--json", "-w")]
+    plain = ask([words[0], *rest])
+    if plain.status not in (0, 1, 2):
+        return
+    given = ask([words[0], "--json", *rest])
+    if plain.errors.startswith(b"error: "):
+        if given != plain:
+            yield "`--json` has other errors"
+        return
+    if given.status != plain.status or given.errors:
+        yield f"`--json` ends with status {given.status}"
+    value = json.loads(given.output)
+    wrong = [error.message for error in form().iter_errors(value)]
+    if not wrong and printed_of(value) != (decoded(plain.output), decoded(plain.errors)):
+        wrong = ["it is another answer"]
+    yield from (f"`--json` prints {given.output.decode()}{said}" for said in wrong)
 
 
 def misspoken(ask: Asks, words: Sequence[str]) -> Iterator[str]:

@@ -214,7 +214,7 @@ def named() -> Iterator[Row]:
         ("13 operand:1", ["X::=$(Y"]),
         ("16 operand:1", ["X::=$"]),
         ("17 operand:1", ["X::=$%"]),
-        ("27 ./m", ["-f", "./m"]),
+        ("27 .//m", ["-f", ".//m"]),
         ("37 gone", ["-f", "gone"]),
         ("35 /etc", ["-f", "/etc"]),
         (f"35 {LONG}", ["-f", LONG]),

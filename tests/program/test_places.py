@@ -40,7 +40,11 @@ PLACES = [
     Run(["check", "-b", "."], 2, "refused 35 .\n"),
     Run(["graph", "-f", "/etc", "1+=2"], 2, "refused 11 operand:1\n"),
 ]
-UNMENDED = "no record a.o\nno record p\nno lines mend this; mkcheck check -w says what to do\n"
+UNMENDED = (
+    "no record a.o\nno record p\n"
+    "no line mends `no record a.o`: nothing says what its recipe reads; mkcheck check -w says what to"
+    " do\n"
+)
 PIPES = [
     Run(["graph", "-f", "/dev/stdin"], 0, GRAPH, stdin=RULES),
     Run(["check", "-b", "/dev/stdin"], 0, WAYS, stdin=RECORDS),

@@ -66,7 +66,8 @@ def test_a_makefile_is_judged_64_times(tmp_path: Path) -> None:
     """What a 65th round would mend is told."""
     tried = [f"tried r{n}: s{n + 1}" for n in range(63)]
     said = "with these lines mkcheck check says:"
-    lines = ["no stale r0 s1", *tried, said, "no stale r63 s64"]
+    limit = "the makefile was judged 64 times: append these lines, and run mkcheck repair again"
+    lines = ["no stale r0 s1", *tried, said, "no stale r63 s64", limit]
     assert_repair(1, lines_of(lines), chain(64), tmp_path)
 
 
@@ -137,9 +138,12 @@ def test_right_examples_lack_nothing(tmp_path: Path) -> None:
 
 
 def test_two_writers_of_awk_are_not_mended(tmp_path: Path) -> None:
-    """The findings are printed, as they are stored, and that no lines are known."""
+    """The findings are printed, as they are stored, and why no lines are known."""
     found = (EXAMPLES / "awk" / "check.txt").read_text()
-    found += "no lines mend this; mkcheck check -w says what to do\n"
+    found += (
+        "no line mends `no writers awkgram.tab.c awkgram.tab.h awkgram.tab.h`: two recipes write"
+        " one file; mkcheck check -w says what to do\n"
+    )
     assert_repair(1, found, example("awk", "makefile"), tmp_path)
 
 

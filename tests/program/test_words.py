@@ -15,11 +15,12 @@ PROGRAM_USAGE = "\n\nUsage: mkcheck <COMMAND>" + HINT
 CHECK_USAGE = (
     "\n\nUsage: mkcheck check [-f F] [-r] -b BOOK [-c] [-w] [-e N] [--json] [WORD]..." + HINT
 )
-GRAPH_USAGE = "\n\nUsage: mkcheck graph [-f F] [-r] [-b BOOK] [-c] [WORD]..." + HINT
-REPAIR_USAGE = "\n\nUsage: mkcheck repair [-f F] [-r] -b BOOK [WORD]..." + HINT
-VERIFY_USAGE = "\n\nUsage: mkcheck verify [-f F] [-r] -b BOOK -k CERT [WORD]..." + HINT
-SIMULATE_USAGE = "\n\nUsage: mkcheck simulate [-f F] [-r] -b BOOK -p PLAN [WORD]..." + HINT
-AS_VALUE = "error: unexpected argument '{0}' found\n\n  tip: to pass '{0}' as a value, use '-- {0}'"
+GRAPH_USAGE = "\n\nUsage: mkcheck graph [-f F] [-r] [-b BOOK] [-c] [-w] [--json] [WORD]..." + HINT
+REPAIR_USAGE = "\n\nUsage: mkcheck repair [-f F] [-r] -b BOOK [-w] [--json] [WORD]..." + HINT
+VERIFY_USAGE = "\n\nUsage: mkcheck verify [-f F] [-r] -b BOOK -k CERT [-w] [--json] [WORD]..." + HINT
+SIMULATE_USAGE = "\n\nUsage: mkcheck simulate [-f F] [-r] -b BOOK -p PLAN [-w] [--json] [WORD]..." + HINT
+UNEXPECTED = "error: unexpected argument '{0}' found"
+BAD_NUMBER = "error: -e takes the number of a finding, a whole number from 1 on" + HINT
 EXPLAIN_USAGE = "\n\nUsage: mkcheck explain [WORD]..." + HINT
 MISSING = "error: the following required arguments were not provided:\n  "
 NO_TEXT = "error: a word of the command line is not UTF-8\n"
@@ -29,16 +30,21 @@ HELP = [
     (["--help"], "mkcheck"),
     (["-h"], "mkcheck"),
     (["check", "-h"], "check"),
+    (["help"], "mkcheck"),
+    (["help", "check"], "check"),
     *(([name, "--help"], name) for name in "graph check repair verify simulate explain".split()),
 ]
 REJECTED = [
-    Run(["explain", "-b", "B"], 2, err=AS_VALUE.format("-b") + EXPLAIN_USAGE),
+    Run(["explain", "-b", "B"], 2, err=UNEXPECTED.format("-b") + EXPLAIN_USAGE),
     Run(["frob"], 2, err="error: unrecognized subcommand 'frob'" + PROGRAM_USAGE),
     Run(["-x"], 2, err="error: unexpected argument '-x' found" + PROGRAM_USAGE),
     Run(["check"], 2, err=MISSING + "-b <BOOK>" + CHECK_USAGE),
     Run(["check", "-w"], 2, err=MISSING + "-b <BOOK>" + CHECK_USAGE),
-    Run(["check", "-w", "-b", "B", "-x"], 2, err=AS_VALUE.format("-x") + CHECK_USAGE),
-    Run(["graph", "-w"], 2, err=AS_VALUE.format("-w") + GRAPH_USAGE),
+    Run(["check", "-w", "-b", "B", "-x"], 2, err=UNEXPECTED.format("-x") + CHECK_USAGE),
+    Run(["check", "-b", "B", "--", "-x", "-j"], 2, "refused 41 -x\n"),
+    Run(["graph", "-e"], 2, err=UNEXPECTED.format("-e") + GRAPH_USAGE),
+    Run(["check", "-b", "B", "-e", "x"], 2, err=BAD_NUMBER),
+    Run(["check", "-b", "B", "-e", "0"], 2, err=BAD_NUMBER),
     Run(["repair"], 2, err=MISSING + "-b <BOOK>" + REPAIR_USAGE),
     Run(["verify", "-b", "B"], 2, err=MISSING + "-k <CERT>" + VERIFY_USAGE),
     Run(["simulate", "-b", "B"], 2, err=MISSING + "-p <PLAN>" + SIMULATE_USAGE),
@@ -51,7 +57,6 @@ REJECTED = [
 # Options that are missing, come twice, have a bad value or belong to another command.
 OTHERS = """
 
-help
 graph -x
 graph --file makefile
 graph -f
@@ -77,7 +82,6 @@ repair -b
 repair -b B -c
 repair -b B -e 1
 repair -b B -k K
-repair -w -b B
 explain -b B
 explain -f F
 """

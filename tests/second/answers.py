@@ -1,4 +1,4 @@
-"""`check --json`: the answer as a JSON value."""
+"""`--json`: the answers as JSON values."""
 
 from __future__ import annotations
 
@@ -6,19 +6,21 @@ import json
 
 from judge import Finding, Subject
 from lines import Refused
-from reading import Makefile
+from reading import Files, Makefile
 from sentences import (
     PSEUDO,
     Group,
     advice,
     grouped,
     in_words,
+    line_of,
     lines,
     name_of,
     place_of,
     seen_later,
     sentence,
 )
+from world import Run
 
 # An object of JSON.
 Value = dict[str, object]
@@ -99,7 +101,40 @@ def place_of_fault(fault: Refused) -> Value | None:
     return {"file": file.decode("utf-8"), "line": int(line)}
 
 
-def refusal_value(fault: Refused) -> Value:
+def printed_value(text: bytes) -> Value:
+    """The value of a graph, and of a certificate that is accepted."""
+    return {"answer": "yes", "format": 1, "text": decoded(text)}
+
+
+def run_value(run: Run) -> Value:
+    """The value of the run of a plan."""
+    if run.refused is None:
+        return {"answer": "yes", "format": 1, "printed": decoded(run.printed)}
+    return {
+        "answer": "refused",
+        "format": 1,
+        "left": decoded(run.left),
+        "line": run.line,
+        "printed": decoded(run.printed),
+        "sentence": decoded(in_words(run.refused)),
+        "text": decoded(run.refused.line()),
+    }
+
+
+def repair_value(text: bytes, status: int) -> Value:
+    """The value of the lines that mend a makefile, or of why there are none."""
+    if status:
+        return {"answer": "no", "format": 1, "reason": decoded(text)}
+    return {"answer": "yes", "format": 1, "lines": decoded(text)}
+
+
+def source_of(fault: Refused, files: Files) -> str | None:
+    """The line of the file that is shown, without the blanks before it."""
+    line = line_of(fault, files)
+    return decoded(line[2:-1]) if line else None
+
+
+def refusal_value(fault: Refused, files: Files) -> Value:
     """The value of a refusal."""
     return {
         "answer": "refused",
@@ -108,5 +143,6 @@ def refusal_value(fault: Refused) -> Value:
         "number": fault.number,
         "place": place_of_fault(fault),
         "sentence": decoded(in_words(fault)),
+        "source": source_of(fault, files),
         "text": decoded(fault.line()),
     }

@@ -233,6 +233,14 @@ def case_of(rng: Random, command: str) -> Case:
         return case_in_words(rng)
     if command == "json":
         return case_in_json(rng)
+    case = case_in_lines(rng, command)
+    if command != "check" and rng.random() < 0.15:
+        case.words[1:1] = [rng.choice(["-w", "--json"])]
+    return case
+
+
+def case_in_lines(rng: Random, command: str) -> Case:
+    """A case of a command whose answer is printed in lines."""
     if command == "repair" and rng.random() < 0.85:
         return lacking_case(rng)
     share = {"graph": 0.0, "check": 0.75, "repair": 0.9, "verify": 0.9, "simulate": 0.9}[command]

@@ -11,10 +11,27 @@ from reading import Files, Found
 from request import FILE_LIMIT, Request, prepared
 
 JUDGEMENTS = 64
-NOTHING = b"no lines mend this; mkcheck check -w says what to do\n"
+ADVICE = b"; mkcheck check -w says what to do\n"
+OTHERS = b"lines for the other findings:\n"
+UNWRITABLE = b"a makefile can't hold its names"
+# Why no line mends a finding of this kind.
+CAUSES = {
+    b"record": b"nothing says what its recipe reads",
+    b"commands": b"it was recorded with other commands",
+    b"varying": b"its commands differ from make to make",
+    b"target": b"its recipe doesn't write it, and it can't be phony",
+    b"writers": b"two recipes write one file",
+    b"given": b"a recipe writes what the build starts from",
+    b"own": b"a recipe reads what it writes",
+    b"unknown": b"no target alone is known to make the file",
+    b"loose": b"the recipe that writes it needs it",
+    b"selection": b"another inference rule applies later",
+}
 TOO_LONG = b"with the lines that mend this the makefile would have more than 16777216 bytes\n"
 CYCLE = b"no lines mend this, since each of these names needs the next one:"
 AGAIN = b"these lines change commands: append them, and record again\n"
+JUDGED = b"the makefile was judged 64 times: append these lines, and run mkcheck repair again\n"
+LONGER = b"with further lines the makefile would have more than 16777216 bytes\n"
 SIDE_LIMIT = 2000
 
 
@@ -99,8 +116,8 @@ def is_inferred(subject: Subject, target: bytes) -> bool:
     return subject.rules.own_commands(target) is None
 
 
-def word_of(subject: Subject, finding: Finding) -> Word | None:
-    """The word of a finding, or None."""
+def word_for(subject: Subject, finding: Finding) -> Word | None:
+    """The word of a finding, whatever its names are, or None."""
     kind, first = finding[:2]
     word = None
     if kind == b"target":
@@ -113,16 +130,28 @@ def word_of(subject: Subject, finding: Finding) -> Word | None:
         word = Word(first, maker(subject, finding[-1]))
     elif kind == b"unknown" and len(makers(subject, finding[2])) == 1:
         word = Word(first, makers(subject, finding[2])[0])
+    return word
+
+
+def word_of(subject: Subject, finding: Finding) -> Word | None:
+    """The word of a finding, or None."""
+    word = word_for(subject, finding)
     if word is None or not all(name is None or is_make_name(name) for name in word):
         return None
     return word
 
 
+def some_words(subject: Subject, findings: list[Finding]) -> list[Word]:
+    """The words of those findings that give one, each once."""
+    found = [word_of(subject, finding) for finding in findings]
+    return list(dict.fromkeys(word for word in found if word is not None))
+
+
 def words_of(subject: Subject, findings: list[Finding]) -> list[Word] | None:
     """The words of all findings, each once, or None where one gives none."""
-    found = [word_of(subject, finding) for finding in findings]
-    words = [word for word in found if word is not None]
-    return list(dict.fromkeys(words)) if len(words) == len(found) else None
+    if any(word_of(subject, finding) is None for finding in findings):
+        return None
+    return some_words(subject, findings)
 
 
 # Lines.
@@ -161,6 +190,15 @@ def lines_of(words: list[Word]) -> list[bytes]:
     for needed, targets in alike.items():
         lines += lines_between(targets, list(needed))
     return lines
+
+
+def obstacle(subject: Subject, findings: list[Finding]) -> bytes:
+    """Why the first finding without a word has none, and the lines of the others."""
+    stuck = next(finding for finding in findings if word_of(subject, finding) is None)
+    cause = CAUSES[stuck[0]] if word_for(subject, stuck) is None else UNWRITABLE
+    said = b"no line mends `" + b" ".join([b"no"] + stuck) + b"`: " + cause + ADVICE
+    lines = lines_of(some_words(subject, findings))
+    return said + (OTHERS + b"".join(b"  add: " + line for line in lines) if lines else b"")
 
 
 # What nodes need.
@@ -208,47 +246,50 @@ def repaired(request: Request, files: Files) -> tuple[bytes, int]:
         return b"", 0
     words = words_of(subject, findings)
     if words is None:
-        return printed(findings) + NOTHING, 1
+        return printed(findings) + obstacle(subject, findings), 1
     cycle = first_cycle(subject)
     if cycle:
         return printed(findings) + b" ".join([CYCLE] + cycle) + b"\n", 1
-    lines, reason = mended(request, files, name, words)
+    lines, text, reason = mended(request, files, name, words)
     if reason is None:
-        return b"\n" + b"".join(lines), 0
+        return text, 0
     if not lines:
         return printed(findings) + TOO_LONG, 1
     tried = b"".join(b"tried " + line for line in lines)
-    said = b"with these lines mkcheck check says:\n" + reason
-    if any(line.startswith(b"no commands ") for line in reason.splitlines()):
-        said += AGAIN
-    return printed(findings) + tried + said, 1
+    return printed(findings) + tried + b"with these lines mkcheck check says:\n" + reason, 1
+
+
+def told(findings: list[Finding], limit: bytes = b"") -> bytes:
+    """What is said of the findings that there are with the lines that were tried last."""
+    again = any(finding[0] == b"commands" for finding in findings)
+    return printed(findings) + (AGAIN if again else b"") + limit
 
 
 def mended(
     request: Request, files: Files, name: bytes, words: list[Word]
-) -> tuple[list[bytes], bytes | None]:
-    """The lines that mend the makefile, and None; or those that were tried last, and what `check`
-    says with them."""
+) -> tuple[list[bytes], bytes, bytes | None]:
+    """The lines that mend the makefile, the text to append, and None; or those that were tried
+    last, and what is said of them."""
     found = files.read(name)
     assert isinstance(found, bytes)
-    size = len(found)
+    start = b"\n\n" if found.endswith(b"\\") else b"\n"
     tried: list[bytes] = []
-    said = b""
+    findings: list[Finding] = []
     for _ in range(JUDGEMENTS - 1):
         lines = lines_of(words)
-        text = b"\n" + b"".join(lines)
-        if size + len(text) > FILE_LIMIT:
-            break
+        text = start + b"".join(lines)
+        if len(found) + len(text) > FILE_LIMIT:
+            return tried, b"", told(findings, LONGER)
         try:
             subject, _name = judged(request, Appended(files, name, text))
         except Refused as fault:
-            return lines, fault.line() + b"\n"
+            return lines, b"", fault.line() + b"\n"
         findings = subject.findings()
         if not findings:
-            return lines, None
-        tried, said = lines, printed(findings)
+            return lines, text, None
+        tried = lines
         more = words_of(subject, findings)
         if more is None or set(more) <= set(words):
-            break
+            return tried, b"", told(findings)
         words = list(dict.fromkeys(words + more))
-    return tried, said
+    return tried, b"", told(findings, JUDGED)

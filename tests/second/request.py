@@ -45,7 +45,7 @@ class Request:
     """The words of a command line, told apart."""
 
     VALUES = {"graph": "fb", "check": "fbe", "repair": "fb", "verify": "fbk", "simulate": "fbp"}
-    FLAGS = {"graph": "rc", "check": "rcw", "repair": "r", "verify": "r", "simulate": "r"}
+    FLAGS = {"graph": "rcw", "check": "rcw", "repair": "rw", "verify": "rw", "simulate": "rw"}
     NEEDED = {"graph": "", "check": "b", "repair": "b", "verify": "bk", "simulate": "bp"}
 
     def __init__(self, arguments: list[str]) -> None:
@@ -66,8 +66,11 @@ class Request:
         self.finding = finding
         if self.in_json:
             self.values.pop("e", None)
-            self.flags -= {"c", "w"}
+            self.flags -= {"w"} if self.command == "graph" else {"c", "w"}
         self.in_words = "w" in self.flags and "e" not in self.values
+        if "f" in self.values:
+            name = self.values["f"].removeprefix(b"./")
+            self.values["f"] = self.values["f"] if name[:1] in (b"", b"/") else name
         self.operands = [word for word in self.words if b"=" in word]
         self.goals = [word for word in self.words if b"=" not in word]
 
@@ -79,7 +82,7 @@ class Request:
                 break
             if word == "-" or not word.startswith("-"):
                 self.words.append(os.fsencode(word))
-            elif word == "--json" and self.command == "check":
+            elif word == "--json":
                 self.in_json = True
             elif word[1:] in list(self.FLAGS[self.command]):
                 self.flags.add(word[1:])

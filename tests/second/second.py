@@ -6,7 +6,14 @@ from __future__ import annotations
 import sys
 from collections.abc import Sequence
 
-from answers import refusal_value, shown, verdict_value
+from answers import (
+    printed_value,
+    refusal_value,
+    repair_value,
+    run_value,
+    shown,
+    verdict_value,
+)
 from evidence import plan_of_finding
 from judge import Subject
 from lines import Refused
@@ -14,31 +21,49 @@ from reading import Files
 from repair import printed, repaired
 from request import Disk, Request, Usage, file_of, prepared
 from sentences import in_sentences, in_words, line_of
-from world import World, read_plan, run_plan
+from world import Run, World, read_plan, run_plan
 
 sys.setrecursionlimit(20000)
+
+NOTHING_JUDGED = b"the goals reach no recipe, so nothing was judged; name other goals"
 
 
 def answer(request: Request, files: Files) -> tuple[bytes, int]:
     """What is printed, and the status."""
     if request.command == "repair":
-        return repaired(request, files)
+        text, status = repaired(request, files)
+        return (shown(repair_value(text, status)) if request.in_json else text), status
     graph, book, passed_over = prepared(request, files)
     if request.command == "graph":
-        return graph.text("c" in request.flags), 0
+        return printed_text(request, graph.text("c" in request.flags)), 0
     if request.command == "simulate":
-        text, refused = run_plan(World(graph, book), read_plan(file_of(files, request.values["p"])))
-        return text, 2 if refused else 0
+        run = run_plan(World(graph, book), read_plan(file_of(files, request.values["p"])))
+        return run_text(request, run), 2 if run.refused else 0
     subject = Subject(graph, book, passed_over)
     if request.command == "verify":
         subject.verify(file_of(files, request.values["k"]))
-        return subject.counts() + b"\n", 0
+        return printed_text(request, subject.counts() + b"\n"), 0
     if request.in_json:
         value = verdict_value(subject)
         return shown(value), 0 if value["answer"] == "yes" else 1
     if "e" in request.values and subject.findings():
         return plan_of_finding(subject, book, request.finding), 1
     return verdict(subject, request)
+
+
+def printed_text(request: Request, text: bytes) -> bytes:
+    """A text, as it is printed."""
+    return shown(printed_value(text)) if request.in_json else text
+
+
+def run_text(request: Request, run: Run) -> bytes:
+    """The run of a plan, as it is printed."""
+    if request.in_json:
+        return shown(run_value(run))
+    if run.refused is None:
+        return run.printed + b"plan ok\n"
+    fault = in_words(run.refused) if request.in_words else run.refused.line()
+    return run.printed + fault + b"\n" + run.left
 
 
 def verdict(subject: Subject, request: Request) -> tuple[bytes, int]:
@@ -50,6 +75,8 @@ def verdict(subject: Subject, request: Request) -> tuple[bytes, int]:
     lines = [subject.counts()]
     for way in subject.ways():
         lines.append(b" ".join([b"way", way.recipe, way.file, way.end] + way.path))
+    if request.in_words and lines[0].startswith(b"yes 0 "):
+        lines.append(NOTHING_JUDGED)
     return b"".join(line + b"\n" for line in lines), 0
 
 
@@ -63,7 +90,7 @@ def answered(arguments: Sequence[str], files: Files) -> tuple[bytes, int]:
         return answer(request, files)
     except Refused as fault:
         if request.in_json:
-            return shown(refusal_value(fault)), 2
+            return shown(refusal_value(fault, files)), 2
         if request.in_words:
             return in_words(fault) + b"\n" + line_of(fault, files), 2
         return fault.line() + b"\n", 2

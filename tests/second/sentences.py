@@ -423,7 +423,9 @@ def line_of(fault: Refused, files: Files) -> bytes:
     if fault.where is None:
         return b""
     name, _, number = fault.where.rpartition(b":")
-    found = None if name in PSEUDO else files.read(name)
+    if name in PSEUDO or name.startswith((b"/", b"../")):
+        return b""
+    found = files.read(name)
     if found is None or found == "failed":
         return b""
     lines = found.split(b"\n")

@@ -279,7 +279,7 @@ def read_plan(data: bytes) -> Plan:
             if told and not told[0].startswith(b"#"):
                 plan.append((number, plan_line(told)))
         except ValueError:
-            raise Refused(69, b"line", str(number).encode())
+            raise Refused(69, b"line", str(number).encode(), name="BadPlanLine")
     return plan
 
 
@@ -325,16 +325,25 @@ def take(world: World, line: PlanLine) -> None:
         }[word](names[0])
 
 
-def run_plan(world: World, plan: Plan) -> tuple[bytes, bool]:
-    """What the run of a plan prints, and whether a line was refused."""
-    text = []
+class Run(NamedTuple):
+    """The run of a plan: what its lines print, the fault of the line that is refused with the number
+    of that line, and the files that are left then."""
+
+    printed: bytes
+    refused: Refused | None = None
+    line: int = 0
+    left: bytes = b""
+
+
+def run_plan(world: World, plan: Plan) -> Run:
+    """The run of a plan in a world."""
+    printed = b""
     for number, line in plan:
         try:
             take(world, line)
         except Fault as fault:
-            text.append(b"refused %d line %d\n" % (fault.args[0], number))
-            text.append(world.listing())
-            return b"".join(text), True
+            refused = Refused(fault.args[0], b"line", b"%d" % number)
+            return Run(printed, refused, number, world.listing())
         if line.word == b"end":
-            text.append(world.listing())
-    return b"".join(text + [b"plan ok\n"]), False
+            printed += world.listing()
+    return Run(printed)

@@ -17,7 +17,9 @@ use Rattle.std.specs.Prelude.{slice_index_or}
 use Rattle.std.proofs.lemmas.Bool.{or_parts}
 use Rattle.mk_command.specs.CommandLine.{HasNoOption, command_line, graph_words, is_option}
 use Rattle.mk_core.specs.declared.request.Request.{Request}
-use Rattle.mk_command.specs.Invocation.{invocation_of, asked_with, asking, faults_of, requested}
+use Rattle.mk_command.specs.Invocation.{invocation_of, asked_with, asking, faults_of, form_by, requested}
+use Rattle.mk_command.specs.declared.invocation.Form.TheVariants.{Lines}
+use Rattle.mk_command.specs.declared.invocation.Invocation.{Invocation}
 use Rattle.mk_command.specs.declared.invocation.Invocation.TheVariants.{Graph}
 
 -- a word that is no option is no flag and not `--`
@@ -192,12 +194,15 @@ words_taken : (words : List Text) → AreWords words → length words ≤ 184467
 words_taken words h fits = graph_taken words (level_of_graph words h fits)
 
 -- what they ask
-asked_rest : (rest : List Text) → invocation_of (codes "graph" ∷ rest) ≡ Graph (requested (rows_after graph_shape.rules [] rest))
+abbrev graph_by : List Row → Invocation
+graph_by rows = Graph (requested rows) (form_by rows)
+
+asked_rest : (rest : List Text) → invocation_of (codes "graph" ∷ rest) ≡ graph_by (rows_after graph_shape.rules [] rest)
 asked_rest rest = ap (λ (w : Walk). asked_with (entered (built command_line) w.stopped)) (walk_of_top rest)
 
-words_asked : (words : List Text) → AreWords words → invocation_of (codes "graph" ∷ words) ≡ Graph (asking None words)
+words_asked : (words : List Text) → AreWords words → invocation_of (codes "graph" ∷ words) ≡ Graph (asking None words) Lines
 words_asked [] h = asked_rest []
-words_asked (word ∷ words) h = asked_rest (word ∷ words) ∙ ap (λ (w : Walk). Graph (requested (finished graph_shape.rules w.held))) (walk_all start [] start_begins word words h)
+words_asked (word ∷ words) h = asked_rest (word ∷ words) ∙ ap (λ (w : Walk). graph_by (finished graph_shape.rules w.held)) (walk_all start [] start_begins word words h)
 
 -- ---- the same behind `-f NAME`
 
@@ -247,14 +252,14 @@ named_taken name words plain h fits =
     let p = plain_word name plain in
     graph_taken (codes "-f" ∷ name ∷ words) (ap₂ level_from (walk_named name words p) (fault_named name words p) ∙ level_named name words h fits)
 
-rows_named : (name : Text) (words : List Text) → AreWords words → requested (finished graph_shape.rules (fold (walked graph_shape.rules []) (named name) words).held) ≡ asking (Some name) words
+rows_named : (name : Text) (words : List Text) → AreWords words → graph_by (finished graph_shape.rules (fold (walked graph_shape.rules []) (named name) words).held) ≡ Graph (asking (Some name) words) Lines
 rows_named name [] h = refl
-rows_named name (word ∷ words) h = ap (λ (w : Walk). requested (finished graph_shape.rules w.held)) (walk_all (named name) (makefile_row name ∷ []) (named_begins name) word words h)
+rows_named name (word ∷ words) h = ap (λ (w : Walk). graph_by (finished graph_shape.rules w.held)) (walk_all (named name) (makefile_row name ∷ []) (named_begins name) word words h)
 
 named_asked : (name : Text) (words : List Text) → is_option name ≡ false → AreWords words
-    → invocation_of (codes "graph" ∷ codes "-f" ∷ name ∷ words) ≡ Graph (asking (Some name) words)
+    → invocation_of (codes "graph" ∷ codes "-f" ∷ name ∷ words) ≡ Graph (asking (Some name) words) Lines
 named_asked name words plain h =
-    asked_rest (codes "-f" ∷ name ∷ words) ∙ ap (λ (r : Request). Graph r) (ap (λ (w : Walk). requested (finished graph_shape.rules w.held)) (walk_named name words (plain_word name plain)) ∙ rows_named name words h)
+    asked_rest (codes "-f" ∷ name ∷ words) ∙ (ap (λ (w : Walk). graph_by (finished graph_shape.rules w.held)) (walk_named name words (plain_word name plain)) ∙ rows_named name words h)
 
 -- ---- both
 
@@ -262,6 +267,6 @@ pub plain_taken : (makefile : Option Text) (words : List Text) → HasNoOption m
 plain_taken None words plain fits = words_taken words plain.words (omega arith)
 plain_taken (Some name) words plain fits = named_taken name words plain.name plain.words (omega arith)
 
-pub plain_asked : (makefile : Option Text) (words : List Text) → HasNoOption makefile words → invocation_of (graph_words makefile words) ≡ Graph (asking makefile words)
+pub plain_asked : (makefile : Option Text) (words : List Text) → HasNoOption makefile words → invocation_of (graph_words makefile words) ≡ Graph (asking makefile words) Lines
 plain_asked None words plain = words_asked words plain.words
 plain_asked (Some name) words plain = named_asked name words plain.name plain.words

@@ -32,7 +32,7 @@ abbrev pub only_certificate_option : Rule
 only_certificate_option =
     record (new_rule (codes "only-certificate")) { short = Some 99; action = Some Count }
 
--- `-w` of `check`, any number of times.
+-- `-w`, any number of times.
 abbrev pub in_words_option : Rule
 in_words_option =
     record (new_rule (codes "in-words")) { short = Some 119; action = Some Count }
@@ -46,7 +46,7 @@ evidence_option =
       parser = Some (Unsigned 1 18446744073709551615);
     }
 
--- `--json` of `check`, any number of times.
+-- `--json`, any number of times.
 abbrev pub in_json_option : Rule
 in_json_option =
     record (new_rule (codes "json")) { long = Some (codes "json"); action = Some Count }
@@ -73,11 +73,12 @@ words_argument =
 abbrev pub subcommand : List ℕ → List Rule → App
 subcommand name rules = fold with_rule (new_app name) rules
 
--- `graph [-f F] [-r] [-b BOOK] [-c] [WORD..]`
+-- `graph [-f F] [-r] [-b BOOK] [-c] [-w] [--json] [WORD..]`
 abbrev pub graph_command : App
 graph_command =
     subcommand (codes "graph")
-    (makefile_option ∷ no_defaults_option ∷ book_option ∷ commands_option ∷ words_argument ∷ [])
+    (makefile_option ∷ no_defaults_option ∷ book_option ∷ commands_option ∷ in_words_option ∷
+    in_json_option ∷ words_argument ∷ [])
 
 -- `check [-f F] [-r] -b BOOK [-c] [-w] [-e N] [--json] [WORD..]`
 abbrev pub check_command : App
@@ -86,24 +87,26 @@ check_command =
     (makefile_option ∷ no_defaults_option ∷ needed_book_option ∷ only_certificate_option ∷
     in_words_option ∷ evidence_option ∷ in_json_option ∷ words_argument ∷ [])
 
--- `verify [-f F] [-r] -b BOOK -k CERT [WORD..]`
+-- `verify [-f F] [-r] -b BOOK -k CERT [-w] [--json] [WORD..]`
 abbrev pub verify_command : App
 verify_command =
     subcommand (codes "verify")
     (makefile_option ∷ no_defaults_option ∷ needed_book_option ∷ certificate_option ∷
-    words_argument ∷ [])
+    in_words_option ∷ in_json_option ∷ words_argument ∷ [])
 
--- `repair [-f F] [-r] -b BOOK [WORD..]`
+-- `repair [-f F] [-r] -b BOOK [-w] [--json] [WORD..]`
 abbrev pub repair_command : App
 repair_command =
     subcommand (codes "repair")
-    (makefile_option ∷ no_defaults_option ∷ needed_book_option ∷ words_argument ∷ [])
+    (makefile_option ∷ no_defaults_option ∷ needed_book_option ∷ in_words_option ∷
+    in_json_option ∷ words_argument ∷ [])
 
--- `simulate [-f F] [-r] -b BOOK -p PLAN [WORD..]`
+-- `simulate [-f F] [-r] -b BOOK -p PLAN [-w] [--json] [WORD..]`
 abbrev pub simulate_command : App
 simulate_command =
     subcommand (codes "simulate")
-    (makefile_option ∷ no_defaults_option ∷ needed_book_option ∷ plan_option ∷ words_argument ∷ [])
+    (makefile_option ∷ no_defaults_option ∷ needed_book_option ∷ plan_option ∷ in_words_option ∷
+    in_json_option ∷ words_argument ∷ [])
 
 -- `explain [WORD..]`
 abbrev pub explain_command : App
@@ -117,13 +120,12 @@ named_program =
           { has_version = true };
     }
 
--- The program, whose words come without its name, and which requires a subcommand and has no `help`
--- subcommand.
+-- The program, whose words come without its name, and which requires a subcommand.
 abbrev pub program : App
 program =
     record named_program {
       top = record (named_program.top)
-          { no_binary_name = true; subcommand_required = true; disable_help_subcommand = true };
+          { no_binary_name = true; subcommand_required = true };
     }
 
 -- A program with these subcommands.

@@ -112,7 +112,19 @@ fn in_json_option<'a>(alloc: Global) -> Arg<'a>
     Arg::new(alloc, "json")
         .long("json")
         .action(ArgAction::Count)
-        .help("Prints the answer as one JSON value; then -c, -w and -e change nothing")
+        .help("Prints the answer as one JSON value, whatever else says how it is printed")
+}
+
+// Adds the options that say how an answer is printed, `-w` and `--json`.
+fn with_form<'a>(alloc: Global, command: Command<'a>) -> Result<Command<'a>, AllocError>
+    requires { (fields_of command).has_globals ≡ false }
+    ensures app { IfOk result (λ c. app_of c ≡ fold with_rule (app_of command.entry)
+        (in_words_option ∷ in_json_option ∷ [])) }
+    ensures local { IfOk result (λ c. (fields_of c).has_globals ≡ false) }
+{
+    command
+        .arg(in_words_option(alloc))?
+        .arg(in_json_option(alloc))
 }
 
 fn evidence_option<'a>(alloc: Global) -> Arg<'a>
@@ -193,7 +205,7 @@ fn named_graph<'a>(alloc: Global) -> Command<'a>
 {
     Command::new(alloc, "graph")
         .about("Prints the goals, then a line for each target in serial order")
-        .override_usage("mkcheck graph [-f F] [-r] [-b BOOK] [-c] [WORD]...")
+        .override_usage("mkcheck graph [-f F] [-r] [-b BOOK] [-c] [-w] [--json] [WORD]...")
         .after_help(BEHIND_GRAPH)
 }
 
@@ -215,7 +227,7 @@ fn named_repair<'a>(alloc: Global) -> Command<'a>
         .about(
             "Prints the lines to append to the makefile so that check says yes, or why none help",
         )
-        .override_usage("mkcheck repair [-f F] [-r] -b BOOK [WORD]...")
+        .override_usage("mkcheck repair [-f F] [-r] -b BOOK [-w] [--json] [WORD]...")
         .after_help(BEHIND_REPAIR)
 }
 
@@ -225,7 +237,7 @@ fn named_verify<'a>(alloc: Global) -> Command<'a>
 {
     Command::new(alloc, "verify")
         .about("Says yes where a certificate shows that makes build right, else refuses it")
-        .override_usage("mkcheck verify [-f F] [-r] -b BOOK -k CERT [WORD]...")
+        .override_usage("mkcheck verify [-f F] [-r] -b BOOK -k CERT [-w] [--json] [WORD]...")
         .after_help(BEHIND_VERIFY)
 }
 
@@ -235,7 +247,7 @@ fn named_simulate<'a>(alloc: Global) -> Command<'a>
 {
     Command::new(alloc, "simulate")
         .about("Runs a plan line by line, and prints the files at the end of each make")
-        .override_usage("mkcheck simulate [-f F] [-r] -b BOOK -p PLAN [WORD]...")
+        .override_usage("mkcheck simulate [-f F] [-r] -b BOOK -p PLAN [-w] [--json] [WORD]...")
         .after_help(BEHIND_SIMULATE)
 }
 
@@ -266,10 +278,10 @@ fn graph_command<'a>(alloc: Global) -> Result<Command<'a>, AllocError>
     ensures app { IfOk result (λ c. app_of c ≡ graph_command) }
     ensures local { IfOk result (λ c. (fields_of c).has_globals ≡ false) }
 {
-    with_reading(alloc, named_graph(alloc))?
+    let drawing = with_reading(alloc, named_graph(alloc))?
         .arg(book_option(alloc))?
-        .arg(commands_option(alloc))?
-        .arg(words_argument(alloc))
+        .arg(commands_option(alloc))?;
+    with_form(alloc, drawing)?.arg(words_argument(alloc))
 }
 
 // Adds the options that say how a verdict is printed, `-c`, `-w`, `-e` and `--json`.
@@ -298,29 +310,28 @@ fn repair_command<'a>(alloc: Global) -> Result<Command<'a>, AllocError>
     ensures app { IfOk result (λ c. app_of c ≡ repair_command) }
     ensures local { IfOk result (λ c. (fields_of c).has_globals ≡ false) }
 {
-    with_reading(alloc, named_repair(alloc))?
-        .arg(needed_book_option(alloc))?
-        .arg(words_argument(alloc))
+    let mending = with_reading(alloc, named_repair(alloc))?.arg(needed_book_option(alloc))?;
+    with_form(alloc, mending)?.arg(words_argument(alloc))
 }
 
 fn verify_command<'a>(alloc: Global) -> Result<Command<'a>, AllocError>
     ensures app { IfOk result (λ c. app_of c ≡ verify_command) }
     ensures local { IfOk result (λ c. (fields_of c).has_globals ≡ false) }
 {
-    with_reading(alloc, named_verify(alloc))?
+    let verifying = with_reading(alloc, named_verify(alloc))?
         .arg(needed_book_option(alloc))?
-        .arg(certificate_option(alloc))?
-        .arg(words_argument(alloc))
+        .arg(certificate_option(alloc))?;
+    with_form(alloc, verifying)?.arg(words_argument(alloc))
 }
 
 fn simulate_command<'a>(alloc: Global) -> Result<Command<'a>, AllocError>
     ensures app { IfOk result (λ c. app_of c ≡ simulate_command) }
     ensures local { IfOk result (λ c. (fields_of c).has_globals ≡ false) }
 {
-    with_reading(alloc, named_simulate(alloc))?
+    let running = with_reading(alloc, named_simulate(alloc))?
         .arg(needed_book_option(alloc))?
-        .arg(plan_option(alloc))?
-        .arg(words_argument(alloc))
+        .arg(plan_option(alloc))?;
+    with_form(alloc, running)?.arg(words_argument(alloc))
 }
 
 fn explain_command<'a>(alloc: Global) -> Result<Command<'a>, AllocError>
@@ -347,7 +358,6 @@ fn program<'a>(alloc: Global) -> Command<'a>
     named_program(alloc)
         .no_binary_name(true)
         .subcommand_required(true)
-        .disable_help_subcommand(true)
 }
 
 // Adds the subcommands that judge a build, `check`, `repair` and `verify`.
@@ -376,10 +386,10 @@ fn with_telling<'a>(alloc: Global, command: Command<'a>) -> Result<Command<'a>, 
 }
 
 /// The command line of the program, which reads the words after the program's name: `graph [-f F]
-/// [-r] [-b BOOK] [-c] [WORD..]`, `check [-f F] [-r] -b BOOK [-c] [-w] [-e N] [--json] [WORD..]`,
-/// `repair [-f F] [-r] -b BOOK [WORD..]`, `verify [-f F] [-r] -b BOOK -k CERT [WORD..]`, `simulate
-/// [-f F] [-r] -b BOOK -p PLAN [WORD..]`, `explain [WORD..]`, `--help` and `--version`. The only
-/// error is out of memory.
+/// [-r] [-b BOOK] [-c] [-w] [--json] [WORD..]`, `check [-f F] [-r] -b BOOK [-c] [-w] [-e N] [--json]
+/// [WORD..]`, `repair [-f F] [-r] -b BOOK [-w] [--json] [WORD..]`, `verify [-f F] [-r] -b BOOK -k
+/// CERT [-w] [--json] [WORD..]`, `simulate [-f F] [-r] -b BOOK -p PLAN [-w] [--json] [WORD..]`,
+/// `explain [WORD..]`, `--help` and `--version`. The only error is out of memory.
 pub fn command_line<'a>(alloc: Global) -> Result<Command<'a>, AllocError>
     ensures app { IfOk result (λ c. app_of c ≡ command_line) }
     ensures local { IfOk result (λ c. (fields_of c).has_globals ≡ false) }

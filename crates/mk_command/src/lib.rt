@@ -5,4 +5,4 @@ mod command;
 mod invocation;
 
 pub use command::command_line;
-pub use invocation::{Invocation, invocation_by};
+pub use invocation::{Form, Invocation, form_of, invocation_by, request_of};

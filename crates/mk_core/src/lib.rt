@@ -23,5 +23,5 @@ pub use mk_lines::{Name, Names};
 pub use mk_read_files::{Files, FilesError};
 pub use mk_read_parse::MemFiles;
 pub use request::{Operands, Request, split_words};
-pub use simulation::{Simulation, simulate_text};
+pub use simulation::{Simulation, run_text, run_words, simulate};
 pub use verifying::verify_text;

@@ -1,5 +1,5 @@
 -- The texts of answers by their parts.
-use Rattle.std.proofs.Common.{◌≡◌, ℕ, List, ◌++◌, false, codes, refl, sym, ap, ◌∙◌, append_assoc}
+use Rattle.std.proofs.Common.{◌≡◌, ℕ, List, [], ◌∷◌, ◌++◌, false, codes, refl, sym, ap, ◌∙◌, append_assoc}
 use Rattle.std.specs.Prelude.{Option, None, Some}
 use Rattle.std.specs.Fmt.{decimal, digits}
 use Rattle.serde_json.specs.Written.{compact_text, has_float}
@@ -9,7 +9,7 @@ use Rattle.mk_cert_text.specs.Writing.{value_of}
 use Rattle.mk_read.specs.declared.fault.Place.{Place}
 use Rattle.mk_core_sentences.specs.RefusedLine.{in_file, place_of}
 use Rattle.mk_core_text.specs.declared.fault.Fault.{Fault}
-use Rattle.mk_core_json.specs.AnswerValue.{place_value, refusal_value, yes_value}
+use Rattle.mk_core_json.specs.AnswerValue.{line_value, place_value, refusal_value, yes_value}
 
 -- the answer yes
 yes_parts : (c : Certificate) (recipes reads : ℕ) → compact_text (yes_value c recipes reads)
@@ -37,5 +37,9 @@ pub place_has_no_float : (place : Option Place) → has_float (place_value place
 place_has_no_float None = refl
 place_has_no_float (Some place) = refl
 
-pub refusal_has_no_float : (fault : Fault) → has_float (refusal_value fault) ≡ false
-refusal_has_no_float fault = rw (place_has_no_float (in_file (place_of fault))) refl
+line_has_no_float : (line : List ℕ) → has_float (line_value line) ≡ false
+line_has_no_float [] = refl
+line_has_no_float (b ∷ line) = refl
+
+pub refusal_has_no_float : (fault : Fault) (line : List ℕ) → has_float (refusal_value fault line) ≡ false
+refusal_has_no_float fault line = rw (line_has_no_float line, place_has_no_float (in_file (place_of fault))) refl

@@ -1,5 +1,5 @@
 -- The JSON values of a yes and of refusals.
-use Rattle.std.specs.Prelude.{ℕ, List, [], ◌∷◌, ◌++◌, codes, Option, None, Some}
+use Rattle.std.specs.Prelude.{ℕ, ◌-◌, List, [], ◌∷◌, ◌++◌, codes, length, nat_lt, slice_range, Option, None, Some, if◌then◌else◌}
 use Rattle.std.specs.Str.Lossy.{utf8_lossy}
 use Rattle.serde_json.specs.Data.{Data, null, number, string, unsigned}
 use Rattle.serde_json.specs.Written.{compact_text}
@@ -32,14 +32,25 @@ place_value (Some place) =
     object_of ((codes "file", string place.file) ∷
     (codes "line", number (unsigned place.line)) ∷ [])
 
--- The answer of a refusal: the fault's name, its number, the line of a file that it names, and its
--- text in words and with numbers, in which U+FFFD stands for bytes that aren't UTF-8.
-abbrev pub refusal_value : Fault → Data
-refusal_value fault =
+-- The line that `-w` prints, without the blanks before it and the newline behind it.
+abbrev pub bare_line : List ℕ → List ℕ
+bare_line line = if nat_lt (length line) 3 then [] else slice_range line 2 (length line - 1)
+
+-- The line of a file that is shown, or null where there is none.
+abbrev pub line_value : List ℕ → Data
+line_value [] = null
+line_value (b ∷ line) = string (utf8_lossy (bare_line (b ∷ line)))
+
+-- The answer of a refusal: the fault's name, its number, the line of a file that it names, its text
+-- in words, that line as `-w` prints it, and its text with numbers. U+FFFD stands for bytes that
+-- aren't UTF-8.
+abbrev pub refusal_value : Fault → (line : List ℕ) → Data
+refusal_value fault line =
     object_of ((codes "answer", string (codes "refused")) ∷
     (codes "format", number (unsigned 1)) ∷
     (codes "name", string ((fault_name fault).1)) ∷
     (codes "number", number (unsigned ((fault_name fault).0))) ∷
     (codes "place", place_value (in_file (place_of fault))) ∷
     (codes "sentence", string (utf8_lossy (fault_words fault))) ∷
+    (codes "source", line_value line) ∷
     (codes "text", string (utf8_lossy (fault_text fault))) ∷ [])

@@ -4,3 +4,4 @@ pub mod GroupValue
 pub mod InJsonAnswer
 pub mod NotRead
 pub mod NoValue
+pub mod OtherValues

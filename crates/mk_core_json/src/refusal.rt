@@ -7,7 +7,7 @@ ghost use Rattle.serde_json.specs.View.{view};
 ghost use Rattle.serde_json.specs.Written.{compact_text};
 ghost use Rattle.mk_core_text.specs.FaultText.{fault_text, fault_words};
 ghost use Rattle.mk_core_sentences.specs.RefusedLine.{in_file, place_of};
-ghost use Rattle.mk_core_json.specs.AnswerValue.{place_value, refusal_value};
+ghost use Rattle.mk_core_json.specs.AnswerValue.{bare_line, line_value, place_value, refusal_value};
 
 use crate::fault_name::fault_name;
 use crate::writing::push_value;
@@ -50,11 +50,33 @@ fn text_of(alloc: Global, fault: &Fault) -> Result<String, AllocError>
     String::from_utf8_lossy(alloc, &bytes)
 }
 
+/// The line that `-w` prints, without the blanks before it and the newline behind it.
+fn bare_line(line: &[u8]) -> &[u8]
+    ensures { result.now ≡ bare_line line.now }
+{
+    if line.len() < 3 {
+        return &[];
+    }
+    &line[2..line.len() - 1]
+}
+
+/// Makes the JSON value of the line that is shown; null where there is none. U+FFFD stands for bytes
+/// that aren't UTF-8.
+fn line_value(alloc: Global, line: &[u8]) -> Result<Value, AllocError>
+    ensures { IfOk result (λ value. view value ≡ line_value line.now) }
+{
+    if line.is_empty() {
+        return Ok(Value::Null);
+    }
+    Ok(Value::String(String::from_utf8_lossy(alloc, bare_line(line))?))
+}
+
 /// Makes the JSON value of a refusal.
-fn refusal_value(alloc: Global, fault: &Fault) -> Result<Value, AllocError>
-    ensures { IfOk result (λ value. view value ≡ refusal_value fault.now) }
+fn refusal_value(alloc: Global, fault: &Fault, line: &[u8]) -> Result<Value, AllocError>
+    ensures { IfOk result (λ value. view value ≡ refusal_value fault.now line.now) }
 {
     let (number, name) = fault_name(fault);
+    let source = line_value(alloc, line)?;
     let place = place_value(alloc, fault)?;
     let sentence = sentence_of(alloc, fault)?;
     let text = text_of(alloc, fault)?;
@@ -65,15 +87,17 @@ fn refusal_value(alloc: Global, fault: &Fault) -> Result<Value, AllocError>
         "number": number,
         "place": place,
         "sentence": sentence.as_str(),
+        "source": source,
         "text": text.as_str()
     })
 }
 
-/// What is printed for a refusal by this fault, without a newline. The only error is out of memory.
-pub fn refusal_text(alloc: Global, fault: &Fault) -> Result<Vec<u8>, AllocError>
-    ensures { IfOk result (λ text. text.items ≡ compact_text (refusal_value fault.now)) }
+/// What is printed for a refusal by this fault, without a newline, given the line of a file that
+/// `-w` prints for it. The only error is out of memory.
+pub fn refusal_text(alloc: Global, fault: &Fault, line: &[u8]) -> Result<Vec<u8>, AllocError>
+    ensures { IfOk result (λ text. text.items ≡ compact_text (refusal_value fault.now line.now)) }
 {
-    let value = refusal_value(alloc, fault)?;
+    let value = refusal_value(alloc, fault, line)?;
     let mut text = String::new(alloc);
     push_value(alloc, &mut text, &value)?;
     Ok(text.into_bytes())

@@ -1,5 +1,5 @@
 -- A plan that shows what is found runs to its end.
-use Rattle.std.proofs.Common.{◌≡◌, ◌≤◌, ℕ, Bool, true, false, not, cond, List, [], ◌∷◌, ◌++◌, length, map, Option, None, Some, Result, Ok, Err, inl, inr, refl, sym, ap, subst, ◌∙◌}
+use Rattle.std.proofs.Common.{◌≡◌, ◌≤◌, ℕ, Bool, true, false, not, cond, List, [], ◌∷◌, ◌++◌, append-nil, codes, length, map, Option, None, Some, Result, Ok, Err, inl, inr, refl, sym, ap, subst, ◌∙◌}
 use Rattle.std.specs.Prelude.{◌||◌, find, is_some, take}
 use Rattle.mk_graph.specs.Graph.{Graph, IsGraph, max_nodes}
 use Rattle.mk_build.specs.Steps as model
@@ -28,7 +28,7 @@ use Rattle.mk_world.specs.declared.fault.StepFault.{StepFault}
 use Rattle.mk_world.specs.NamedStep.{Step}
 use Rattle.mk_world_plan.specs.PlanReading.{lines_of, max_lines, plan_of}
 use Rattle.mk_world.specs.RunLaws.{AreLegal}
-use Rattle.mk_world.specs.Running.{RunsTo, stage_of}
+use Rattle.mk_world.specs.Running.{RunsTo, Stage, stage_of}
 use Rattle.mk_world.specs.State.{Scene, State, disk_of, setting, setting_of, world_in, world_of}
 use Rattle.mk_world.specs.Steps.{IsFirstOf, step_of}
 use Rattle.mk_core_text.specs.declared.fault.Fault.{Fault}
@@ -40,7 +40,7 @@ use Rattle.mk_core.specs.FileText.{text_of}
 use Rattle.mk_core.specs.Judging.{recorded, subject_over}
 use Rattle.mk_core.specs.Ready.{Ready, exists, ready_for}
 use Rattle.mk_core.specs.Selected.{DrawsGraph}
-use Rattle.mk_core.specs.Simulation.{Simulation, ShowsRun, last_lines}
+use Rattle.mk_core.specs.Simulation.{Simulation, ShowsRun, end_text, left_text, run_text}
 use Rattle.mk_core.specs.SimulationAnswer.{AnswersSimulation, RunsLines, RunsText}
 use Rattle.mk_core_laws.proofs.FirstDisk.{first_disk, is_first}
 use Rattle.mk_core_laws.proofs.OneAnswer.{drawn}
@@ -166,6 +166,10 @@ module _ (plain : NamesOfWorldArePlain) (files : Told) (request : Request) (read
     same_text : plan_of (plan_text first.scene.graph a.steps) ≡ plan_of plan
     same_text = over (λ (k : Scene). plan_of (plan_text k.graph a.steps) ≡ plan_of plan) (ap plan_of (sym a.is))
 
+  -- the text of a run in which no line was refused
+  ends_well : (shown : Simulation) (printed : List ℕ) (stage : Stage) (left : World) → shown.printed ≡ printed → shown.refused ≡ None → shown.left ≡ left_text stage None left → run_text shown ≡ printed ++ codes "plan ok\n"
+  ends_well shown printed stage left e d f = ap (λ (l : List ℕ). (shown.printed ++ end_text shown.refused) ++ l) f ∙ (append-nil (shown.printed ++ end_text shown.refused) ∙ (ap (λ (r : Option (ℕ × StepFault)). shown.printed ++ end_text r) d ∙ ap (λ (l : List ℕ). l ++ codes "plan ok\n") e))
+
   module _ (runs : WrittenHistoryRuns) where
     -- what is shown of a run of its lines
     shown_well : (lines : List PlanLine) (shown : Simulation) → plan_of plan ≡ Ok lines → ShowsRun a.g ready.setting lines shown → RunsToItsEnd shown
@@ -174,10 +178,12 @@ module _ (plain : NamesOfWorldArePlain) (files : Told) (request : Request) (read
         let same : lines ≡ went.0 = let e = sym is_read ∙ (sym (same_text h.first h.is_first) ∙ went.1) in cc in
         let run = subst (λ (ls : List PlanLine). RunsTo (stage_of h.first) (world_of h.first) ls h.printed h.refused h.left) same h.runs in
         let ended = (went.3 h.printed h.refused h.left run).to_its_end in
+        let refused = h.is_refused ∙ ended in
         record {
           printed = h.printed;
-          text = h.text ∙ ap (λ (r : Option (ℕ × StepFault)). h.printed ++ last_lines (stage_of h.first) r h.left) ended;
-          not_refused = h.is_refused ∙ ap is_some ended;
+          text = ends_well shown h.printed (stage_of h.first) h.left h.is_printed refused
+              (h.is_left ∙ ap (λ (r : Option (ℕ × StepFault)). left_text (stage_of h.first) r h.left) ended);
+          not_refused = refused;
         }
 
     -- the runs of these lines from a first world

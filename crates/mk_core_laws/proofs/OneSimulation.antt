@@ -1,6 +1,5 @@
 -- The answer to a request for the run of a plan is one.
-use Rattle.std.proofs.Common.{◌≡◌, ℕ, Bool, List, ◌++◌, Option, None, Some, Result, Ok, Err, refl, sym, ap, subst, ◌∙◌}
-use Rattle.std.specs.Prelude.{is_some}
+use Rattle.std.proofs.Common.{◌≡◌, ℕ, List, Option, None, Some, Result, Ok, Err, refl, sym, ap, subst, ◌∙◌}
 use Rattle.std.specs.Option.{ok_or}
 use Rattle.mk_graph.specs.Graph as value
 use Rattle.mk_build.specs.World.{World}
@@ -22,7 +21,7 @@ use Rattle.mk_core.specs.FileText.{text_of}
 use Rattle.mk_core_laws.specs.AnswerLaws.{SimulationIsOne}
 use Rattle.mk_core.specs.Ready.{Ready, exists, ready_for}
 use Rattle.mk_core.specs.Selected.{AnswersSelected, DrawsGraph}
-use Rattle.mk_core.specs.Simulation.{Simulation, ShowsRun, last_lines}
+use Rattle.mk_core.specs.Simulation.{Simulation, ShowsRun, left_text}
 use Rattle.mk_core.specs.SimulationAnswer.{AnswersSimulation, RunsLines, RunsText}
 use Rattle.mk_core_laws.proofs.OneAnswer.{drawn}
 use Rattle.mk_core_laws.proofs.OneVerdict.{is_settled, not_failing}
@@ -43,11 +42,11 @@ module _ {A : Type 0} (one_selection : inferring.SelectionIsOne) (answers : Read
   ready_one (Ok ready) d h = selected_one ready d h
 
 -- what is shown of a run is one
-shown_same : (text also : List ℕ) (refused again : Bool) → text ≡ also → refused ≡ again → (let one : Simulation = record { text = text; refused = refused } in one ≡ record { text = also; refused = again })
-shown_same text also refused again e k = rw (e, k) refl
+shown_same : (text also : List ℕ) (refused again : Option (ℕ × StepFault)) (left other : List ℕ) → text ≡ also → refused ≡ again → left ≡ other → (let one : Simulation = record { printed = text; refused = refused; left = left } in one ≡ record { printed = also; refused = again; left = other })
+shown_same text also refused again left other e k l = rw (e, k, l) refl
 
-ends_same : (stage : Stage) (text also : List ℕ) (refused again : Option (ℕ × StepFault)) (left other : World) → text ≡ also → refused ≡ again → left ≡ other → text ++ last_lines stage refused left ≡ also ++ last_lines stage again other
-ends_same stage text also refused again left other e k l = rw (e, k, l) refl
+ends_same : (stage : Stage) (refused again : Option (ℕ × StepFault)) (left other : World) → refused ≡ again → left ≡ other → left_text stage refused left ≡ left_text stage again other
+ends_same stage refused again left other k l = rw (k, l) refl
 
 module _ (one_world : FirstWorldIsOne) (one_run : RunIsOne) (g : value.Graph) (s : Setting) where
   run_shown : (lines : List PlanLine) (a b : Simulation) → ShowsRun g s lines a → ShowsRun g s lines b → a ≡ b
@@ -56,9 +55,9 @@ module _ (one_world : FirstWorldIsOne) (one_run : RunIsOne) (g : value.Graph) (s
       let again = subst (λ (w : World). RunsTo (stage_of h.first) w lines j.printed j.refused j.left) first.1
       (subst (λ (stage : Stage). RunsTo stage (world_of j.first) lines j.printed j.refused j.left) first.0 j.runs) in
       let same = one_run (stage_of h.first) (world_of h.first) lines h.printed j.printed h.refused j.refused h.left j.left h.runs again in
-      let ends = ends_same (stage_of h.first) h.printed j.printed h.refused j.refused h.left j.left same.0 same.1 same.2 in
-      let stages = ap (λ (stage : Stage). j.printed ++ last_lines stage j.refused j.left) (sym first.0) in
-      shown_same a.text b.text a.refused b.refused (h.text ∙ (ends ∙ (stages ∙ sym j.text))) (h.is_refused ∙ (ap (λ (r : Option (ℕ × StepFault)). is_some r) same.1 ∙ sym j.is_refused))
+      let ends = ends_same (stage_of h.first) h.refused j.refused h.left j.left same.1 same.2 in
+      let stages = ap (λ (stage : Stage). left_text stage j.refused j.left) (sym first.0) in
+      shown_same a.printed b.printed a.refused b.refused a.left b.left (h.is_printed ∙ (same.0 ∙ sym j.is_printed)) (h.is_refused ∙ (same.1 ∙ sym j.is_refused)) (h.is_left ∙ (ends ∙ (stages ∙ sym j.is_left)))
 
   lines_one : (read : Result (List PlanLine) PlanFault) (one other : Result Simulation Fault) → RunsLines g s read one → RunsLines g s read other → one ≡ other
   lines_one (Ok lines) one other (a, h, e) (b, j, k) = e ∙ (ap (λ (shown : Simulation). Ok shown) (run_shown lines a b h j) ∙ sym k)

@@ -24,7 +24,7 @@ use Rattle.mk_core_evidence.specs.EvidenceAnswer.{AnswersEvidence, IsNumbered}
 use Rattle.mk_core.specs.FileText.{text_of}
 use Rattle.mk_core.specs.Judging.{recorded, subject_over}
 use Rattle.mk_core.specs.Ready.{Ready, ready_for}
-use Rattle.mk_core.specs.Simulation.{Simulation}
+use Rattle.mk_core.specs.Simulation.{Simulation, run_text}
 use Rattle.mk_core.specs.SimulationAnswer.{AnswersSimulation}
 use Rattle.mk_core_laws.specs.AnswerLaws.{IsSettled}
 
@@ -39,8 +39,8 @@ NamesOfWorldArePlain =
 -- No line of the plan was refused, and the text ends in `plan ok`.
 pub record RunsToItsEnd (shown : Simulation) : Type 0 where
   pub printed : List ℕ
-  pub text : shown.text ≡ printed ++ codes "plan ok\n"
-  pub not_refused : shown.refused ≡ false
+  pub text : run_text shown ≡ printed ++ codes "plan ok\n"
+  pub not_refused : shown.refused ≡ None
 
 -- A plan that shows a finding, of at most 65,536 lines, runs to its end: that is the answer to a
 -- request for its run, except for out of memory and failed reads, even if the files have changed,

@@ -22,7 +22,7 @@ pub fn names_of_world_are_plain()
     texts_are_plain();
 }
 
-/// A plan that `evidence_text` returns, of at most 65,536 lines, runs to its end: `simulate_text`
+/// A plan that `evidence_text` returns, of at most 65,536 lines, runs to its end: `simulate`
 /// refuses no line of it, and its text ends in `plan ok`, except for out of memory and failed
 /// reads.
 pub fn evidence_runs()

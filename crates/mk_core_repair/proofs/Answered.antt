@@ -15,6 +15,7 @@ use Rattle.mk_find.specs.declared.finding.Finding.{Finding}
 use Rattle.mk_core_text.specs.declared.verdict.Verdict.{Verdict}
 use Rattle.mk_core_text.specs.declared.verdict.Verdict.TheVariants.{No}
 use Rattle.mk_repair.specs.Word.{Word}
+use Rattle.mk_repair.specs.declared.obstacle.Obstacle.{Obstacle}
 use Rattle.mk_core_repair.specs.Amending.{book_names, looked_for, makefile_name, names_known}
 use Rattle.mk_core_repair.specs.Known.{IsReadFault}
 use Rattle.mk_core_repair.specs.Outcome.{Outcome, outcome_of, too_long}
@@ -51,7 +52,7 @@ module _ (files : Told) (request : Request) where
 
     -- what follows the first judgement
     pub followed : (fits : Told → Type 0) → fits files → (answer : Result Repair Fault)
-        → IfOk answer (λ repair. IfFits fits (λ told. AfterFirst (names_known told request first.survey.files) told request first.survey.verdict first.survey.words first.cycle (outcome_of repair)))
+        → IfOk answer (λ repair. IfFits fits (λ told. AfterFirst (names_known told request first.survey.files) told request first.survey.verdict first.survey.words first.cycle first.obstacle (outcome_of repair)))
         → IfErr answer (λ fault. IfFits fits (λ told. IsReadFault (names_known told request first.survey.files) fault)) → AnswersRepair files request answer
     followed fits f (Ok repair) after fault = (first, is, after files f)
     followed fits f (Err fault) after read = unread fault (read files f)
@@ -62,9 +63,9 @@ pub known_names : (files : Told) (request : Request) (read known table : List (L
 known_names files request read known table own k t o = k ∙ (t ∙ ap (λ (n : List ℕ). n ∷ (looked_for request.makefile ++ (read ++ book_names request.book))) o)
 
 -- after a no with words and without a cycle the rounds begin
-pub after_words : (names : List (List ℕ)) (files : Told) (request : Request) (verdict : Verdict) (words : Option (List Word)) (path : Option (List (List ℕ))) (found : List Finding) (given : List Word) (outcome : Outcome)
-    → verdict ≡ No found → words ≡ Some given → path ≡ None → Rounds max_rounds names files request found given too_long outcome → AfterFirst names files request verdict words path outcome
-after_words names files request verdict words path found given outcome v w p h =
-    subst (λ (x : Verdict). AfterFirst names files request x words path outcome) (sym v)
-    (subst (λ (x : Option (List Word)). AfterFirst names files request (No found) x path outcome) (sym w)
-    (subst (λ (x : Option (List (List ℕ))). AfterFirst names files request (No found) (Some given) x outcome) (sym p) h))
+pub after_words : (names : List (List ℕ)) (files : Told) (request : Request) (verdict : Verdict) (words : Option (List Word)) (path : Option (List (List ℕ))) (stuck : Obstacle) (found : List Finding) (given : List Word) (outcome : Outcome)
+    → verdict ≡ No found → words ≡ Some given → path ≡ None → Rounds max_rounds names files request found given too_long outcome → AfterFirst names files request verdict words path stuck outcome
+after_words names files request verdict words path stuck found given outcome v w p h =
+    subst (λ (x : Verdict). AfterFirst names files request x words path stuck outcome) (sym v)
+    (subst (λ (x : Option (List Word)). AfterFirst names files request (No found) x path stuck outcome) (sym w)
+    (subst (λ (x : Option (List (List ℕ))). AfterFirst names files request (No found) (Some given) x stuck outcome) (sym p) h))

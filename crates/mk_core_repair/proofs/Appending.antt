@@ -1,8 +1,6 @@
 -- Lists that a loop appends to, one item at a time.
 use Rattle.std.proofs.Common.{◌≡◌, ℕ, ◌+◌, ◌<◌, ◌≤◌, Bool, true, false, List, [], ◌∷◌, ◌++◌, length, get_or, drop, filter, map, sym, ap, ◌∙◌}
-use Rattle.std.specs.Prelude.{◌==◌}
 use Rattle.std.specs.List.{flat_map}
-use Rattle.mk_core_repair.specs.RepairText.{lead, with_tried}
 use Rattle.std.proofs.lemmas.Bool.{cond-true, cond-false}
 use Rattle.std.proofs.lemmas.List.{append_assoc, append-nil, at_drop_all, at_drop_more}
 use Rattle.std.proofs.lemmas.List.Elements.{filter-append}
@@ -45,11 +43,3 @@ keep_list t f h xs i x out new all lt is step inv =
     let parted : filter t (f (h (get_or xs i x)) ++ rest) ≡ filter t (f (h (get_or xs i x))) ++ filter t rest = filter-append t (f (h (get_or xs i x))) rest in
     ap (λ l. l ++ filter t rest) step ∙ (append_assoc out (filter t (f (h x))) (filter t rest) ∙ (ap (λ y. out ++ (filter t (f (h y)) ++ filter t rest)) is
     ∙ (ap (λ l. out ++ l) (sym (at_drop_more (λ l. filter t (flat_map f (map h l))) xs i x lt ∙ parted)) ∙ inv)))
-
--- one more byte of a text whose lines have a lead
-pub tried_more : (begins : Bool) (xs : List ℕ) (i x : ℕ) (out led new all : List ℕ) → i < length xs → x ≡ get_or xs i x → led ≡ out ++ lead begins → new ≡ led ++ x ∷ []
-    → out ++ with_tried begins (drop i xs) ≡ all → new ++ with_tried (x == 10) (drop (i + 1) xs) ≡ all
-tried_more begins xs i x out led new all lt is led_is new_is inv =
-    let rest : ℕ → List ℕ = λ y. with_tried (y == 10) (drop (i + 1) xs) in
-    ap (λ l. l ++ rest x) new_is ∙ (append_assoc led (x ∷ []) (rest x) ∙ (ap (λ l. l ++ x ∷ rest x) led_is ∙ (append_assoc out (lead begins) (x ∷ rest x)
-    ∙ (ap (λ y. out ++ (lead begins ++ y ∷ rest y)) is ∙ (ap (λ l. out ++ l) (sym (at_drop_more (with_tried begins) xs i x lt)) ∙ inv)))))

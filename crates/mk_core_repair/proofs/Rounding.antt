@@ -14,8 +14,9 @@ use Rattle.mk_repair.specs.Lines.{lines_text}
 use Rattle.mk_repair.specs.Word.{Word}
 use Rattle.mk_core_repair.specs.declared.surveying.Survey.{Survey}
 use Rattle.std.specs.Prelude.{nat_lt}
-use Rattle.mk_core_repair.specs.Amending.{added_text, amended_among, is_too_long, makefile_name, makefile_text, max_makefile}
-use Rattle.mk_core_repair.specs.Outcome.{Outcome, Reason, mended, unmended, tried}
+use Rattle.mk_core_repair.specs.Amending.{added_lines, added_text, amended_among, is_too_long, makefile_name, makefile_text, max_makefile}
+use Rattle.mk_core_repair.specs.declared.outcome.Stop.TheVariants.{Judged, TooLong}
+use Rattle.mk_core_repair.specs.Outcome.{Outcome, Reason, mended, unmended, stopped, tried_all}
 use Rattle.mk_core_repair.specs.Rounds.{AfterKnown, AfterRound, AfterVerdict, IsRound, Onward, Rounds, first_unknown, more_words}
 use Rattle.mk_core_repair.specs.Views.{HasMore, IsYesVerdict}
 use Rattle.mk_core_repair.specs.declared.known_files.KnownFiles.{KnownFiles}
@@ -26,19 +27,18 @@ use Rattle.mk_core.specs.Judging.{AnswersJudged}
 
 module _ (names : List (List ℕ)) (files : Told) (request : Request) (first : List Finding) (words : List Word) (before : Reason) where
   -- the makefile would be too long
-  pub ends_long : (left : ℕ) → is_too_long files request (added_text words) ≡ true → Rounds left names files request first words before (unmended first before)
+  pub ends_long : (left : ℕ) (why : Reason) → why ≡ stopped TooLong before → is_too_long files request (added_text (makefile_text files request) words) ≡ true → Rounds (suc left) names files request first words before (unmended first why)
   unfolding Rounds
-  ends_long zero long = refl
-  ends_long (suc left) long = inl (long, refl)
+  ends_long left why e long = inl (long, ap (λ (w : Reason). unmended first w) e)
 
   -- no round is left
-  pub ends_last : (left : ℕ) → left ≡ 0 → Rounds left names files request first words before (unmended first before)
+  pub ends_last : (left : ℕ) (why : Reason) → why ≡ stopped Judged before → left ≡ 0 → Rounds left names files request first words before (unmended first why)
   unfolding Rounds
-  ends_last left none = subst (λ (n : ℕ). Rounds n names files request first words before (unmended first before)) (sym none) refl
+  ends_last left why e none = subst (λ (n : ℕ). Rounds n names files request first words before (unmended first why)) (sym none) (ap (λ (w : Reason). unmended first w) e)
 
   -- a round is judged
-  pub goes_on : (all left : ℕ) (outcome : Outcome) → all ≡ suc left → is_too_long files request (added_text words) ≡ false → (survey : Result Survey Fault)
-      → IsRound names files request (added_text words) survey → AfterRound (Rounds left names files request first) names first words survey outcome
+  pub goes_on : (all left : ℕ) (outcome : Outcome) → all ≡ suc left → is_too_long files request (added_text (makefile_text files request) words) ≡ false → (survey : Result Survey Fault)
+      → IsRound names files request (added_text (makefile_text files request) words) survey → AfterRound (makefile_text files request) (Rounds left names files request first) names first words survey outcome
       → Rounds all names files request first words before outcome
   unfolding Rounds
   goes_on all left outcome more short survey is after =
@@ -47,53 +47,53 @@ module _ (names : List (List ℕ)) (files : Told) (request : Request) (first : L
 -- ---- what a round comes to
 
 module _ (names : List (List ℕ)) (files : Told) (request : Request) (first : List Finding) (words : List Word) (before : Reason)
-    (all left : ℕ) (more : all ≡ suc left) (text : List ℕ) (is_text : text ≡ lines_text words) (short : is_too_long files request (10 ∷ text) ≡ false) where
+    (all left : ℕ) (more : all ≡ suc left) (text : List ℕ) (is_text : text ≡ lines_text words) (short : is_too_long files request (added_lines (makefile_text files request) text) ≡ false) where
   abbrev rounds_left : List Word → Reason → Outcome → Type 0
   rounds_left = Rounds left names files request first
 
-  judged : (outcome : Outcome) (survey : Result Survey Fault) → IsRound names files request (10 ∷ text) survey → AfterRound rounds_left names first words survey outcome
+  judged : (outcome : Outcome) (survey : Result Survey Fault) → IsRound names files request (added_lines (makefile_text files request) text) survey → AfterRound (makefile_text files request) rounds_left names first words survey outcome
       → Rounds all names files request first words before outcome
   judged outcome survey is after =
-      goes_on names files request first words before all left outcome more (subst (λ (t : List ℕ). is_too_long files request (10 ∷ t) ≡ false) is_text short) survey
-      (subst (λ (t : List ℕ). IsRound names files request (10 ∷ t) survey) is_text is) after
+      goes_on names files request first words before all left outcome more (subst (λ (t : List ℕ). is_too_long files request (added_lines (makefile_text files request) t) ≡ false) is_text short) survey
+      (subst (λ (t : List ℕ). IsRound names files request (added_lines (makefile_text files request) t) survey) is_text is) after
 
-  known : (survey : Survey) (o : Option (List ℕ)) (outcome : Outcome) → first_unknown names survey.files ≡ o → AfterKnown rounds_left first words survey o outcome
-      → AfterRound rounds_left names first words (Ok survey) outcome
-  known survey o outcome is after = subst (λ (u : Option (List ℕ)). AfterKnown rounds_left first words survey u outcome) (sym is) after
+  known : (survey : Survey) (o : Option (List ℕ)) (outcome : Outcome) → first_unknown names survey.files ≡ o → AfterKnown (makefile_text files request) rounds_left first words survey o outcome
+      → AfterRound (makefile_text files request) rounds_left names first words (Ok survey) outcome
+  known survey o outcome is after = subst (λ (u : Option (List ℕ)). AfterKnown (makefile_text files request) rounds_left first words survey u outcome) (sym is) after
 
-  yes_ends : (verdict : Verdict) (new : Option (List Word)) → IsYesVerdict verdict → AfterVerdict rounds_left first words verdict new (mended (10 ∷ text))
-  yes_ends (Yes certificate recipes reads) new agreed = ap (λ (t : List ℕ). mended (10 ∷ t)) is_text
+  yes_ends : (verdict : Verdict) (new : Option (List Word)) → IsYesVerdict verdict → AfterVerdict (makefile_text files request) rounds_left first words verdict new (mended (added_lines (makefile_text files request) text))
+  yes_ends (Yes certificate recipes reads) new agreed = ap (λ (t : List ℕ). mended (added_lines (makefile_text files request) t)) is_text
   yes_ends (No found) new agreed = absurd agreed
 
   -- the amended makefile is right
-  pub ends_mended : (survey : Survey) → IsRound names files request (10 ∷ text) (Ok survey) → first_unknown names survey.files ≡ None → IsYesVerdict survey.verdict
-      → Rounds all names files request first words before (mended (10 ∷ text))
-  ends_mended survey is none agreed = judged (mended (10 ∷ text)) (Ok survey) is (known survey None (mended (10 ∷ text)) none (yes_ends survey.verdict survey.words agreed))
+  pub ends_mended : (survey : Survey) → IsRound names files request (added_lines (makefile_text files request) text) (Ok survey) → first_unknown names survey.files ≡ None → IsYesVerdict survey.verdict
+      → Rounds all names files request first words before (mended (added_lines (makefile_text files request) text))
+  ends_mended survey is none agreed = judged (mended (added_lines (makefile_text files request) text)) (Ok survey) is (known survey None (mended (added_lines (makefile_text files request) text)) none (yes_ends survey.verdict survey.words agreed))
 
   -- the outcome of lines that were tried last
   abbrev pub gives_up : Result (List Finding) Fault → Outcome
-  gives_up after = unmended first (tried text after)
+  gives_up after = unmended first (tried_all text after)
 
-  same_lines : (after : Result (List Finding) Fault) → gives_up after ≡ unmended first (tried (lines_text words) after)
-  same_lines after = ap (λ (t : List ℕ). unmended first (tried t after)) is_text
+  same_lines : (after : Result (List Finding) Fault) → gives_up after ≡ unmended first (tried_all (lines_text words) after)
+  same_lines after = ap (λ (t : List ℕ). unmended first (tried_all t after)) is_text
 
   -- a file is read that isn't known
-  pub ends_unknown : (survey : Survey) (name : List ℕ) → IsRound names files request (10 ∷ text) (Ok survey) → first_unknown names survey.files ≡ Some name
+  pub ends_unknown : (survey : Survey) (name : List ℕ) → IsRound names files request (added_lines (makefile_text files request) text) (Ok survey) → first_unknown names survey.files ≡ Some name
       → Rounds all names files request first words before (gives_up (Err (FileReadFailed name)))
   ends_unknown survey name is some = judged (gives_up (Err (FileReadFailed name))) (Ok survey) is (known survey (Some name) (gives_up (Err (FileReadFailed name))) some (same_lines (Err (FileReadFailed name))))
 
   -- the amended makefile is refused
-  pub ends_refused : (fault : Fault) → is_out_of_memory fault ≡ false → IsRound names files request (10 ∷ text) (Err fault)
+  pub ends_refused : (fault : Fault) → is_out_of_memory fault ≡ false → IsRound names files request (added_lines (makefile_text files request) text) (Err fault)
       → Rounds all names files request first words before (gives_up (Err fault))
   ends_refused fault settled is = judged (gives_up (Err fault)) (Err fault) is (settled, same_lines (Err fault))
 
-  module _ (survey : Survey) (is : IsRound names files request (10 ∷ text) (Ok survey)) (none : first_unknown names survey.files ≡ None)
+  module _ (survey : Survey) (is : IsRound names files request (added_lines (makefile_text files request) text) (Ok survey)) (none : first_unknown names survey.files ≡ None)
       (found : List Finding) (is_no : survey.verdict ≡ No found) where
     onward : (outcome : Outcome) (o : Option (List Word)) → more_words words survey.words ≡ o → Onward rounds_left first words found o outcome
         → Rounds all names files request first words before outcome
     onward outcome o is_more h =
         judged outcome (Ok survey) is (known survey None outcome none
-        (subst (λ (v : Verdict). AfterVerdict rounds_left first words v survey.words outcome) (sym is_no)
+        (subst (λ (v : Verdict). AfterVerdict (makefile_text files request) rounds_left first words v survey.words outcome) (sym is_no)
         (subst (λ (m : Option (List Word)). Onward rounds_left first words found m outcome) (sym is_more) h)))
 
     -- there are no further words
@@ -101,10 +101,10 @@ module _ (names : List (List ℕ)) (files : Told) (request : Request) (first : L
     ends_lacking no_more = onward (gives_up (Ok found)) None no_more (same_lines (Ok found))
 
     -- the rounds go on with further words
-    pub goes_further : (next : List Word) → more_words words survey.words ≡ Some next → (outcome : Outcome) → Rounds left names files request first next (tried text (Ok found)) outcome
+    pub goes_further : (next : List Word) → more_words words survey.words ≡ Some next → (outcome : Outcome) → Rounds left names files request first next (tried_all text (Ok found)) outcome
         → Rounds all names files request first words before outcome
     goes_further next is_next outcome h =
-        onward outcome (Some next) is_next (subst (λ (t : List ℕ). Rounds left names files request first next (tried t (Ok found)) outcome) is_text h)
+        onward outcome (Some next) is_next (subst (λ (t : List ℕ). Rounds left names files request first next (tried_all t (Ok found)) outcome) is_text h)
 
 -- a request whose inputs are freed
 abbrev pub freed : Request → Request
@@ -136,51 +136,56 @@ round_over told request own known base added text is_text files is_files answer 
 -- ---- a turn of the loop
 
 module _ (told : Told) (request : Request) (own : OwnMakefile) (known_files : KnownFiles) (base : IsBase told request own known_files) (first : List Finding) (words : List Word) (before : Reason)
-    (all left : ℕ) (more : all ≡ suc left) (text added seen : List ℕ) (is_text : text ≡ lines_text words) (is_added : added ≡ 10 ∷ text) (is_seen : seen ≡ added) where
-  long_is : (b : Bool) → b ≡ nat_lt max_makefile (length (own.text.items ++ seen)) → is_too_long told request (10 ∷ text) ≡ b
+    (all left : ℕ) (more : all ≡ suc left) (text added seen : List ℕ) (is_text : text ≡ lines_text words) (is_added : added ≡ added_lines own.text.items text) (is_seen : seen ≡ added) where
+  -- what is appended to the makefile of this map
+  plain : added ≡ added_lines (makefile_text told request) text
+  plain = is_added ∙ ap (λ (m : List ℕ). added_lines m text) base.is_text
+
+  long_is : (b : Bool) → b ≡ nat_lt max_makefile (length (own.text.items ++ seen)) → is_too_long told request (added_lines (makefile_text told request) text) ≡ b
   long_is b e =
       sym (e ∙ (ap (λ (t : List ℕ). nat_lt max_makefile (length (t ++ seen))) base.is_text
-      ∙ ap (λ (t : List ℕ). nat_lt max_makefile (length (makefile_text told request ++ t))) (is_seen ∙ is_added)))
+      ∙ ap (λ (t : List ℕ). nat_lt max_makefile (length (makefile_text told request ++ t))) (is_seen ∙ plain)))
 
   -- the makefile would be too long
-  pub step_long : true ≡ nat_lt max_makefile (length (own.text.items ++ seen)) → Rounds all known_files.names told request first words before (unmended first before)
-  step_long e =
-      ends_long known_files.names told request first words before all
-      (subst (λ (t : List ℕ). is_too_long told request (10 ∷ t) ≡ true) is_text (long_is true e))
+  pub step_long : (why : Reason) → why ≡ stopped TooLong before → true ≡ nat_lt max_makefile (length (own.text.items ++ seen)) → Rounds all known_files.names told request first words before (unmended first why)
+  step_long why stops e =
+      subst (λ (n : ℕ). Rounds n known_files.names told request first words before (unmended first why)) (sym more)
+      (ends_long known_files.names told request first words before left why stops
+      (subst (λ (t : List ℕ). is_too_long told request (added_lines (makefile_text told request) t) ≡ true) is_text (long_is true e)))
 
   module _ (judged_text : List ℕ) (is_judged : judged_text ≡ added) (short : false ≡ nat_lt max_makefile (length (own.text.items ++ seen))) where
-    round_is : (survey : Result Survey Fault) → IsRound known_files.names told request judged_text survey → IsRound known_files.names told request (10 ∷ text) survey
-    round_is survey is = subst (λ (t : List ℕ). IsRound known_files.names told request t survey) (is_judged ∙ is_added) is
+    round_is : (survey : Result Survey Fault) → IsRound known_files.names told request judged_text survey → IsRound known_files.names told request (added_lines (makefile_text told request) text) survey
+    round_is survey is = subst (λ (t : List ℕ). IsRound known_files.names told request t survey) (is_judged ∙ plain) is
 
     -- the amended makefile is right
     pub step_right : (survey : Survey) → first_unknown known_files.names survey.files ≡ None → IsYesVerdict survey.verdict → IsRound known_files.names told request judged_text (Ok survey)
         → Rounds all known_files.names told request first words before (mended added)
     step_right survey none agreed is =
-        subst (λ (t : List ℕ). Rounds all known_files.names told request first words before (mended t)) (sym is_added)
+        subst (λ (t : List ℕ). Rounds all known_files.names told request first words before (mended t)) (sym plain)
         (ends_mended known_files.names told request first words before all left more text is_text (long_is false short) survey (round_is (Ok survey) is) none agreed)
 
     -- a file is read that isn't known
     pub step_unknown : (survey : Survey) (name : List ℕ) → first_unknown known_files.names survey.files ≡ Some name → IsRound known_files.names told request judged_text (Ok survey)
-        → Rounds all known_files.names told request first words before (unmended first (tried text (Err (FileReadFailed name))))
+        → Rounds all known_files.names told request first words before (unmended first (tried_all text (Err (FileReadFailed name))))
     step_unknown survey name some is =
         ends_unknown known_files.names told request first words before all left more text is_text (long_is false short) survey name (round_is (Ok survey) is) some
 
     -- the amended makefile is refused
     pub step_refused : (fault : Fault) → is_out_of_memory fault ≡ false → IsRound known_files.names told request judged_text (Err fault)
-        → Rounds all known_files.names told request first words before (unmended first (tried text (Err fault)))
+        → Rounds all known_files.names told request first words before (unmended first (tried_all text (Err fault)))
     step_refused fault settled is =
         ends_refused known_files.names told request first words before all left more text is_text (long_is false short) fault settled (round_is (Err fault) is)
 
     module _ (survey : Survey) (found : List Finding) (is_new : Bool) (next : List Word) (none : first_unknown known_files.names survey.files ≡ None) (is_no : survey.verdict ≡ No found)
         (has : HasMore is_new next (more_words words survey.words)) (is : IsRound known_files.names told request judged_text (Ok survey)) where
       -- there are no further words
-      pub step_lacking : is_new ≡ false → Rounds all known_files.names told request first words before (unmended first (tried text (Ok found)))
+      pub step_lacking : is_new ≡ false → Rounds all known_files.names told request first words before (unmended first (tried_all text (Ok found)))
       step_lacking e =
           ends_lacking known_files.names told request first words before all left more text is_text (long_is false short) survey (round_is (Ok survey) is) none found is_no
           (subst (λ (b : Bool). HasMore b next (more_words words survey.words)) e has)
 
       -- the rounds go on with further words
-      pub step_further : is_new ≡ true → (outcome : Outcome) → Rounds left known_files.names told request first next (tried text (Ok found)) outcome
+      pub step_further : is_new ≡ true → (outcome : Outcome) → Rounds left known_files.names told request first next (tried_all text (Ok found)) outcome
           → Rounds all known_files.names told request first words before outcome
       step_further e outcome h =
           goes_further known_files.names told request first words before all left more text is_text (long_is false short) survey (round_is (Ok survey) is) none found is_no next

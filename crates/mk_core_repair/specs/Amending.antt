@@ -1,6 +1,7 @@
 -- The files of a request after lines have been appended to its makefile.
-use Rattle.std.specs.Prelude.{◌≡◌, ℕ, Bool, List, [], ◌∷◌, ◌++◌, codes, length, nat_lt, Option, None, Some, if◌then◌else◌}
-use Rattle.std.specs.Option.{unwrap_or}
+use Rattle.std.specs.Prelude.{◌≡◌, ℕ, ◌-◌, ◌==◌, Bool, false, List, [], ◌∷◌, ◌++◌, codes, length, nat_lt, Option, None, Some, if◌then◌else◌}
+use Rattle.std.specs.List.{slice_get}
+use Rattle.std.specs.Option.{option_map_or, unwrap_or}
 use Rattle.mk_lines.specs.Names.{has_name}
 use Rattle.mk_read.specs.Files.{Told, text_at}
 use Rattle.mk_core.specs.declared.request.Request.{Request}
@@ -31,10 +32,24 @@ amended_among others files request text =
 abbrev pub amended : Told → Request → List ℕ → Told
 amended files request text = amended_among files files request text
 
--- The text that says the words: an empty line, since a makefile may end without a newline, and then
--- the lines.
-abbrev pub added_text : List Word → List ℕ
-added_text words = 10 ∷ lines_text words
+-- Whether the text ends in a backslash.
+abbrev pub ends_in_backslash : List ℕ → Bool
+ends_in_backslash text =
+    option_map_or (λ byte. byte == 92) (slice_get text (length text - 1)) false
+
+-- What stands between a newline and the lines: another newline where the makefile ends in a
+-- backslash, which makes the first newline part of its last line.
+abbrev pub joint : List ℕ → List ℕ
+joint text = if ends_in_backslash text then 10 ∷ [] else []
+
+-- What is appended to a makefile with this text: a newline, since the makefile may end without one,
+-- and then the lines.
+abbrev pub added_lines : (makefile lines : List ℕ) → List ℕ
+added_lines makefile lines = 10 ∷ (joint makefile ++ lines)
+
+-- What is appended to a makefile with this text to say the words.
+abbrev pub added_text : (makefile : List ℕ) → List Word → List ℕ
+added_text makefile words = added_lines makefile (lines_text words)
 
 -- The most bytes of an amended makefile.
 abbrev pub max_makefile : ℕ

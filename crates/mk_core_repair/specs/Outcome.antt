@@ -3,19 +3,33 @@ use Rattle.std.specs.Prelude.{ℕ, List, Result}
 use Rattle.std.specs.String.{string_bytes}
 use Rattle.mk_find.specs.declared.finding.Finding.{Finding}
 use Rattle.mk_core_text.specs.declared.fault.Fault.{Fault}
+use Rattle.mk_core_repair.specs.declared.outcome.Stop.{Stop}
+use Rattle.mk_core_repair.specs.declared.outcome.Stop.TheVariants.{NoMore}
 use Rattle.mk_core_repair.specs.declared.outcome.Repair.{Repair}
 use Rattle.mk_core_repair.specs.declared.outcome.Repair.TheVariants as repairs
 use Rattle.mk_core_repair.specs.declared.outcome.Why.{Why}
 use Rattle.mk_core_repair.specs.declared.outcome.Why.TheVariants as whys
 
--- Why nothing mends a makefile: a finding gives no word; or the makefile would be too long with the
--- lines; or these names form a cycle; or these lines were tried last, and `check` then has these
--- findings or this fault.
+-- Why nothing mends a makefile: a finding gives no word, for this reason, and others give these
+-- lines; or the makefile would be too long with the lines; or these names form a cycle; or these
+-- lines were tried last, `check` then has these findings or this fault, and for this reason no
+-- further ones were tried.
 pub data Reason : Type 0 where
-  untried : Reason
+  untried : (why lines : List ℕ) → Reason
   too_long : Reason
   cycle : (names : List (List ℕ)) → Reason
-  tried : (lines : List ℕ) → Result (List Finding) Fault → Reason
+  tried : (lines : List ℕ) → Result (List Finding) Fault → Stop → Reason
+
+-- The reason, where for this reason no further lines were tried.
+abbrev pub stopped : Stop → Reason → Reason
+stopped stop (untried why lines) = untried why lines
+stopped stop too_long = too_long
+stopped stop (cycle names) = cycle names
+stopped stop (tried lines after other) = tried lines after stop
+
+-- These lines were tried last, and no further ones are known.
+abbrev pub tried_all : List ℕ → Result (List Finding) Fault → Reason
+tried_all lines after = tried lines after NoMore
 
 -- The makefile is right; or it is mended by this text; or it has these findings and isn't mended.
 pub data Outcome : Type 0 where
@@ -25,10 +39,10 @@ pub data Outcome : Type 0 where
 
 -- The reason that the code gives.
 abbrev pub reason_of : Why → Reason
-reason_of whys.Untried = untried
+reason_of (whys.Untried o) = untried (string_bytes o.why) (string_bytes o.lines)
 reason_of whys.TooLong = too_long
 reason_of (whys.Cycle names) = cycle names
-reason_of (whys.Tried lines after) = tried (string_bytes lines) after
+reason_of (whys.Tried lines after stop) = tried (string_bytes lines) after stop
 
 -- The outcome that the code returns.
 abbrev pub outcome_of : Repair → Outcome

@@ -42,7 +42,7 @@ abbrev pub AnswersRepair : Told → Request → Result Repair Fault → Type 0
 AnswersRepair files request (Ok repair) =
     (first : First) × IsFirstOf files request first ×
     AfterFirst (names_known files request first.survey.files) files request first.survey.verdict
-    first.survey.words first.cycle (outcome_of repair)
+    first.survey.words first.cycle first.obstacle (outcome_of repair)
 AnswersRepair files request (Err (FileReadFailed name)) =
     Answers files request AnswersCheck (Err (FileReadFailed name)) ⊎
     IsReadAgain files request name

@@ -6,6 +6,8 @@ use Rattle.mk_find.specs.declared.finding.Finding.TheVariants.{OtherCommands}
 use Rattle.mk_core_text.specs.FaultText.{fault_text}
 use Rattle.mk_core_text.specs.VerdictText.{findings_text}
 use Rattle.mk_core_text.specs.declared.fault.Fault.{Fault}
+use Rattle.mk_core_repair.specs.declared.outcome.Stop.{Stop}
+use Rattle.mk_core_repair.specs.declared.outcome.Stop.TheVariants.{NoMore, Judged, TooLong}
 use Rattle.mk_core_repair.specs.Outcome.{Outcome, Reason, right, mended, unmended, untried, too_long, cycle, tried}
 
 -- That the names form a cycle, each after a space, with a newline.
@@ -14,14 +16,14 @@ cycle_line names =
     codes "no lines mend this, since each of these names needs the next one:" ++
     (flat_map (λ name. 32 ∷ name) names ++ codes "\n")
 
--- What stands before the text where a line begins.
-abbrev pub lead : Bool → List ℕ
-lead begins = if begins then codes "tried " else []
+-- The word, where a line begins.
+abbrev pub lead : (word : List ℕ) → Bool → List ℕ
+lead word begins = if begins then word else []
 
--- The text with `tried ` at the beginning of each line, where a line begins with it or doesn't.
-abbrev pub with_tried : Bool → List ℕ → List ℕ
-with_tried begins [] = []
-with_tried begins (byte ∷ rest) = lead begins ++ byte ∷ with_tried (byte == 10) rest
+-- The text with the word at the beginning of each line, where a line begins with it or doesn't.
+abbrev pub led : (word : List ℕ) → Bool → List ℕ → List ℕ
+led word begins [] = []
+led word begins (byte ∷ rest) = lead word begins ++ byte ∷ led word (byte == 10) rest
 
 -- What `check` prints for these findings or this fault.
 abbrev pub checked_text : Result (List Finding) Fault → List ℕ
@@ -40,16 +42,31 @@ record_again (Ok found) =
     then codes "these lines change commands: append them, and record again\n" else []
 record_again (Err fault) = []
 
--- The text of why nothing mends a makefile: that no lines are known, or that it would be too long
--- with them; the cycle; or the lines that were tried, and then what `check` prints with them.
+-- The lines of the findings that give some, if there are any.
+abbrev pub others_text : List ℕ → List ℕ
+others_text [] = []
+others_text (byte ∷ rest) =
+    codes "lines for the other findings:\n" ++ led (codes "  add: ") true (byte ∷ rest)
+
+-- Why no further lines were tried, where a limit was met.
+abbrev pub stop_text : Stop → List ℕ
+stop_text NoMore = []
+stop_text Judged =
+    codes "the makefile was judged 64 times: append these lines, and run mkcheck repair again\n"
+stop_text TooLong = codes "with further lines the makefile would have more than 16777216 bytes\n"
+
+-- The text of why nothing mends a makefile: the finding that no line mends, with the lines of the
+-- others; that it would be too long with the lines; the cycle; or the lines that were tried, what
+-- `check` prints with them, and the limit that was met.
 abbrev pub reason_text : Reason → List ℕ
-reason_text untried = codes "no lines mend this; mkcheck check -w says what to do\n"
+reason_text (untried why lines) =
+    why ++ (codes "; mkcheck check -w says what to do\n" ++ others_text lines)
 reason_text too_long =
     codes "with the lines that mend this the makefile would have more than 16777216 bytes\n"
 reason_text (cycle names) = cycle_line names
-reason_text (tried text after) =
-    with_tried true text ++ (codes "with these lines mkcheck check says:\n" ++
-    (checked_text after ++ record_again after))
+reason_text (tried text after stop) =
+    led (codes "tried ") true text ++ (codes "with these lines mkcheck check says:\n" ++
+    (checked_text after ++ (record_again after ++ stop_text stop)))
 
 -- What `mkcheck repair` prints on standard output: the text that mends the makefile; else nothing.
 abbrev pub outcome_text : Outcome → List ℕ

@@ -1,5 +1,5 @@
 -- What one judgement finds: the verdict, the words of its findings, and which files were read.
-use Rattle.std.specs.Prelude.{◌≡◌, ℕ, List, [], ◌++◌, Option, Some, Result, Ok}
+use Rattle.std.specs.Prelude.{◌≡◌, ℕ, List, [], ◌++◌, Option, None, Some, Result, Ok}
 use Rattle.mk_subject.specs.Subject.{Subject, footprints}
 use Rattle.mk_build_needs.specs.NeedsGraph.{needs_graph, IsFirstCycle}
 use Rattle.mk_core.specs.CheckAnswer.{IsVerdict}
@@ -7,7 +7,9 @@ use Rattle.mk_core_text.specs.declared.fault.Fault.{Fault}
 use Rattle.mk_core_text.specs.declared.verdict.Verdict.{Verdict}
 use Rattle.mk_core_text.specs.declared.verdict.Verdict.TheVariants.{Yes, No}
 use Rattle.mk_repair.specs.FindingWords.{words_of}
+use Rattle.mk_repair.specs.Obstacle.{IsObstacle}
 use Rattle.mk_repair.specs.Word.{Word}
+use Rattle.mk_repair.specs.declared.obstacle.Obstacle.{Obstacle}
 use Rattle.mk_core_repair.specs.declared.surveying.Survey.{Survey}
 use Rattle.mk_core_repair.specs.declared.surveying.First.{First}
 
@@ -34,10 +36,17 @@ IsCycleFor x (No found) (Some words) cycle =
     IsFirstCycle (needs_graph x.graph (footprints x.setting)) cycle
 IsCycleFor x verdict words cycle = Unit {0}
 
--- The survey of the subject, with the first cycle of what its nodes need.
+-- What stops a repair, where a finding of a no gives no word; else nothing is said.
+abbrev pub IsObstacleFor : Subject → Verdict → Option (List Word) → Obstacle → Type 0
+IsObstacleFor x (No found) None o = IsObstacle x found o
+IsObstacleFor x verdict words o = Unit {0}
+
+-- The survey of the subject, with the first cycle of what its nodes need, and with what stops a
+-- repair.
 abbrev pub IsFirst : Subject → First → Type 0
 IsFirst x first =
-    IsSurvey x first.survey × IsCycleFor x first.survey.verdict first.survey.words first.cycle
+    IsSurvey x first.survey × IsCycleFor x first.survey.verdict first.survey.words first.cycle ×
+    IsObstacleFor x first.survey.verdict first.survey.words first.obstacle
 
 -- The answer is the first survey of the subject, without a fault.
 abbrev pub GivesFirst : Subject → Result First Fault → Type 0

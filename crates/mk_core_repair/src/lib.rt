@@ -12,6 +12,6 @@ mod round_files;
 mod rounds;
 mod surveying;
 
-pub use outcome::{Repair, Why};
+pub use outcome::{Repair, Stop, Why};
 pub use rendering::{repair_message, repair_text};
 pub use repairing::repair;

@@ -1,6 +1,7 @@
 //! What comes of mending a makefile.
 
 use mk_core::{Fault, Findings, Names};
+use mk_repair::Obstacle;
 
 /// What comes of mending a makefile.
 #[derive(Debug, Drop)]
@@ -17,11 +18,23 @@ pub enum Repair {
 #[derive(Debug, Drop)]
 pub enum Why {
     /// No lines were tried: a finding gives no word.
-    Untried,
+    Untried(Obstacle),
     /// No lines were tried: with them the makefile would be too long.
     TooLong,
     /// Each of these names needs the next one, and the last one is the first. No added line helps.
     Cycle(Names),
-    /// These lines were tried last; with them the makefile has these findings, or is refused.
-    Tried(String, Result<Findings, Fault>),
+    /// These lines were tried last; with them the makefile has these findings, or is refused. And
+    /// why no further lines were tried.
+    Tried(String, Result<Findings, Fault>, Stop),
+}
+
+/// Why no further lines were tried.
+#[derive(Clone, Copy, Debug, Drop)]
+pub enum Stop {
+    /// None are known.
+    NoMore,
+    /// The makefile has been judged 64 times.
+    Judged,
+    /// With further lines the makefile would be too long.
+    TooLong,
 }

@@ -2,13 +2,15 @@
 
 ghost use Rattle.std.specs.Prelude.{◌≡◌, ◌∷◌, ◌++◌, codes, true, IfOk, OnOk};
 ghost use Rattle.std.specs.List.{flat_map, list_any};
+ghost use Rattle.std.specs.String.{string_bytes};
 ghost use Rattle.mk_core_repair.specs.Outcome.{outcome_of, reason_of};
-ghost use Rattle.mk_core_repair.specs.RepairText.{checked_text, cycle_line, is_other_commands, lead, outcome_message, outcome_text, reason_text, record_again, with_tried};
+ghost use Rattle.mk_core_repair.specs.RepairText.{checked_text, cycle_line, is_other_commands, lead, led, others_text, outcome_message, outcome_text, reason_text, record_again, stop_text};
 
-use crate::outcome::{Repair, Why};
+use crate::outcome::{Repair, Stop, Why};
 use mk_core::{Fault, Findings, Name, fault_text};
 use mk_core_text::findings_text;
 use mk_find::Finding;
+use mk_repair::Obstacle;
 use std::alloc::{AllocError, Global};
 
 /// Appends each name after a space. The only error is out of memory.
@@ -33,23 +35,23 @@ fn push_cycle(out: &mut Vec<u8>, names: &[Name]) -> Result<(), AllocError>
     Ok(())
 }
 
-/// Appends `tried ` where a line begins. The only error is out of memory.
-fn push_lead(out: &mut Vec<u8>, begins: bool) -> Result<(), AllocError>
-    ensures { OnOk result (out.new.items ≡ out.old.items ++ lead begins) }
+/// Appends the word where a line begins. The only error is out of memory.
+fn push_lead(out: &mut Vec<u8>, word: &str, begins: bool) -> Result<(), AllocError>
+    ensures { OnOk result (out.new.items ≡ out.old.items ++ lead word.now begins) }
 {
     if begins {
-        out.extend_from_slice(b"tried ")?;
+        out.extend_from_slice(word.as_bytes())?;
     }
     Ok(())
 }
 
-/// Appends the text, with `tried ` at the beginning of each line. The only error is out of memory.
-fn push_tried(out: &mut Vec<u8>, text: &str) -> Result<(), AllocError>
-    ensures { OnOk result (out.new.items ≡ out.old.items ++ with_tried true text.now) }
+/// Appends the text, with the word at the beginning of each line. The only error is out of memory.
+fn push_led(out: &mut Vec<u8>, word: &str, text: &str) -> Result<(), AllocError>
+    ensures { OnOk result (out.new.items ≡ out.old.items ++ led word.now true text.now) }
 {
     let mut begins = true;
     for byte in text.as_bytes() {
-        push_lead(out, begins)?;
+        push_lead(out, word, begins)?;
         out.push(*byte)?;
         begins = *byte == b'\n';
     }
@@ -100,21 +102,73 @@ fn record_again(after: &Result<Findings, Fault>) -> &'static str
     }
 }
 
-/// Appends what `check` prints with the lines that were tried last. The only error is out of
-/// memory.
+/// Why no further lines were tried, where a limit was met.
+fn stop_text(stop: Stop) -> &'static str
+    ensures { result.now ≡ stop_text stop }
+{
+    match stop {
+        Stop::NoMore => "",
+        Stop::Judged => {
+            "the makefile was judged 64 times: append these lines, and run mkcheck repair again\n"
+        }
+        Stop::TooLong => "with further lines the makefile would have more than 16777216 bytes\n",
+    }
+}
+
+/// Appends what to do where lines change commands, and the limit that was met. The only error is
+/// out of memory.
+fn push_advice(
+    out: &mut Vec<u8>,
+    after: &Result<Findings, Fault>,
+    stop: Stop,
+) -> Result<(), AllocError>
+    ensures { OnOk result (out.new.items ≡ out.old.items ++
+        (record_again after.now ++ stop_text stop)) }
+{
+    out.extend_from_slice(record_again(after).as_bytes())?;
+    out.extend_from_slice(stop_text(stop).as_bytes())
+}
+
+/// Appends what `check` prints with the lines that were tried last, and why no further ones were
+/// tried. The only error is out of memory.
 fn push_after(
     alloc: Global,
     out: &mut Vec<u8>,
     after: &Result<Findings, Fault>,
+    stop: Stop,
 ) -> Result<(), AllocError>
     ensures { OnOk result (out.new.items ≡ out.old.items ++
         (codes "with these lines mkcheck check says:\n" ++
-        (checked_text after.now ++ record_again after.now))) }
+        (checked_text after.now ++ (record_again after.now ++ stop_text stop)))) }
 {
     let checked = checked_text(alloc, after)?;
     out.extend_from_slice(b"with these lines mkcheck check says:\n")?;
     out.extend_from_slice(&checked)?;
-    out.extend_from_slice(record_again(after).as_bytes())
+    push_advice(out, after, stop)
+}
+
+/// Appends the lines of the findings that give some, if there are any. The only error is out of
+/// memory.
+fn push_others(out: &mut Vec<u8>, lines: &str) -> Result<(), AllocError>
+    ensures { OnOk result (out.new.items ≡ out.old.items ++ others_text lines.now) }
+{
+    if lines.is_empty() {
+        return Ok(());
+    }
+    out.extend_from_slice(b"lines for the other findings:\n")?;
+    push_led(out, "  add: ", lines)
+}
+
+/// Appends the finding that no line mends, and the lines of the others. The only error is out of
+/// memory.
+fn push_untried(out: &mut Vec<u8>, o: &Obstacle) -> Result<(), AllocError>
+    ensures { OnOk result (out.new.items ≡ out.old.items ++
+        (string_bytes o.now.why ++ (codes "; mkcheck check -w says what to do\n" ++
+        others_text (string_bytes o.now.lines)))) }
+{
+    out.extend_from_slice(o.why.as_bytes())?;
+    out.extend_from_slice(b"; mkcheck check -w says what to do\n")?;
+    push_others(out, o.lines.as_str())
 }
 
 /// Appends why nothing mends a makefile. The only error is out of memory.
@@ -122,16 +176,14 @@ fn push_reason(alloc: Global, out: &mut Vec<u8>, why: &Why) -> Result<(), AllocE
     ensures { OnOk result (out.new.items ≡ out.old.items ++ reason_text (reason_of why.now)) }
 {
     match why {
-        Why::Untried => {
-            out.extend_from_slice(b"no lines mend this; mkcheck check -w says what to do\n")
-        }
+        Why::Untried(o) => push_untried(out, o),
         Why::TooLong => out.extend_from_slice(
             b"with the lines that mend this the makefile would have more than 16777216 bytes\n",
         ),
         Why::Cycle(names) => push_cycle(out, names.as_slice()),
-        Why::Tried(text, after) => {
-            push_tried(out, text.as_str())?;
-            push_after(alloc, out, after)
+        Why::Tried(text, after, stop) => {
+            push_led(out, "tried ", text.as_str())?;
+            push_after(alloc, out, after, *stop)
         }
     }
 }

@@ -80,13 +80,17 @@ fn after_first<F: Files>(
     ensures keeps { Keeps (F.fits files.old) (F.fits files.new) }
     ensures answer { IfOk result (λ repair. IfFits (F.fits files.new)
         (λ told. AfterFirst (names_known told request.now first.survey.files) told request.now
-        first.survey.verdict first.survey.words first.cycle (outcome_of repair))) }
+        first.survey.verdict first.survey.words first.cycle first.obstacle (outcome_of repair))) }
     ensures fault { IfErr result (λ fault. IfFits (F.fits files.new)
         (λ told. IsReadFault (names_known told request.now first.survey.files) fault)) }
     ensures memory { IfErr result (λ fault. is_out_of_memory fault ≡ true → fault ≡ Memory) }
     ensures noted { NotesFailure (F.failed files.old) (F.failed files.new) result }
 {
-    let First { survey, cycle } = first;
+    let First {
+        survey,
+        cycle,
+        obstacle,
+    } = first;
     let Survey {
         verdict,
         words,
@@ -97,7 +101,7 @@ fn after_first<F: Files>(
         Verdict::No(found) => found,
     };
     let Some(words) = words else {
-        return Ok(Repair::Unmended(found, Why::Untried));
+        return Ok(Repair::Unmended(found, Why::Untried(obstacle)));
     };
     if let Some(cycle) = cycle {
         return Ok(Repair::Unmended(found, Why::Cycle(cycle)));
@@ -115,7 +119,7 @@ fn after_first<F: Files>(
 /// are new words, at most 64 times in all. Where lines are the answer, `check` says yes to the
 /// makefile with these lines appended, and so the build is right, in the words that `check` has for
 /// right. Where a cycle is the answer, no makefile that has all targets, recipes and prerequisites
-/// of this one is right.
+/// of this one gets a yes over these footprints.
 ///
 /// The rounds read no files: what the first judgement read is read once more, and all rounds run
 /// over that. A round that would read another file counts as refused.

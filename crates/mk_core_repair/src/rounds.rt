@@ -1,21 +1,21 @@
 //! Appends lines to a makefile and judges it again, until it is right or nothing more is known.
 
-ghost use Rattle.std.specs.Prelude.{◌≡◌, ◌++◌, ◌∷◌, ℕ, List, true, length, nat_lt, Ok, Err, IfErr, IfOk};
+ghost use Rattle.std.specs.Prelude.{◌≡◌, ◌++◌, ◌∷◌, ℕ, List, true, length, nat_lt, Ok, Err, IfErr, IfOk, OnOk};
 ghost use Rattle.std.specs.Option.{option_copied};
 ghost use Rattle.mk_find.specs.declared.finding.Finding as finding;
 ghost use Rattle.mk_read.specs.Files.{Told};
 ghost use Rattle.mk_core.specs.Steps.{is_out_of_memory};
 ghost use Rattle.mk_core_text.specs.declared.fault.Fault.TheVariants.{Memory};
 ghost use Rattle.mk_core_repair.specs.declared.surveying.Survey as value;
-ghost use Rattle.mk_core_repair.specs.Amending.{max_makefile};
+ghost use Rattle.mk_core_repair.specs.Amending.{added_lines, ends_in_backslash, joint, max_makefile};
 ghost use Rattle.mk_core_repair.specs.Known.{IsBase};
-ghost use Rattle.mk_core_repair.specs.Outcome.{too_long};
+ghost use Rattle.mk_core_repair.specs.Outcome.{reason_of, stopped, too_long};
 ghost use Rattle.mk_core_repair.specs.Rounds.{IsRound, Rounds, first_unknown, max_rounds, more_words};
 ghost use Rattle.mk_core_repair.specs.Views.{HasMore, IsFound, end_outcome};
 
 use crate::freeing::freeing;
 use crate::known_files::KnownFiles;
-use crate::outcome::{Repair, Why};
+use crate::outcome::{Repair, Stop, Why};
 use crate::own_makefile::OwnMakefile;
 use crate::round_files::RoundFiles;
 use crate::surveying::{JudgeAgain, Survey};
@@ -30,11 +30,34 @@ const MAX_ROUNDS: u32 = 63;
 /// The most bytes of an amended makefile.
 const MAX_MAKEFILE: usize = 16_777_216;
 
-/// An empty line and then the lines. The only error is out of memory.
-fn added_text(alloc: Global, lines: &str) -> Result<Vec<u8>, AllocError>
-    ensures { IfOk result (λ text. text.items ≡ 10 ∷ lines.now) }
+/// Whether the text ends in a backslash.
+fn ends_in_backslash(text: &[u8]) -> bool
+    ensures { result ≡ ends_in_backslash text.now }
+{
+    match text.last() {
+        Some(byte) => *byte == b'\\',
+        None => false,
+    }
+}
+
+/// Appends a newline if the makefile ends in a backslash, which makes the newline before it part of
+/// the makefile's last line. The only error is out of memory.
+fn push_joint(out: &mut Vec<u8>, makefile: &[u8]) -> Result<(), AllocError>
+    ensures { OnOk result (out.new.items ≡ out.old.items ++ joint makefile.now) }
+{
+    if ends_in_backslash(makefile) {
+        out.push(b'\n')?;
+    }
+    Ok(())
+}
+
+/// What is appended to the makefile to say the lines: a newline, another if the makefile ends in a
+/// backslash, and then the lines. The only error is out of memory.
+fn added_lines(alloc: Global, own: &OwnMakefile, lines: &str) -> Result<Vec<u8>, AllocError>
+    ensures { IfOk result (λ text. text.items ≡ added_lines own.now.text.items lines.now) }
 {
     let mut text = vec![in alloc; b'\n']?;
+    push_joint(&mut text, &own.text)?;
     text.extend_from_slice(lines.as_bytes())?;
     Ok(text)
 }
@@ -158,6 +181,18 @@ fn is_too_long(own: &OwnMakefile, added: &[u8]) -> bool
     added.len() > MAX_MAKEFILE || own.text.len() > MAX_MAKEFILE - added.len()
 }
 
+/// The reason, where for this reason no further lines were tried.
+fn stopped(why: Why, stop: Stop) -> Why
+    ensures { reason_of result ≡ stopped stop (reason_of why) }
+{
+    match why {
+        Why::Untried(obstacle) => Why::Untried(obstacle),
+        Why::TooLong => Why::TooLong,
+        Why::Cycle(names) => Why::Cycle(names),
+        Why::Tried(lines, after, _) => Why::Tried(lines, after, stop),
+    }
+}
+
 /// How the rounds end.
 #[derive(Drop)]
 pub enum End {
@@ -185,18 +220,19 @@ pub fn rounds(
     let mut why = Why::TooLong;
     for _done in 0..MAX_ROUNDS {
         let lines = lines_text(alloc, &words)?;
-        let added = added_text(alloc, lines.as_str())?;
+        let added = added_lines(alloc, own, lines.as_str())?;
         if is_too_long(own, &added) {
-            return Ok(End::Unmended(why));
+            let reason = stopped(why, Stop::TooLong);
+            return Ok(End::Unmended(reason));
         }
         match round(alloc, request, own, known, &mut words, &added) {
             Ok(Found::Right) => return Ok(End::Mended(added)),
             Ok(Found::Unknown(name)) => {
                 let fault = Fault::FileReadFailed(name);
-                return Ok(End::Unmended(Why::Tried(lines, Err(fault))));
+                return Ok(End::Unmended(Why::Tried(lines, Err(fault), Stop::NoMore)));
             }
             Ok(Found::Lacks(found, is_new)) => {
-                why = Why::Tried(lines, Ok(found));
+                why = Why::Tried(lines, Ok(found), Stop::NoMore);
                 if !is_new {
                     return Ok(End::Unmended(why));
                 }
@@ -205,9 +241,10 @@ pub fn rounds(
                 if fault.is_out_of_memory() {
                     return Err(Fault::Memory);
                 }
-                return Ok(End::Unmended(Why::Tried(lines, Err(fault))));
+                return Ok(End::Unmended(Why::Tried(lines, Err(fault), Stop::NoMore)));
             }
         }
     }
-    Ok(End::Unmended(why))
+    let last = stopped(why, Stop::Judged);
+    Ok(End::Unmended(last))
 }

@@ -1,14 +1,14 @@
 //! Judges a build, and finds what its makefile lacks.
 
-ghost use Rattle.std.specs.Prelude.{◌≡◌, ◌++◌, map, IfOk, OnOk};
+ghost use Rattle.std.specs.Prelude.{◌≡◌, ◌++◌, [], map, IfOk, OnOk};
 ghost use Rattle.std.specs.String.{string_bytes};
 ghost use Rattle.mk_core_repair.specs.NotRead.{first_not_read, survey_not_read};
-ghost use Rattle.mk_core_repair.specs.Survey.{GivesFirst, GivesSurvey, IsCycleFor, IsFirst, IsSurvey, words_for};
+ghost use Rattle.mk_core_repair.specs.Survey.{GivesFirst, GivesSurvey, IsCycleFor, IsFirst, IsObstacleFor, IsSurvey, words_for};
 
 use crate::needing::cycle_of_needs;
 use mk_core::{Fault, Files, Judge, Name, Names, Verdict, verdict_of};
 use mk_read::Makefile;
-use mk_repair::{Words, words_of};
+use mk_repair::{Obstacle, Words, obstacle_of, words_of};
 use mk_subject::Subject;
 use std::alloc::{AllocError, Global};
 
@@ -30,6 +30,8 @@ pub struct First {
     pub survey: Survey,
     /// The first cycle of what the nodes need; looked for where a no has words.
     pub cycle: Option<Names>,
+    /// What stops a repair; looked for where a finding of a no gives no word.
+    pub obstacle: Obstacle,
 }
 
 /// The words of the findings of a verdict. The only error is out of memory.
@@ -100,13 +102,47 @@ fn cycle_for(
     }
 }
 
+/// No obstacle.
+fn no_obstacle(alloc: Global) -> Obstacle
+    ensures why { string_bytes result.why ≡ [] }
+    ensures lines { string_bytes result.lines ≡ [] }
+{
+    Obstacle {
+        why: String::new(alloc),
+        lines: String::new(alloc),
+    }
+}
+
+/// What stops a repair, where a finding of a no gives no word. The only error is out of memory.
+fn obstacle_for(
+    alloc: Global,
+    subject: &Subject<'_>,
+    verdict: &Verdict,
+    words: &Option<Words>,
+) -> Result<Obstacle, AllocError>
+    ensures { IfOk result (λ o. IsObstacleFor subject.now verdict.now words.now o) }
+{
+    match verdict {
+        Verdict::Yes { .. } => Ok(no_obstacle(alloc)),
+        Verdict::No(found) => match words {
+            Some(_) => Ok(no_obstacle(alloc)),
+            None => obstacle_of(alloc, subject, found.as_slice()),
+        },
+    }
+}
+
 /// What the first judgement finds. The only error is out of memory.
 fn first_of(alloc: Global, subject: &Subject<'_>) -> Result<First, AllocError>
     ensures { IfOk result (λ first. IsFirst subject.now first) }
 {
     let survey = survey_of(alloc, subject)?;
     let cycle = cycle_for(alloc, subject, &survey.verdict, &survey.words)?;
-    Ok(First { survey, cycle })
+    let obstacle = obstacle_for(alloc, subject, &survey.verdict, &survey.words)?;
+    Ok(First {
+        survey,
+        cycle,
+        obstacle,
+    })
 }
 
 /// Judges the makefile as it is.

@@ -1,5 +1,5 @@
 -- The answer of `repair` is one.
-use Rattle.std.proofs.Common.{◌≡◌, ◌++◌, ℕ, zero, suc, true, false, true≢false, List, map, Option, Some, None, Result, Ok, Err, inl, inr, refl, sym, ap, subst, ◌∙◌}
+use Rattle.std.proofs.Common.{◌≡◌, ◌++◌, ℕ, zero, suc, true, false, true≢false, List, map, Option, Some, None, Result, Ok, Err, inl, inr, refl, sym, ap, subst, ◌∙◌, string_bytes}
 use Rattle.mk_subject.specs.Subject.{Subject, footprints}
 use Rattle.mk_find.specs.declared.finding.Finding.{Finding}
 use Rattle.mk_graph.specs.Graph.{Graph}
@@ -22,14 +22,15 @@ use Rattle.mk_core.proofs.Seen.{fault_same}
 use Rattle.mk_core_laws.specs.AnswerLaws.{IsSettled, VerdictIsOne}
 use Rattle.mk_repair.specs.Lines.{lines_text}
 use Rattle.mk_repair.specs.Word.{Word}
+use Rattle.mk_repair.specs.declared.obstacle.Obstacle.{Obstacle}
 use Rattle.mk_core_repair.specs.declared.outcome.Repair.{Repair}
 use Rattle.mk_core_repair.specs.declared.surveying.First.{First}
 use Rattle.mk_core_repair.specs.declared.surveying.Survey.{Survey}
 use Rattle.mk_core_repair.specs.Amending.{added_text, amended_among, makefile_name, makefile_text, names_known}
-use Rattle.mk_core_repair.specs.Outcome.{Outcome, Reason, unmended, too_long, cycle, tried, outcome_of}
+use Rattle.mk_core_repair.specs.Outcome.{Outcome, Reason, unmended, untried, too_long, cycle, tried_all, outcome_of}
 use Rattle.mk_core_repair.specs.RepairAnswer.{AnswersRepair, IsFirstOf}
 use Rattle.mk_core_repair.specs.Rounds.{AfterFirst, AfterKnown, AfterRound, AfterVerdict, IsRound, Onward, Rounds, first_unknown, max_rounds, more_words}
-use Rattle.mk_core_repair.specs.Survey.{GivesSurvey, IsCycleFor, IsFirst}
+use Rattle.mk_core_repair.specs.Survey.{GivesSurvey, IsCycleFor, IsFirst, IsObstacleFor}
 use Rattle.mk_core_repair.proofs.Cuts.{behind_same}
 use Rattle.mk_core_repair.proofs.Surveys.{first_surveys, survey_checks}
 use Rattle.mk_core_repair_laws.specs.RepairLaws.{IsReadThrough, RepairIsOne}
@@ -65,22 +66,22 @@ module _ (verdicts : VerdictIsOne) (selection : SelectionIsOne) (walks : WalkHas
     module _ (rounds : List Word → Reason → Outcome → Type 0) (later : (more : List Word) (before : Reason) → rounds more before one → rounds more before other → one ≡ other) (words : List Word) where
       onward_one : (found : List Finding) (more : Option (List Word)) → Onward rounds first words found more one → Onward rounds first words found more other → one ≡ other
       onward_one found None a b = a ∙ sym b
-      onward_one found (Some more) a b = later more (tried (lines_text words) (Ok found)) a b
+      onward_one found (Some more) a b = later more (tried_all (lines_text words) (Ok found)) a b
 
-      verdict_one : (verdict : Verdict) (new : Option (List Word)) → AfterVerdict rounds first words verdict new one → AfterVerdict rounds first words verdict new other → one ≡ other
+      verdict_one : (verdict : Verdict) (new : Option (List Word)) → AfterVerdict (makefile_text files request) rounds first words verdict new one → AfterVerdict (makefile_text files request) rounds first words verdict new other → one ≡ other
       verdict_one (Yes certificate recipes reads) new a b = a ∙ sym b
       verdict_one (No found) new a b = onward_one found (more_words words new) a b
 
-      known_one : (survey : Survey) (o : Option (List ℕ)) → AfterKnown rounds first words survey o one → AfterKnown rounds first words survey o other → one ≡ other
+      known_one : (survey : Survey) (o : Option (List ℕ)) → AfterKnown (makefile_text files request) rounds first words survey o one → AfterKnown (makefile_text files request) rounds first words survey o other → one ≡ other
       known_one survey None a b = verdict_one survey.verdict survey.words a b
       known_one survey (Some name) a b = a ∙ sym b
 
-      after_one : (survey : Result Survey Fault) → AfterRound rounds names first words survey one → AfterRound rounds names first words survey other → one ≡ other
+      after_one : (survey : Result Survey Fault) → AfterRound (makefile_text files request) rounds names first words survey one → AfterRound (makefile_text files request) rounds names first words survey other → one ≡ other
       after_one (Ok survey) a b = known_one survey (first_unknown names survey.files) a b
       after_one (Err fault) (full, a) (also, b) = a ∙ sym b
 
     -- no read failed in a round whose outcome has no failed read
-    read_through : (rounds : List Word → Reason → Outcome → Type 0) (words : List Word) (survey : Result Survey Fault) (outcome : Outcome) → IsReadThrough outcome → AfterRound rounds names first words survey outcome → IsSettled survey
+    read_through : (rounds : List Word → Reason → Outcome → Type 0) (words : List Word) (survey : Result Survey Fault) (outcome : Outcome) → IsReadThrough outcome → AfterRound (makefile_text files request) rounds names first words survey outcome → IsSettled survey
     read_through rounds words (Ok survey) outcome k a = tt
     read_through rounds words (Err fault) outcome k (full, a) = settled_fault (List Finding) Survey fault (subst IsReadThrough a k)
 
@@ -92,35 +93,39 @@ module _ (verdicts : VerdictIsOne) (selection : SelectionIsOne) (walks : WalkHas
     rounds_one (suc left) words before (inr (short, judged)) (inl (long, b)) = absurd (true≢false (sym long ∙ short))
     rounds_one (suc left) words before (inr (short, (survey, is, a))) (inr (also, (again, it, b))) =
         let rounds = Rounds left names files request first in
-        let same = round_one names (added_text words) survey again (read_through rounds words survey one s a) (read_through rounds words again other t b) is it in
-        after_one rounds (λ more why a b. rounds_one left more why a b) words survey a (subst (λ (r : Result Survey Fault). AfterRound rounds names first words r other) (sym same) b)
+        let same = round_one names (added_text (makefile_text files request) words) survey again (read_through rounds words survey one s a) (read_through rounds words again other t b) is it in
+        after_one rounds (λ more why a b. rounds_one left more why a b) words survey a (subst (λ (r : Result Survey Fault). AfterRound (makefile_text files request) rounds names first words r other) (sym same) b)
 
   -- ---- after the first judgement
 
   module _ (names : List (List ℕ)) (x : Subject) (one other : Outcome) (s : IsReadThrough one) (t : IsReadThrough other) where
-    first_one : (verdict : Verdict) (words : Option (List Word)) (path again : Option (List (List ℕ))) → IsCycleFor x verdict words path → IsCycleFor x verdict words again
-        → AfterFirst names files request verdict words path one → AfterFirst names files request verdict words again other → one ≡ other
-    first_one (Yes certificate recipes reads) words path again is it a b = a ∙ sym b
-    first_one (No found) None path again is it a b = a ∙ sym b
-    first_one (No found) (Some words) None None is it a b = rounds_one names found one other s t max_rounds words too_long a b
-    first_one (No found) (Some words) (Some path) (Some again) is it a b =
+    first_one : (verdict : Verdict) (words : Option (List Word)) (path again : Option (List (List ℕ))) (stuck also : Obstacle) → IsCycleFor x verdict words path → IsCycleFor x verdict words again
+        → IsObstacleFor x verdict words stuck → IsObstacleFor x verdict words also
+        → AfterFirst names files request verdict words path stuck one → AfterFirst names files request verdict words again also other → one ≡ other
+    first_one (Yes certificate recipes reads) words path again stuck also is it of on a b = a ∙ sym b
+    first_one (No found) None path again stuck also is it of on a b =
+        a ∙ (ap (λ (why : List ℕ). unmended found (untried why (string_bytes stuck.lines))) (of.is_why ∙ sym on.is_why)
+        ∙ (ap (λ (lines : List ℕ). unmended found (untried (string_bytes also.why) lines)) (of.is_lines ∙ sym on.is_lines) ∙ sym b))
+    first_one (No found) (Some words) None None stuck also is it of on a b = rounds_one names found one other s t max_rounds words too_long a b
+    first_one (No found) (Some words) (Some path) (Some again) stuck also is it of on a b =
         let same : Some path ≡ Some again = cycle_one walks (needs_graph x.graph (footprints x.setting)) (Some path) (Some again) is it in
         let paths : path ≡ again = cc in
         a ∙ (ap (λ (p : List (List ℕ)). unmended found (cycle p)) paths ∙ sym b)
-    first_one (No found) (Some words) None (Some again) is it a b =
+    first_one (No found) (Some words) None (Some again) stuck also is it of on a b =
         let same : None ≡ Some again = cycle_one walks (needs_graph x.graph (footprints x.setting)) None (Some again) is it in absurd cc
-    first_one (No found) (Some words) (Some path) None is it a b =
+    first_one (No found) (Some words) (Some path) None stuck also is it of on a b =
         let same : Some path ≡ None = cycle_one walks (needs_graph x.graph (footprints x.setting)) (Some path) None is it in absurd cc
 
   outcome_one : (first again : First) → IsFirstOf files request first → IsFirstOf files request again → (one other : Outcome) → IsReadThrough one → IsReadThrough other
-      → AfterFirst (names_known files request first.survey.files) files request first.survey.verdict first.survey.words first.cycle one
-      → AfterFirst (names_known files request again.survey.files) files request again.survey.verdict again.survey.words again.cycle other → one ≡ other
+      → AfterFirst (names_known files request first.survey.files) files request first.survey.verdict first.survey.words first.cycle first.obstacle one
+      → AfterFirst (names_known files request again.survey.files) files request again.survey.verdict again.survey.words again.cycle again.obstacle other → one ≡ other
   outcome_one first again is it one other s t a b =
       let both = shared selection IsFirst IsFirst (ready_for files None request) first again is it in
       let same = survey_one verdicts selection files request first.survey again.survey (first_surveys files request (Ok first) is) (first_surveys files request (Ok again) it) in
-      first_one (names_known files request first.survey.files) both.0 one other s t first.survey.verdict first.survey.words first.cycle again.cycle both.1.1
-      (subst (λ (v : Survey). IsCycleFor both.0 v.verdict v.words again.cycle) (sym same) both.2.1) a
-      (subst (λ (v : Survey). AfterFirst (names_known files request v.files) files request v.verdict v.words again.cycle other) (sym same) b)
+      first_one (names_known files request first.survey.files) both.0 one other s t first.survey.verdict first.survey.words first.cycle again.cycle first.obstacle again.obstacle both.1.1
+      (subst (λ (v : Survey). IsCycleFor both.0 v.verdict v.words again.cycle) (sym same) both.2.1) both.1.2
+      (subst (λ (v : Survey). IsObstacleFor both.0 v.verdict v.words again.obstacle) (sym same) both.2.2) a
+      (subst (λ (v : Survey). AfterFirst (names_known files request v.files) files request v.verdict v.words again.cycle again.obstacle other) (sym same) b)
 
   -- ---- refusals
 

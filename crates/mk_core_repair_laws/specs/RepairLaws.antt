@@ -11,7 +11,7 @@ use Rattle.mk_core_repair.specs.RepairAnswer.{AnswersRepair}
 
 -- The outcome isn't that a read failed with the lines that were tried last.
 abbrev pub IsReadThrough : Outcome → Type 0
-IsReadThrough (unmended found (tried lines after)) = IsSettled after
+IsReadThrough (unmended found (tried lines after stop)) = IsSettled after
 IsReadThrough outcome = Unit {0}
 
 -- The answer is neither out of memory nor a failed read, also with the lines that were tried last.

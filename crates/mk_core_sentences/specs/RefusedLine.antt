@@ -5,7 +5,7 @@ use Rattle.std.specs.Option.{option_and_then}
 use Rattle.std.specs.Str.{bytes_eq}
 use Rattle.mk_infer.specs.declared.fault.InferFault.{InferFault}
 use Rattle.mk_infer.specs.declared.fault.InferFault.TheVariants as infer
-use Rattle.mk_lines.specs.Bytes.{is_byte}
+use Rattle.mk_lines.specs.Bytes.{begins_with, is_byte}
 use Rattle.mk_lines.specs.declared.fault.LineFault.{LineFault}
 use Rattle.mk_lines.specs.declared.fault.LineFault.TheVariants as line
 use Rattle.mk_read.specs.declared.fault.Place.{Place}
@@ -70,11 +70,20 @@ abbrev pub in_file : Option Place → Option Place
 in_file None = None
 in_file (Some place) = if is_no_file place.file then None else Some place
 
+-- The file lies outside of the folder in which the program runs, and of those below it.
+abbrev pub lies_outside : List ℕ → Bool
+lies_outside file = begins_with (codes "/") file || begins_with (codes "../") file
+
+-- The place, if its line may be shown.
+abbrev pub shown_place : Option Place → Option Place
+shown_place None = None
+shown_place (Some place) = if lies_outside place.file then None else Some place
+
 -- The line of a file that is printed after the refusal, if it has one. There is none where the
 -- request is refused before any file is read.
 abbrev pub line_place : Request → Fault → Option Place
 line_place request fault =
-    if is_ok (macros_for request) then in_file (place_of fault) else None
+    if is_ok (macros_for request) then shown_place (in_file (place_of fault)) else None
 
 -- The physical line with this number, counted from 1, without its newline, if there is one.
 abbrev pub physical_line : List ℕ → ℕ → Option (List ℕ)

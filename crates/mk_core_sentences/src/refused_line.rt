@@ -4,8 +4,9 @@ ghost use Rattle.std.specs.Prelude.{◌≡◌, ◌∷◌, ◌++◌, [], Some, ma
 ghost use Rattle.std.specs.Option.{option_map, unwrap_or};
 ghost use Rattle.mk_read.specs.Files.{Keeps};
 ghost use Rattle.mk_read.specs.declared.fault.Place as place;
+ghost use Rattle.mk_lines.specs.Bytes.{begins_with};
 ghost use Rattle.mk_core.specs.Ready.{macros_for};
-ghost use Rattle.mk_core_sentences.specs.RefusedLine.{FindsLine, in_file, is_no_file, line_end, line_place, line_text, max_shown, physical_line, place_of, place_of_infer, place_of_line, place_of_read, shown_byte, shown_line};
+ghost use Rattle.mk_core_sentences.specs.RefusedLine.{FindsLine, in_file, is_no_file, lies_outside, line_end, line_place, line_text, max_shown, physical_line, place_of, place_of_infer, place_of_line, place_of_read, shown_byte, shown_line, shown_place};
 
 use mk_core::{Fault, Request};
 use mk_infer::InferFault;
@@ -122,6 +123,32 @@ pub fn line_in_file(fault: &Fault) -> Option<FileLine<'_>>
 {
     match place_of(fault) {
         Some(place) if !is_no_file(place.file) => Some(place),
+        _ => None,
+    }
+}
+
+/// Whether a text begins with `front`.
+fn begins_with(front: &[u8], text: &[u8]) -> bool
+    ensures { result ≡ begins_with front.now text.now }
+{
+    text.starts_with(front)
+}
+
+/// Whether the file lies outside of the folder in which the program runs, and of those below it. Its
+/// lines may be secret.
+fn lies_outside(file: &Name) -> bool
+    ensures { result ≡ lies_outside file.now }
+{
+    let file = file.as_str().as_bytes();
+    begins_with(b"/", file) || begins_with(b"../", file)
+}
+
+/// The line of a file that the fault names, if it names one that may be shown.
+fn shown_line_of(fault: &Fault) -> Option<FileLine<'_>>
+    ensures { result ≡ shown_place (in_file (place_of fault.now)) }
+{
+    match line_in_file(fault) {
+        Some(place) if !lies_outside(place.file) => Some(place),
         _ => None,
     }
 }
@@ -272,7 +299,8 @@ fn line_at<F: Files>(
 }
 
 /// The line of a file that is printed after the refusal of this request by this fault, with its
-/// newline; nothing where the fault has no such line, or where the file can't be read again. The
+/// newline; nothing where the fault has no such line, where the file lies outside of the folder in
+/// which the program runs and of those below it, or where it can't be read again. The
 /// only error is out of memory.
 pub fn line_of_fault<F: Files>(
     alloc: Global,
@@ -285,7 +313,7 @@ pub fn line_of_fault<F: Files>(
         (F.failed files.new) (line_place request.now fault.now) line.items) }
     ensures untouched { OnErr (macros_for request.now) (files.new ≡ files.old) }
 {
-    let Some(place) = line_in_file(fault) else {
+    let Some(place) = shown_line_of(fault) else {
         return Ok(Vec::new(alloc));
     };
     // A fault at such a place comes from a file. That isn't known of every reader, so it is tested

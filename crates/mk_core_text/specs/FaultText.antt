@@ -254,6 +254,10 @@ fault_text_in form Memory = no_memory
 unfoldable pub step_fault_text : ℕ → StepFault → List ℕ
 step_fault_text line fault = step_fault_text_in Numbered line fault
 
+-- The text of why a step refuses this line of a plan, in words.
+unfoldable pub step_fault_words : ℕ → StepFault → List ℕ
+step_fault_words line fault = step_fault_text_in InWords line fault
+
 -- The text of a fault with numbers, without a newline.
 unfoldable pub fault_text : Fault → List ℕ
 fault_text fault = fault_text_in Numbered fault

@@ -12,4 +12,4 @@ pub use fault::Fault;
 pub use printing::text_of;
 pub use rendering::{findings_text, render, yes_line};
 pub use verdict::{Findings, Verdict};
-pub use wording::{fault_text, fault_words, step_fault_text};
+pub use wording::{fault_text, fault_words, step_fault_text, step_fault_words};

@@ -2,7 +2,7 @@
 
 ghost use Rattle.std.specs.Prelude.{◌≡◌, ◌∷◌, [], codes, map, IfOk, option_to_list};
 ghost use Rattle.std.specs.Option.{option_map};
-ghost use Rattle.mk_core_text.specs.FaultText.{certificate_fault_text, fault_text, fault_text_in, fault_words, foot_fault_text, graph_fault_text, infer_fault_text, kind_fault_text, line_fault_text, macro_fault_text, place_text, plan_fault_text, read_fault_text, refusal, refusal_with, step_fault_text, step_fault_text_in, verify_fault_text};
+ghost use Rattle.mk_core_text.specs.FaultText.{certificate_fault_text, fault_text, fault_text_in, fault_words, foot_fault_text, graph_fault_text, infer_fault_text, kind_fault_text, line_fault_text, macro_fault_text, place_text, plan_fault_text, read_fault_text, refusal, refusal_with, step_fault_text, step_fault_text_in, step_fault_words, verify_fault_text};
 
 use crate::fault::Fault;
 use crate::refusal::{
@@ -318,6 +318,19 @@ pub fn step_fault_text(alloc: Global, line: usize, fault: &StepFault) -> Result<
     ensures { IfOk result (λ text. text.items ≡ step_fault_text line fault.now) }
 {
     step_fault_text_in(alloc, Form::Numbered, line, fault)
+}
+
+/// The text in words of why a step refuses this line of a plan, as that of `fault_words`. The only
+/// error is out of memory.
+#[tactic(auto, unfolding(crate::specs::FaultText::step_fault_words))]
+pub fn step_fault_words(
+    alloc: Global,
+    line: usize,
+    fault: &StepFault,
+) -> Result<Vec<u8>, AllocError>
+    ensures { IfOk result (λ text. text.items ≡ step_fault_words line fault.now) }
+{
+    step_fault_text_in(alloc, Form::InWords, line, fault)
 }
 
 /// The text of a fault.

@@ -8,3 +8,4 @@ pub mod Gathering
 pub mod Lines
 pub mod Rows
 pub mod Laws
+pub mod Obstacle

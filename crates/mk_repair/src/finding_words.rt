@@ -53,7 +53,7 @@ fn need_of_maker<'a>(
 }
 
 /// The word for a finding, whatever its names are. The lookups are those of the subject.
-fn word_for<'a>(
+pub fn word_for<'a>(
     subject: &'a Subject<'_>,
     lookups: &Lookups<'a>,
     finding: &'a Finding,

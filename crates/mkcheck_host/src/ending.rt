@@ -7,7 +7,7 @@ ghost use Rattle.mkcheck_host.specs.Ending.{Ends, said, status_of, streams, to_w
 ghost use Rattle.mkcheck_host.specs.declared.ending.Ending.{Ending};
 
 use crate::outcome::Outcome;
-use crate::sink::Sink;
+use crate::sink::{Sink, WriteFailed};
 use crate::writing::emit;
 use std::io;
 use std::io::{ErrorKind, Write};
@@ -81,13 +81,16 @@ impl Ending {
     }
 }
 
-// Writes to standard error that a write failed, as far as that can be written.
-fn cut<E: Write>(err: &mut Sink<E>) -> Ending
+// Writes to standard error that a write failed, as far as that can be written; nothing where nobody
+// reads the text any more.
+fn cut<E: Write>(err: &mut Sink<E>, failed: WriteFailed) -> Ending
     ensures ending { result ≡ Ending.WriteFailed }
     ensures line { AppendsSome (E.contents err.old.writer) (E.contents err.new.writer)
         failure_line }
 {
-    let _ = emit(err, b"write failed\n");
+    if !failed.is_closed {
+        let _ = emit(err, b"write failed\n");
+    }
     Ending::WriteFailed
 }
 
@@ -103,11 +106,11 @@ fn send<O: Write, E: Write>(
         (E.contents err.old.writer) (E.contents err.new.writer) in
         Ends streams (record { out = text.now; err = message.now; status = status }) result }
 {
-    if emit(out, text).is_err() {
-        return cut(err);
+    if let Err(failed) = emit(out, text) {
+        return cut(err, failed);
     }
-    if emit(err, message).is_err() {
-        return cut(err);
+    if let Err(failed) = emit(err, message) {
+        return cut(err, failed);
     }
     Ending::Complete(status)
 }

@@ -4,11 +4,14 @@ ghost use Rattle.std.specs.Prelude.{◌≡◌, ◌<◌, ◌≤◌, length, IfOk,
 ghost use Rattle.std.specs.Io.KnownBytes.{WriteAppends};
 ghost use Rattle.mkcheck_host.specs.Writing.{next_failure};
 
-use std::io::Write;
+use std::io::{ErrorKind, Write};
 
 /// A write failed or wrote no bytes.
 #[derive(Clone, Copy, Debug)]
-pub struct WriteFailed;
+pub struct WriteFailed {
+    /// Whether nobody reads what is written any more, as at the end of a pipe that was closed.
+    pub is_closed: bool,
+}
 
 /// A writer, and how many writes have failed.
 #[derive(Drop)]
@@ -49,12 +52,12 @@ impl<W: Write> Sink<W> {
         ensures ok { OnOk result (self.new.failures ≡ self.old.failures) }
         ensures failed { OnErr result (self.new.failures ≡ next_failure self.old.failures) }
     {
-        match self.writer.write(buf) {
-            Ok(0) | Err(_) => {
-                self.failures = self.failures.saturating_add(1);
-                Err(WriteFailed)
-            }
-            Ok(n) => Ok(n),
-        }
+        let is_closed = match self.writer.write(buf) {
+            Ok(0) => false,
+            Ok(n) => return Ok(n),
+            Err(error) => matches!(error.kind(), ErrorKind::BrokenPipe),
+        };
+        self.failures = self.failures.saturating_add(1);
+        Err(WriteFailed { is_closed })
     }
 }

@@ -21,11 +21,13 @@ use Rattle.mk_core_text.specs.declared.fault.Fault.TheVariants.{Memory}
 use Rattle.mk_core.specs.declared.request.Request.{Request}
 use Rattle.mk_core_evidence.specs.declared.showing.Evidence.{Evidence}
 use Rattle.mk_core_evidence.specs.declared.showing.Evidence.TheVariants.{Plan, NoPlan}
+use Rattle.mk_command.specs.declared.invocation.Form.{Form}
+use Rattle.mk_command.specs.declared.invocation.Form.TheVariants.{Lines, Words, Json}
 use Rattle.mk_command.specs.declared.invocation.Invocation.{Invocation}
-use Rattle.mk_command.specs.declared.invocation.Invocation.TheVariants.{Check, CheckInWords, Repair}
+use Rattle.mk_command.specs.declared.invocation.Invocation.TheVariants.{Check, CheckInWords, Graph, Repair, Simulate, Verify}
 use Rattle.mk_command.specs.Invocation.{AreRefusedUnread, faults_of, invocation_of, request_in}
 use Rattle.mkcheck_host.specs.Outcome.{Written}
-use Rattle.mkcheck_run.specs.Run.{AnswersInvocation, Explains, Promises, Response, Shows, evidence_response, repair_response, repair_status}
+use Rattle.mkcheck_run.specs.Run.{AnswersInvocation, Explains, MendsIn, Promises, Response, Shows, evidence_response, repair_response, repair_status}
 
 -- what is explained is one of the kinds, and not out of memory
 pub explained_kind : (kind : ErrorKind) (kinds : Kinds) (w : Written) → Explains kind w → (kind ≡ OutOfMemory) ⊎ IsAmong kind kinds → IsAmong kind kinds
@@ -61,9 +63,19 @@ module _ (told : Told) (request : Request) (only_certificate : Bool) (number : �
 pub no_memory_in_words : (told : Told) (request : Request) (only_certificate : Bool) → AnswersInvocation told (CheckInWords request only_certificate) (Err Memory)
 no_memory_in_words told request only_certificate = (Err Memory, tt, refl)
 
+-- and to one for a graph, for the reading of a certificate, or for the run of a plan
+pub no_memory_draws : (told : Told) (request : Request) (form : Form) → AnswersInvocation told (Graph request form) (Err Memory)
+no_memory_draws told request form = (Err Memory, tt, refl)
+
+pub no_memory_verifies : (told : Told) (request : Request) (certificate : List ℕ) (form : Form) → AnswersInvocation told (Verify request certificate form) (Err Memory)
+no_memory_verifies told request certificate form = (Err Memory, tt, refl)
+
+pub no_memory_runs : (told : Told) (request : Request) (plan : List ℕ) (form : Form) → AnswersInvocation told (Simulate request plan form) (Err Memory)
+no_memory_runs told request plan form = (Err Memory, tt, refl)
+
 -- and to one to mend a makefile
-pub no_memory_mends : (told : Told) (request : Request) → AnswersInvocation told (Repair request) (Err Memory)
-no_memory_mends told request = (Err Memory, tt, refl)
+pub no_memory_mends : (told : Told) (request : Request) (form : Form) → AnswersInvocation told (Repair request form) (Err Memory)
+no_memory_mends told request form = (Err Memory, tt, refl)
 
 module _ (told : Told) (request : Request) where
   text_mends : (found : Repaired) → Suffices told request (Ok found) → repair_status (outcome_of found) ≡ 0 → Mends told request (outcome_text (outcome_of found))
@@ -71,11 +83,21 @@ module _ (told : Told) (request : Request) where
   text_mends (repairs.Mended text) s e = s
   text_mends (repairs.Unmended list why) s e = absurd cc
 
-  -- with status 0 the text that is shown mends the makefile
-  pub shown_mends : (found : Repaired) (shown : Response) → Suffices told request (Ok found) → shown ≡ repair_response found → shown.status ≡ 0 → Mends told request shown.text
-  shown_mends found shown s e done =
+  json_mends : (found : Repaired) → Suffices told request (Ok found) → repair_status (outcome_of found) ≡ 0 → MendsIn Json told request (repair_response Json found).text
+  json_mends repairs.Right s e = ([], s, refl)
+  json_mends (repairs.Mended text) s e = (outcome_text (outcome_of (repairs.Mended text)), s, refl)
+  json_mends (repairs.Unmended list why) s e = absurd cc
+
+  form_mends : (form : Form) (found : Repaired) → Suffices told request (Ok found) → (repair_response form found).status ≡ 0 → MendsIn form told request (repair_response form found).text
+  form_mends Lines found s e = text_mends found s e
+  form_mends Words found s e = text_mends found s e
+  form_mends Json found s e = json_mends found s e
+
+  -- with status 0 the text that is shown mends the makefile, or has the lines that do
+  pub shown_mends : (form : Form) (found : Repaired) (shown : Response) → Suffices told request (Ok found) → shown ≡ repair_response form found → shown.status ≡ 0 → MendsIn form told request shown.text
+  shown_mends form found shown s e done =
       let ends = sym (ap (λ (r : Response). r.status) e) ∙ done in
-      subst (λ (r : Response). Mends told request r.text) (sym e) (text_mends found s ends)
+      subst (λ (r : Response). MendsIn form told request r.text) (sym e) (form_mends form found s ends)
 
 -- what the words spell
 abbrev pub texts_of : List (String Global) → List Text

@@ -1,5 +1,5 @@
 -- The outcome of a run.
-use Rattle.std.specs.Prelude.{◌≡◌, ◌⊎◌, ℕ, Bool, false, List, [], ◌∷◌, ◌++◌, codes, Option, None, Some, Result, Ok, Err, if◌then◌else◌}
+use Rattle.std.specs.Prelude.{◌≡◌, ◌⊎◌, ℕ, ◌==◌, Bool, true, false, List, [], ◌∷◌, ◌++◌, codes, option_and_then, is_some, Option, None, Some, Result, Ok, Err, if◌then◌else◌}
 use Rattle.std.specs.Option.{option_or}
 use Rattle.clap.specs.Words.{IsAmong, Kinds}
 use Rattle.clap.specs.declared.error.ErrorKind.{ErrorKind}
@@ -12,14 +12,16 @@ use Rattle.mk_core.specs.CheckAnswer.{AnswersCheck}
 use Rattle.mk_core_evidence.specs.EvidenceAnswer.{AnswersEvidence}
 use Rattle.mk_core.specs.GraphAnswer.{AnswersGraph}
 use Rattle.mk_core.specs.SimulationAnswer.{AnswersSimulation}
-use Rattle.mk_core.specs.Simulation.{Simulation}
+use Rattle.mk_core.specs.Simulation.{Simulation, run_text, run_words}
 use Rattle.mk_core_text.specs.FaultText.{fault_text, fault_words}
 use Rattle.mk_core.specs.Right.{IsRightFor}
 use Rattle.mk_core.specs.Steps.{is_out_of_memory, seen}
 use Rattle.mk_core_text.specs.VerdictText.{verdict_text}
 use Rattle.mk_core.specs.VerifyAnswer.{AnswersVerify}
 use Rattle.mk_explain.specs.Explain.{explained, overview_text}
-use Rattle.mk_core_json.specs.AnswerValue.{refusal_value}
+use Rattle.mk_explain.specs.Near.{near_text}
+use Rattle.mk_core_json.specs.AnswerValue.{answer_text, refusal_value}
+use Rattle.mk_core_json.specs.OtherValues.{mended_value, printed_value, run_value, unmended_value}
 use Rattle.mk_core_json.specs.declared.checking.InJson.{InJson}
 use Rattle.mk_core_json.specs.declared.checking.InJson.TheVariants as json
 use Rattle.mk_core_json.specs.InJsonAnswer.{AnswersInJson}
@@ -27,6 +29,7 @@ use Rattle.mk_core_sentences.specs.declared.checking.InWords.{InWords}
 use Rattle.mk_core_sentences.specs.declared.checking.InWords.TheVariants as words
 use Rattle.mk_core_sentences.specs.InWordsAnswer.{AnswersInWords}
 use Rattle.mk_core_sentences.specs.RefusedLine.{FindsLine, line_place}
+use Rattle.mk_read.specs.Names.{is_empty}
 use Rattle.mk_read.specs.declared.fault.Place.{Place}
 use Rattle.mk_core_repair.specs.declared.outcome.Repair.{Repair as Repaired}
 use Rattle.mk_core_repair.specs.Outcome.{Outcome, right, mended, unmended, outcome_of}
@@ -39,6 +42,9 @@ use Rattle.mk_core_text.specs.declared.verdict.Verdict.TheVariants.{Yes, No}
 use Rattle.mk_core.specs.Files.{IfFits, Told}
 use Rattle.mk_cert_text.specs.Writing.{value_of}
 use Rattle.serde_json.specs.Written.{compact_text}
+use Rattle.mk_command.specs.Invocation.{form_of, request_of}
+use Rattle.mk_command.specs.declared.invocation.Form.{Form}
+use Rattle.mk_command.specs.declared.invocation.Form.TheVariants.{Lines, Words, Json}
 use Rattle.mk_command.specs.declared.invocation.Invocation.{Invocation}
 use Rattle.mk_command.specs.declared.invocation.Invocation.TheVariants.{Graph, Check, CheckInWords, CheckInJson, Repair, Explain, Verify, Simulate}
 use Rattle.mkcheck_host.specs.Outcome.{Written}
@@ -82,9 +88,24 @@ abbrev pub evidence_response : Bool → Evidence → Response
 evidence_response only_certificate (Plan plan) = plan_response plan.items
 evidence_response only_certificate (NoPlan verdict) = response_without_plan only_certificate verdict
 
+-- What follows a yes in words: that nothing was judged, if the goals reach no recipe.
+abbrev pub yes_note : Bool → Verdict → List ℕ
+yes_note true verdict = []
+yes_note false (Yes certificate recipes reads) =
+    if recipes == 0
+    then codes "the goals reach no recipe, so nothing was judged; name other goals\n" else []
+yes_note false (No found) = []
+
+-- The response with a verdict as without words, and that nothing was judged, if that is so.
+abbrev pub noted_response : Bool → Verdict → Response
+noted_response only_certificate verdict =
+    record (verdict_response only_certificate verdict) {
+      text = (verdict_response only_certificate verdict).text ++ yes_note only_certificate verdict;
+    }
+
 -- The response with a verdict in words: a yes as without words; a no has status 1.
 abbrev pub words_response : Bool → InWords → Response
-words_response only_certificate (words.Yes verdict) = verdict_response only_certificate verdict
+words_response only_certificate (words.Yes verdict) = noted_response only_certificate verdict
 words_response only_certificate (words.No text) = printed_response text.items 1
 
 -- The response with a verdict as JSON: a yes has status 0, a no status 1.
@@ -100,38 +121,86 @@ repair_status (unmended found reason) = 1
 
 -- The response with what comes of mending: the lines go to standard output; why there are none goes
 -- to standard error.
-abbrev pub repair_response : Repaired → Response
-repair_response found =
+abbrev pub lines_response : Outcome → Response
+lines_response outcome =
     record {
-      text = outcome_text (outcome_of found);
-      err = outcome_message (outcome_of found);
-      status = repair_status (outcome_of found);
+      text = outcome_text outcome;
+      err = outcome_message outcome;
+      status = repair_status outcome;
     }
 
+-- What comes of mending, as JSON.
+abbrev pub repair_in_json : Outcome → List ℕ
+repair_in_json right = answer_text (mended_value (outcome_text right))
+repair_in_json (mended text) = answer_text (mended_value (outcome_text (mended text)))
+repair_in_json (unmended found reason) =
+    answer_text (unmended_value (outcome_message (unmended found reason)))
+
+-- The response with what comes of mending, in this form.
+abbrev pub repair_response : Form → Repaired → Response
+repair_response Lines found = lines_response (outcome_of found)
+repair_response Words found = lines_response (outcome_of found)
+repair_response Json found =
+    printed_response (repair_in_json (outcome_of found)) (repair_status (outcome_of found))
+
+-- The text of a run in this form.
+abbrev pub run_printed : Form → Simulation → List ℕ
+run_printed Lines run = run_text run
+run_printed Words run = run_words run
+run_printed Json run = answer_text (run_value run.printed run.refused run.left)
+
+-- The status of a run: 2 where a line was refused, else 0.
+abbrev pub run_status : Simulation → ℕ
+run_status run = if is_some run.refused then 2 else 0
+
 -- The response with the run of a plan: status 2 where a line was refused, else 0.
-abbrev pub run_response : Simulation → Response
-run_response run = printed_response run.text (if run.refused then 2 else 0)
+abbrev pub run_response : Form → Simulation → Response
+run_response form run =
+    printed_response (run_printed form run) (run_status run)
+
+-- The response with the text of a graph, or of a certificate that is accepted, in this form.
+abbrev pub form_response : Form → List ℕ → Response
+form_response Lines text = text_response text
+form_response Words text = text_response text
+form_response Json text = text_response (answer_text (printed_value text))
 
 -- The explanation of the first of the words that has one.
 abbrev pub first_explained : List (List ℕ) → Option (List ℕ)
 first_explained [] = None
 first_explained (word ∷ words) = option_or (explained word) (first_explained words)
 
--- What standard error gets where none of the words is explained.
-abbrev pub unknown_text : List ℕ
-unknown_text =
-    codes "error: none of these words is explained; mkcheck explain lists those that are\n"
+-- What begins like this word among what is explained, if something does.
+abbrev pub near : List ℕ → Option (List ℕ)
+near word = if is_empty (near_text word) then None else Some (near_text word)
 
--- The response with an explanation, or without one with status 2.
-abbrev pub explained_response : Option (List ℕ) → Response
-explained_response (Some text) = text_response text
-explained_response None = record { text = []; err = unknown_text; status = 2 }
+-- What begins like the first of the words for which there is such a thing.
+abbrev pub first_near : List (List ℕ) → Option (List ℕ)
+first_near [] = None
+first_near (word ∷ words) = option_or (near word) (first_near words)
+
+-- What to look up in place of words that aren't explained.
+abbrev pub instead_text : Option (List ℕ) → List ℕ
+instead_text None = codes "mkcheck explain lists those that are"
+instead_text (Some near) = codes "these begin alike: " ++ near
+
+-- What standard error gets where none of the words is explained.
+abbrev pub unknown_text : List (List ℕ) → List ℕ
+unknown_text words =
+    codes "error: none of these words is explained; " ++ (instead_text (first_near words) ++
+    10 ∷ [])
+
+-- The response with the explanation of the first of the words that has one, or without one with
+-- status 2.
+abbrev pub explained_response : List (List ℕ) → Option (List ℕ) → Response
+explained_response words (Some text) = text_response text
+explained_response words None = record { text = []; err = unknown_text words; status = 2 }
 
 -- The response to `explain`: the explanation of the first of the words that has one; without words
 -- the overview.
 abbrev pub explain_response : List (List ℕ) → Response
 explain_response [] = text_response overview_text
-explain_response (word ∷ words) = explained_response (first_explained (word ∷ words))
+explain_response (word ∷ words) =
+    explained_response (word ∷ words) (first_explained (word ∷ words))
 
 -- The response to `check`: the verdict as it is shown, or the fault.
 abbrev pub ShowsVerdict : Told → Request → (Verdict → Response) → Result Response Fault → Type 0
@@ -150,9 +219,10 @@ ShowsPlan files request only_certificate (Err fault) answer = answer ≡ Err fau
 
 -- Over files with this map, the response to the command, or its fault.
 abbrev pub AnswersInvocation : Told → Invocation → Result Response Fault → Type 0
-AnswersInvocation files (Graph request) answer =
+AnswersInvocation files (Graph request form) answer =
     (text : Result (List ℕ) Fault) ×
-    Answers files request (AnswersGraph request.commands) text × (answer ≡ seen text_response text)
+    Answers files request (AnswersGraph request.commands) text ×
+    (answer ≡ seen (form_response form) text)
 AnswersInvocation files (Check request only_certificate None) answer =
     ShowsVerdict files request (verdict_response only_certificate) answer
 AnswersInvocation files (Check request only_certificate (Some number)) answer =
@@ -166,18 +236,26 @@ AnswersInvocation files (CheckInWords request only_certificate) answer =
 AnswersInvocation files (CheckInJson request) answer =
     (found : Result InJson Fault) ×
     Answers files request AnswersInJson found × (answer ≡ seen json_response found)
-AnswersInvocation files (Repair request) answer =
+AnswersInvocation files (Repair request form) answer =
     (found : Result Repaired Fault) ×
-    AnswersRepair files request found × (answer ≡ seen repair_response found)
+    AnswersRepair files request found × (answer ≡ seen (repair_response form) found)
 AnswersInvocation files (Explain what) answer =
     (answer ≡ Err Memory) ⊎ (answer ≡ Ok (explain_response what))
-AnswersInvocation files (Verify request certificate) answer =
+AnswersInvocation files (Verify request certificate form) answer =
     (text : Result (List ℕ) Fault) ×
     Answers files request (AnswersVerify files certificate) text ×
-    (answer ≡ seen text_response text)
-AnswersInvocation files (Simulate request plan) answer =
+    (answer ≡ seen (form_response form) text)
+AnswersInvocation files (Simulate request plan form) answer =
     (run : Result Simulation Fault) ×
-    Answers files request (AnswersSimulation files plan) run × (answer ≡ seen run_response run)
+    Answers files request (AnswersSimulation files plan) run ×
+    (answer ≡ seen (run_response form) run)
+
+-- The text that `repair` prints in this form mends the makefile, or has the lines that do.
+abbrev pub MendsIn : Form → Told → Request → List ℕ → Type 0
+MendsIn Lines files request text = Mends files request text
+MendsIn Words files request text = Mends files request text
+MendsIn Json files request text =
+    (lines : List ℕ) × Mends files request lines × (text ≡ answer_text (mended_value lines))
 
 -- What status 0 of a command with this text on standard output says, over files with this map: the
 -- build that `check` or `verify` judges is right, and the text that `repair` prints mends it.
@@ -185,24 +263,30 @@ abbrev pub Promises : Told → Invocation → List ℕ → Type 0
 Promises files (Check request only_certificate evidence) text = IsRightFor files request
 Promises files (CheckInWords request only_certificate) text = IsRightFor files request
 Promises files (CheckInJson request) text = IsRightFor files request
-Promises files (Repair request) text = Mends files request text
-Promises files (Verify request certificate) text = IsRightFor files request
+Promises files (Repair request form) text = MendsIn form files request text
+Promises files (Verify request certificate form) text = IsRightFor files request
 Promises files asked text = Unit {0}
 
--- The text of a fault, as this command prints it: with `-w` in words, with `--json` as JSON.
-abbrev pub refusal_text : Invocation → Fault → List ℕ
-refusal_text (CheckInWords request only_certificate) fault = fault_words fault
-refusal_text (CheckInJson request) fault = compact_text (refusal_value fault)
-refusal_text asked fault = fault_text fault
+-- What is printed for a refusal by this fault in this form, with the line of a file that is shown
+-- for it.
+abbrev pub refusal_text : Form → Fault → (line : List ℕ) → List ℕ
+refusal_text Lines fault line = fault_text fault ++ 10 ∷ []
+refusal_text Words fault line = fault_words fault ++ 10 ∷ line
+refusal_text Json fault line = compact_text (refusal_value fault line) ++ 10 ∷ []
 
--- The line of a file that is printed after the refusal by this fault: with `-w` alone.
+-- The line of a file that is shown for a refusal in this form: none in lines.
+abbrev pub line_in : Form → Option Request → Fault → Option Place
+line_in Lines request fault = None
+line_in Words request fault = option_and_then (λ asked. line_place asked fault) request
+line_in Json request fault = option_and_then (λ asked. line_place asked fault) request
+
+-- The line of a file that is shown for the refusal of this command by this fault.
 abbrev pub line_shown : Invocation → Fault → Option Place
-line_shown (CheckInWords request only_certificate) fault = line_place request fault
-line_shown asked fault = None
+line_shown asked fault = line_in (form_of asked) (request_of asked) fault
 
 -- The response to the command is written to both streams, with its status; a fault as a refusal on
--- a line of standard output, with status 2, and with `-w` its line of a file, which is read for
--- that, after it. Out of memory isn't written here. The names whose reads failed grew by at most
+-- standard output, with status 2, in words or as JSON with its line of a file, which is read for
+-- that. Out of memory isn't written here. The names whose reads failed grew by at most
 -- that file, where it can't be read again.
 abbrev pub Shows : (Told → Type 0) → (old new : List (List ℕ)) → Invocation →
     Result Response Fault → Written → Type 0
@@ -211,7 +295,7 @@ Shows fits old new asked (Ok shown) w =
 Shows fits old new asked (Err fault) w =
     (is_out_of_memory fault ≡ false) ×
     (line : List ℕ) × FindsLine fits old new (line_shown asked fault) line ×
-    (w ≡ record { out = refusal_text asked fault ++ 10 ∷ line; err = []; status = 2 })
+    (w ≡ record { out = refusal_text (form_of asked) fault line; err = []; status = 2 })
 
 -- The outcome is that of some response or fault. It is the defined one over each map that fits what
 -- the reader has answered. The names whose reads failed grew by the name that the fault says, if it

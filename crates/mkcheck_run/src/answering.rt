@@ -1,6 +1,6 @@
 //! Carries out a command.
 
-ghost use Rattle.std.specs.Prelude.{◌≡◌, ◌∷◌, ◌++◌, [], None, Some, IfErr, IfOk, OnErr};
+ghost use Rattle.std.specs.Prelude.{◌≡◌, ◌∷◌, ◌++◌, [], None, Some, IfErr, IfOk, OnErr, OnOk};
 ghost use Rattle.std.specs.Option.{option_map};
 ghost use Rattle.std.specs.String.{string_bytes};
 ghost use Rattle.mk_core.specs.Files.{IfFits, Keeps, Told};
@@ -11,21 +11,24 @@ ghost use Rattle.mk_core.specs.Right.{IsRightFor};
 ghost use Rattle.mk_cert_text.specs.Writing.{value_of};
 ghost use Rattle.serde_json.specs.Written.{compact_text};
 ghost use Rattle.mk_command.specs.Invocation.{request_in};
-ghost use Rattle.mkcheck_run.specs.Run.{AnswersInvocation, Promises, evidence_response, plan_response, repair_response, explain_response, explained_response, first_explained, printed_response, json_response, run_response, text_response, verdict_response, words_response, response_without_plan};
-ghost use Rattle.mk_command.specs.declared.invocation.Invocation.TheVariants.{Check, CheckInJson, CheckInWords, Explain, Repair as Mend};
+ghost use Rattle.mk_core_repair.specs.Outcome.{outcome_of};
+ghost use Rattle.mkcheck_run.specs.Run.{AnswersInvocation, Promises, evidence_response, form_response, plan_response, lines_response, repair_in_json, repair_response, repair_status, explain_response, explained_response, first_explained, first_near, instead_text, near, printed_response, json_response, noted_response, run_printed, run_response, run_status, text_response, unknown_text, verdict_response, words_response, response_without_plan, yes_note};
+ghost use Rattle.mk_command.specs.declared.invocation.Invocation.TheVariants.{Check, CheckInJson, CheckInWords, Explain, Graph, Repair as Mend, Simulate, Verify};
 
 use crate::running::{DONE, NO, REFUSED};
 use mk_cert_text::{Certificate, certificate_text};
-use mk_command::Invocation;
+use mk_command::{Form, Invocation};
 use mk_core::{
     Fault, Files, Name, Names, Request, Simulation, Verdict, check, drop_or_leak, graph_text,
-    render, simulate_text, verify_text,
+    render, run_text, run_words, simulate, verify_text,
 };
 use mk_core_evidence::{Evidence, evidence_or_verdict};
-use mk_core_json::{InJson, check_in_json};
+use mk_core_json::{
+    InJson, check_in_json, mended_in_json, printed_in_json, run_in_json, unmended_in_json,
+};
 use mk_core_repair::{Repair, repair, repair_message, repair_text};
 use mk_core_sentences::{InWords, check_in_words};
-use mk_explain::{explain, overview};
+use mk_explain::{explain, near_words, overview};
 use std::alloc::{AllocError, Global};
 use std::marker::Model;
 
@@ -120,12 +123,41 @@ fn response_without_plan(
     }
 }
 
-// The response with the run of a plan: status 2 where a line was refused.
-fn run_response(alloc: Global, run: Simulation) -> Response
-    ensures { result ≡ run_response run }
+// The text of a run in this form.
+fn run_printed(alloc: Global, form: Form, run: Simulation) -> Result<Vec<u8>, AllocError>
+    ensures { IfOk result (λ text. text.items ≡ run_printed form run) }
 {
-    let status = if run.refused { REFUSED } else { DONE };
-    printed_response(alloc, run.text, status)
+    match form {
+        Form::Lines => run_text(alloc, run),
+        Form::Words => run_words(alloc, run),
+        Form::Json => run_in_json(alloc, &run),
+    }
+}
+
+// The status of the run of a plan: 2 where a line was refused.
+fn run_status(run: &Simulation) -> u8
+    ensures { result ≡ run_status run.now }
+{
+    if run.refused.is_some() { REFUSED } else { DONE }
+}
+
+// The response with the run of a plan: status 2 where a line was refused.
+fn run_response(alloc: Global, form: Form, run: Simulation) -> Result<Response, AllocError>
+    ensures { IfOk result (λ shown. shown ≡ run_response form run) }
+{
+    let status = run_status(&run);
+    let text = run_printed(alloc, form, run)?;
+    Ok(printed_response(alloc, text, status))
+}
+
+// The response with the text of a graph, or of a certificate that is accepted, in this form.
+fn form_response(alloc: Global, form: Form, text: Vec<u8>) -> Result<Response, AllocError>
+    ensures { IfOk result (λ shown. shown ≡ form_response form text.items) }
+{
+    match form {
+        Form::Lines | Form::Words => Ok(text_response(alloc, text)),
+        Form::Json => Ok(text_response(alloc, printed_in_json(alloc, &text)?)),
+    }
 }
 
 // Carries out `check` without `-e`.
@@ -185,7 +217,34 @@ fn answer_plan<F: Files>(
     Ok(shown)
 }
 
-// The response with a verdict in words, a yes as without words.
+// What follows a yes in words: that nothing was judged, if the goals reach no recipe.
+fn yes_note(verdict: &Verdict, only_certificate: bool) -> &'static str
+    ensures { result.now ≡ yes_note only_certificate verdict.now }
+{
+    match verdict {
+        Verdict::Yes { recipes: 0, .. } if !only_certificate => {
+            "the goals reach no recipe, so nothing was judged; name other goals\n"
+        }
+        _ => "",
+    }
+}
+
+// The response with a verdict in words: a yes as without words, and that nothing was judged, if that
+// is so.
+fn noted_response(
+    alloc: Global,
+    verdict: &Verdict,
+    only_certificate: bool,
+) -> Result<Response, AllocError>
+    ensures { IfOk result (λ shown. shown ≡ noted_response only_certificate verdict.now) }
+{
+    let mut shown = verdict_response(alloc, verdict, only_certificate)?;
+    let note = yes_note(verdict, only_certificate);
+    shown.text.extend_from_slice(note.as_bytes())?;
+    Ok(shown)
+}
+
+// The response with a verdict in words.
 fn words_response(
     alloc: Global,
     found: InWords,
@@ -194,7 +253,7 @@ fn words_response(
     ensures { IfOk result (λ shown. shown ≡ words_response only_certificate found) }
 {
     match found {
-        InWords::Yes(verdict) => verdict_response(alloc, &verdict, only_certificate),
+        InWords::Yes(verdict) => noted_response(alloc, &verdict, only_certificate),
         InWords::No(text) => Ok(printed_response(alloc, text, NO)),
     }
 }
@@ -259,19 +318,65 @@ fn first_explained(alloc: Global, words: &[Name]) -> Result<Option<String>, Allo
     Ok(None)
 }
 
+// What begins like this word among what is explained, if something does.
+fn near(alloc: Global, word: &str) -> Result<Option<String>, AllocError>
+    ensures { IfOk result (λ told. option_map string_bytes told ≡ near word.now) }
+{
+    let text = near_words(alloc, word)?;
+    if text.is_empty() {
+        return Ok(None);
+    }
+    Ok(Some(text))
+}
+
+// What begins like the first of the words for which there is such a thing.
+fn first_near(alloc: Global, words: &[Name]) -> Result<Option<String>, AllocError>
+    ensures { IfOk result (λ told. option_map string_bytes told ≡ first_near words.now) }
+{
+    for word in words {
+        if let Some(text) = near(alloc, word.as_str())? {
+            return Ok(Some(text));
+        }
+    }
+    Ok(None)
+}
+
+// What to look up in place of words that aren't explained.
+fn instead_text(alloc: Global, near: Option<String>) -> Result<Vec<u8>, AllocError>
+    ensures { IfOk result (λ text. text.items ≡ instead_text (option_map string_bytes near)) }
+{
+    match near {
+        Some(near) => {
+            let mut text = Vec::from_slice(alloc, b"these begin alike: ")?;
+            text.extend_from_slice(near.as_bytes())?;
+            Ok(text)
+        }
+        None => Vec::from_slice(alloc, b"mkcheck explain lists those that are"),
+    }
+}
+
+// What standard error gets where none of the words is explained.
+fn unknown_text(alloc: Global, words: &[Name]) -> Result<Vec<u8>, AllocError>
+    ensures { IfOk result (λ text. text.items ≡ unknown_text words.now) }
+{
+    let instead = instead_text(alloc, first_near(alloc, words)?)?;
+    let mut text = Vec::from_slice(alloc, b"error: none of these words is explained; ")?;
+    text.extend_from_slice(&instead)?;
+    text.push(b'\n')?;
+    Ok(text)
+}
+
 // The response with the explanation of the first of the words that has one, or with status 2 where
 // none has.
 fn explained_response(alloc: Global, words: &[Name]) -> Result<Response, AllocError>
-    ensures { IfOk result (λ shown. shown ≡ explained_response (first_explained words.now)) }
+    ensures { IfOk result (λ shown. shown ≡
+        explained_response words.now (first_explained words.now)) }
 {
     match first_explained(alloc, words)? {
         Some(text) => Ok(text_response(alloc, text.into_bytes())),
         None => Ok(Response {
             text: Vec::new(alloc),
-            err: Vec::from_slice(
-                alloc,
-                b"error: none of these words is explained; mkcheck explain lists those that are\n",
-            )?,
+            err: unknown_text(alloc, words)?,
             status: REFUSED,
         }),
     }
@@ -296,17 +401,56 @@ fn answer_explain(alloc: Global, words: &Names) -> Result<Response, Fault>
     Ok(shown)
 }
 
-// The response with what comes of mending: status 1 where nothing known mends the makefile.
-fn repair_response(alloc: Global, found: &Repair) -> Result<Response, AllocError>
-    ensures { IfOk result (λ shown. shown ≡ repair_response found.now) }
+// The status of what comes of mending: 1 where nothing known mends the makefile.
+fn repair_status(found: &Repair) -> u8
+    ensures { result ≡ repair_status (outcome_of found.now) }
+{
+    match found {
+        Repair::Right | Repair::Mended(_) => DONE,
+        Repair::Unmended(..) => NO,
+    }
+}
+
+// What comes of mending, as JSON.
+fn repair_in_json(alloc: Global, found: &Repair) -> Result<Vec<u8>, AllocError>
+    ensures { IfOk result (λ text. text.items ≡ repair_in_json (outcome_of found.now)) }
+{
+    match found {
+        Repair::Right | Repair::Mended(_) => {
+            let text = repair_text(alloc, found)?;
+            mended_in_json(alloc, &text)
+        }
+        Repair::Unmended(..) => {
+            let message = repair_message(alloc, found)?;
+            unmended_in_json(alloc, &message)
+        }
+    }
+}
+
+// The response with what comes of mending, in lines.
+fn lines_response(alloc: Global, found: &Repair) -> Result<Response, AllocError>
+    ensures { IfOk result (λ shown. shown ≡ lines_response (outcome_of found.now)) }
 {
     let text = repair_text(alloc, found)?;
     let err = repair_message(alloc, found)?;
-    let status = match found {
-        Repair::Right | Repair::Mended(_) => DONE,
-        Repair::Unmended(..) => NO,
-    };
-    Ok(Response { text, err, status })
+    Ok(Response {
+        text,
+        err,
+        status: repair_status(found),
+    })
+}
+
+// The response with what comes of mending, in this form.
+fn repair_response(alloc: Global, form: Form, found: &Repair) -> Result<Response, AllocError>
+    ensures { IfOk result (λ shown. shown ≡ repair_response form found.now) }
+{
+    match form {
+        Form::Lines | Form::Words => lines_response(alloc, found),
+        Form::Json => {
+            let text = repair_in_json(alloc, found)?;
+            Ok(printed_response(alloc, text, repair_status(found)))
+        }
+    }
 }
 
 // Carries out `repair`.
@@ -314,19 +458,78 @@ fn answer_repair<F: Files>(
     alloc: Global,
     files: &mut F,
     request: &Request,
+    form: Form,
 ) -> Result<Response, Fault>
     ensures keeps { Keeps (F.fits files.old) (F.fits files.new) }
     ensures answer { IfFits (F.fits files.new)
-        (λ told. AnswersInvocation told (Mend request.now) result) }
+        (λ told. AnswersInvocation told (Mend request.now form) result) }
     ensures right { IfFits (F.fits files.new)
         (λ told. IfOk result (λ shown.
-        shown.status ≡ 0 → Promises told (Mend request.now) shown.text)) }
+        shown.status ≡ 0 → Promises told (Mend request.now form) shown.text)) }
     ensures noted { NotesFailure (F.failed files.old) (F.failed files.new) result }
     ensures untouched { OnErr (macros_for request.now) (files.new ≡ files.old) }
 {
     let found = repair(alloc, files, request)?;
-    let shown = repair_response(alloc, &found)?;
+    let shown = repair_response(alloc, form, &found)?;
     drop_or_leak(found, request.leaves_memory);
+    Ok(shown)
+}
+
+// Carries out `graph`.
+fn answer_graph<F: Files>(
+    alloc: Global,
+    files: &mut F,
+    request: &Request,
+    form: Form,
+) -> Result<Response, Fault>
+    ensures keeps { Keeps (F.fits files.old) (F.fits files.new) }
+    ensures answer { IfFits (F.fits files.new)
+        (λ told. AnswersInvocation told (Graph request.now form) result) }
+    ensures noted { NotesFailure (F.failed files.old) (F.failed files.new) result }
+    ensures untouched { OnErr (macros_for request.now) (files.new ≡ files.old) }
+{
+    let text = graph_text(alloc, files, request)?;
+    let shown = form_response(alloc, form, text)?;
+    Ok(shown)
+}
+
+// Carries out `verify`.
+fn answer_verify<F: Files>(
+    alloc: Global,
+    files: &mut F,
+    request: &Request,
+    certificate: &Name,
+    form: Form,
+) -> Result<Response, Fault>
+    ensures keeps { Keeps (F.fits files.old) (F.fits files.new) }
+    ensures answer { IfFits (F.fits files.new)
+        (λ told. AnswersInvocation told (Verify request.now certificate.now form) result) }
+    ensures right { IfFits (F.fits files.new)
+        (λ told. IfOk result (λ shown. shown.status ≡ 0 → IsRightFor told request.now)) }
+    ensures noted { NotesFailure (F.failed files.old) (F.failed files.new) result }
+    ensures untouched { OnErr (macros_for request.now) (files.new ≡ files.old) }
+{
+    let text = verify_text(alloc, files, request, certificate.as_str())?;
+    let shown = form_response(alloc, form, text)?;
+    Ok(shown)
+}
+
+// Carries out `simulate`.
+fn answer_plan_run<F: Files>(
+    alloc: Global,
+    files: &mut F,
+    request: &Request,
+    plan: &Name,
+    form: Form,
+) -> Result<Response, Fault>
+    ensures keeps { Keeps (F.fits files.old) (F.fits files.new) }
+    ensures answer { IfFits (F.fits files.new)
+        (λ told. AnswersInvocation told (Simulate request.now plan.now form) result) }
+    ensures noted { NotesFailure (F.failed files.old) (F.failed files.new) result }
+    ensures untouched { OnErr (macros_for request.now) (files.new ≡ files.old) }
+{
+    let run = simulate(alloc, files, request, plan.as_str())?;
+    let shown = run_response(alloc, form, run)?;
     Ok(shown)
 }
 
@@ -343,10 +546,7 @@ pub fn answer<F: Files>(alloc: Global, files: &mut F, asked: &Invocation) -> Res
     ensures untouched { OnErr (macros_for (request_in asked.now)) (files.new ≡ files.old) }
 {
     match asked {
-        Invocation::Graph(request) => {
-            let text = graph_text(alloc, files, request)?;
-            Ok(text_response(alloc, text))
-        }
+        Invocation::Graph { request, form } => answer_graph(alloc, files, request, *form),
         Invocation::Check {
             request,
             only_certificate,
@@ -362,18 +562,17 @@ pub fn answer<F: Files>(alloc: Global, files: &mut F, asked: &Invocation) -> Res
             only_certificate,
         } => answer_in_words(alloc, files, request, *only_certificate),
         Invocation::CheckInJson(request) => answer_in_json(alloc, files, request),
-        Invocation::Repair(request) => answer_repair(alloc, files, request),
+        Invocation::Repair { request, form } => answer_repair(alloc, files, request, *form),
         Invocation::Explain(words) => answer_explain(alloc, words),
         Invocation::Verify {
             request,
             certificate,
-        } => {
-            let text = verify_text(alloc, files, request, certificate.as_str())?;
-            Ok(text_response(alloc, text))
-        }
-        Invocation::Simulate { request, plan } => {
-            let run = simulate_text(alloc, files, request, plan.as_str())?;
-            Ok(run_response(alloc, run))
-        }
+            form,
+        } => answer_verify(alloc, files, request, certificate, *form),
+        Invocation::Simulate {
+            request,
+            plan,
+            form,
+        } => answer_plan_run(alloc, files, request, plan, *form),
     }
 }

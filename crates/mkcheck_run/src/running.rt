@@ -5,16 +5,17 @@ ghost use Rattle.clap.specs.Words.{has_subcommand, kind_of, subcommand_rows_of};
 ghost use Rattle.mk_core.specs.Files.{IfFits, Keeps};
 ghost use Rattle.mk_core.specs.Ready.{macros_for};
 ghost use Rattle.mk_core_sentences.specs.RefusedLine.{FindsLine};
-ghost use Rattle.mk_command.specs.Invocation.{AreRefusedUnread, invocation_of, asked_with, asking, faults_of, request_in};
+ghost use Rattle.mk_command.specs.Invocation.{AreRefusedUnread, invocation_of, asked_with, asking, faults_of, form_of, request_in};
 ghost use Rattle.mk_command.specs.CommandLine.{HasNoOption, graph_words};
 ghost use Rattle.mkcheck_host.specs.Outcome.{written};
 ghost use Rattle.mkcheck_run.specs.Run.{Explains, IsAnswered, IsRefused, Promises, Shows, line_shown, refusal_text};
+ghost use Rattle.mk_command.specs.declared.invocation.Form.TheVariants.{Lines};
 ghost use Rattle.mk_command.specs.declared.invocation.Invocation.TheVariants.{Graph};
 
 use crate::answering::{Response, answer};
 use clap::error::ErrorKind;
 use clap::{ArgMatches, Error};
-use mk_command::{Invocation, command_line, invocation_by};
+use mk_command::{Form, Invocation, command_line, form_of, invocation_by, request_of};
 use mk_core::{Fault, Files, fault_text};
 use mk_core_sentences::line_of_fault;
 use mk_core_text::fault_words;
@@ -31,19 +32,28 @@ pub const NO: u8 = 1;
 /// The exit status of a refusal.
 pub const REFUSED: u8 = 2;
 
-// The text of a fault, as this command prints it, without a newline.
-fn refusal_text(alloc: Global, asked: &Invocation, fault: &Fault) -> Result<Vec<u8>, AllocError>
-    ensures { IfOk result (λ text. text.items ≡ refusal_text asked.now fault.now) }
+// What is printed for a refusal, given the line of a file that is shown for it.
+fn refusal_text(
+    alloc: Global,
+    form: Form,
+    fault: &Fault,
+    line: &[u8],
+) -> Result<Vec<u8>, AllocError>
+    ensures { IfOk result (λ text. text.items ≡ refusal_text form fault.now line.now) }
 {
-    match asked {
-        Invocation::CheckInWords { .. } => fault_words(alloc, fault),
-        Invocation::CheckInJson(_) => mk_core_json::refusal_text(alloc, fault),
-        _ => fault_text(alloc, fault),
+    let mut text = match form {
+        Form::Lines => fault_text(alloc, fault)?,
+        Form::Words => fault_words(alloc, fault)?,
+        Form::Json => mk_core_json::refusal_text(alloc, fault, line)?,
+    };
+    text.push(b'\n')?;
+    if let Form::Words = form {
+        text.extend_from_slice(line)?;
     }
+    Ok(text)
 }
 
-// The line of a file that is printed after the refusal, with its newline; nothing where there is
-// none.
+// The line of a file that is shown for the refusal, with its newline; nothing where there is none.
 fn line_after<F: Files>(
     alloc: Global,
     files: &mut F,
@@ -55,8 +65,8 @@ fn line_after<F: Files>(
         (F.failed files.new) (line_shown asked.now fault.now) line.items) }
     ensures untouched { OnErr (macros_for (request_in asked.now)) (files.new ≡ files.old) }
 {
-    match asked {
-        Invocation::CheckInWords { request, .. } => line_of_fault(alloc, files, request, fault),
+    match (form_of(asked), request_of(asked)) {
+        (Form::Words | Form::Json, Some(request)) => line_of_fault(alloc, files, request, fault),
         _ => Ok(Vec::new(alloc)),
     }
 }
@@ -76,10 +86,8 @@ fn refused<F: Files>(
     if fault.is_out_of_memory() {
         return Err(AllocError);
     }
-    let mut out = refusal_text(alloc, asked, fault)?;
-    out.push(b'\n')?;
     let line = line_after(alloc, files, asked, fault)?;
-    out.extend_from_slice(&line)?;
+    let out = refusal_text(alloc, form_of(asked), fault, &line)?;
     Ok(Outcome {
         out,
         err: Vec::new(alloc),
@@ -109,6 +117,34 @@ fn shown<F: Files>(
     }
 }
 
+// What is said of a value of `-e`, the one option whose values are tested.
+const BAD_NUMBER: &[u8] = b"\
+error: -e takes the number of a finding, a whole number from 1 on
+
+For more information, try '--help'.
+";
+
+// The text of a fault of the words without the tips that say how an option could be given as a
+// WORD, each with the empty line behind it.
+fn without_tips(alloc: Global, text: &str) -> Result<Vec<u8>, AllocError> {
+    let mut out = Vec::new(alloc);
+    let mut behind = false;
+    for line in text.as_bytes().split(|byte| *byte == b'\n') {
+        if line.starts_with(b"  tip: to pass '") {
+            behind = true;
+            continue;
+        }
+        if behind && line.is_empty() {
+            behind = false;
+            continue;
+        }
+        out.extend_from_slice(line)?;
+        out.push(b'\n')?;
+    }
+    out.pop();
+    Ok(out)
+}
+
 // The outcome where the words aren't a command: help or the version with status 0, a fault of the
 // words with status 2.
 fn explained(alloc: Global, error: &Error) -> Result<Outcome, AllocError>
@@ -121,9 +157,14 @@ fn explained(alloc: Global, error: &Error) -> Result<Outcome, AllocError>
             err: Vec::new(alloc),
             status: DONE,
         }),
+        ErrorKind::ValueValidation => Ok(Outcome {
+            out: Vec::new(alloc),
+            err: Vec::from_slice(alloc, BAD_NUMBER)?,
+            status: FAULT,
+        }),
         _ => Ok(Outcome {
             out: Vec::new(alloc),
-            err: error.to_string(alloc)?.into_bytes(),
+            err: without_tips(alloc, error.to_string(alloc)?.as_str())?,
             status: FAULT,
         }),
     }
@@ -180,7 +221,7 @@ pub fn run<F: Files, S: AsStr>(
         map S.text words.now ≡ graph_words makefile asked → HasNoOption makefile asked →
         length asked < 2 ^ 64 →
         IsAnswered (F.fits files.new) (F.failed files.old) (F.failed files.new)
-        (Graph (asking makefile asked)) (written outcome)) }
+        (Graph (asking makefile asked) Lines) (written outcome)) }
 
     // Words with a fault are refused.
     ensures refused { IfOk result (λ outcome. faults_of (map S.text words.now) ≢ [] →

@@ -2,7 +2,7 @@
 
 use mk_core::{
     Fault, MemFiles, Name, Request, Simulation, Verdict, check, fault_text, graph_text, render,
-    simulate_text, split_words, verify_text,
+    run_text, simulate, split_words, verify_text,
 };
 use mk_core_evidence::{Evidence, evidence_or_verdict, evidence_text};
 use std::alloc::{AllocError, Global};
@@ -77,7 +77,7 @@ fn rendered(alloc: Global, answer: Result<Verdict, Fault>) -> Result<Vec<u8>, Al
 /// Returns the text of a run, or the line of its fault.
 fn ran(alloc: Global, answer: Result<Simulation, Fault>) -> Result<Vec<u8>, AllocError> {
     match answer {
-        Ok(run) => Ok(run.text),
+        Ok(run) => run_text(alloc, run),
         Err(fault) => fault_text(alloc, &fault),
     }
 }
@@ -109,7 +109,7 @@ pub(crate) enum Call {
     Check,
     /// `verify_text` of `K`.
     Verify,
-    /// `simulate_text` of `P`.
+    /// `simulate` of `P`.
     Simulate,
     /// `evidence_text` of the finding with this number.
     Plan(u64),
@@ -128,7 +128,7 @@ fn bytes_of(
         Call::Graph => text_of(alloc, graph_text(alloc, files, request)),
         Call::Check => rendered(alloc, check(alloc, files, request)),
         Call::Verify => text_of(alloc, verify_text(alloc, files, request, "K")),
-        Call::Simulate => ran(alloc, simulate_text(alloc, files, request, "P")),
+        Call::Simulate => ran(alloc, simulate(alloc, files, request, "P")),
         Call::Plan(number) => planned(alloc, evidence_text(alloc, files, request, number)),
         Call::PlanOrVerdict(number) => {
             shown(alloc, evidence_or_verdict(alloc, files, request, number))

@@ -5,7 +5,7 @@ use mk_cert::{CertFault, verify};
 use mk_cert_text::{certificate_text, read_certificate};
 use mk_find::finding_laws::no_findings;
 use mk_find::{Finding, certify, findings, hidden_findings, judge, races, static_findings};
-use mk_repair::{lines_text, words_of};
+use mk_repair::{Obstacle, lines_text, obstacle_of, words_of};
 use mk_sentences::sentences;
 use mk_subject::{Subject, counts};
 use std::alloc::Global;
@@ -28,6 +28,8 @@ pub(crate) enum Call<'a> {
     Judge,
     /// `words_of` for the findings of `findings`, then `lines_text`.
     Lines,
+    /// `obstacle_of` for the findings of `findings`.
+    Obstacle,
     /// `sentences` for the findings of `findings`.
     Sentences,
     /// `verify`, with the text of a certificate.
@@ -93,6 +95,13 @@ fn repaired(alloc: Global, subject: &Subject<'_>) -> Result<String, Fail> {
     }
 }
 
+/// Why one of the findings of `findings` stops a repair, on a line, and the lines for the others.
+fn stopped(alloc: Global, subject: &Subject<'_>) -> Result<String, Fail> {
+    let found = findings(alloc, subject)?;
+    let Obstacle { why, lines } = obstacle_of(alloc, subject, &found)?;
+    Ok(format!(in alloc; "{why}\n{lines}")?)
+}
+
 /// The findings of `findings`, and those of `hidden_findings`, in sentences.
 fn told(alloc: Global, subject: &Subject<'_>) -> Result<String, Fail> {
     let found = findings(alloc, subject)?;
@@ -135,6 +144,7 @@ pub(crate) fn answer(
         Call::Certify => certified(alloc, subject),
         Call::Judge => judged(alloc, subject),
         Call::Lines => repaired(alloc, subject),
+        Call::Obstacle => stopped(alloc, subject),
         Call::Sentences => told(alloc, subject),
         Call::Verify(text) => verified(alloc, subject, text),
     }

@@ -54,6 +54,14 @@ const HIDDEN: Build<'static> = Build {
 {"target":"a.o","commands":["cc -c a.c"],"reads":["a.c","h.h"],"writes":["a.o"]}]}"#,
 };
 
+/// A recipe that reads two headers that it doesn't depend on, of which a makefile can't hold one.
+const UNWRITABLE: Build<'static> = Build {
+    makefile: "a.o: a.c\n\tcc -c a.c\n",
+    goals: "",
+    footprints: r#"{"format":1,"fixed":[],"sources":["a.c","h.h","h$.h"],"records":[
+{"target":"a.o","commands":["cc -c a.c"],"reads":["a.c","h.h","h$.h"],"writes":["a.o"]}]}"#,
+};
+
 #[test]
 fn static_findings_need_no_order(rt: HostRuntime) -> Result<(), Fail> {
     let alloc = rt.alloc();
@@ -114,6 +122,15 @@ fn words_mend_what_lacks(rt: HostRuntime) -> Result<(), Fail> {
     let alloc = rt.alloc();
     expect_answer(alloc, &RACE, &Call::Lines, "b: a h\n")?;
     expect_answer(alloc, &WRITERS, &Call::Lines, "none")
+}
+
+#[test]
+fn one_finding_stops_a_repair(rt: HostRuntime) -> Result<(), Fail> {
+    let alloc = rt.alloc();
+    let why = "no line mends `no writers a b log`: two recipes write one file\n";
+    expect_answer(alloc, &WRITERS, &Call::Obstacle, why)?;
+    let why = "no line mends `no stale a.o h$.h`: a makefile can't hold its names\na.o: h.h\n";
+    expect_answer(alloc, &UNWRITABLE, &Call::Obstacle, why)
 }
 
 /// The findings of `HIDDEN` in sentences, and what is hidden behind the first.

@@ -82,7 +82,9 @@ fn judges_builds(rt: HostRuntime) -> Result<(), Fail> {
 #[test]
 fn mends_makefiles(rt: HostRuntime) -> Result<(), Fail> {
     expect(rt.alloc(), "repair -b B", 0, 0, "")?;
-    expect(rt.alloc(), "repair -b S", 0, 0, "\na.o: h.h\n")
+    expect(rt.alloc(), "repair -b S", 0, 0, "\na.o: h.h\n")?;
+    let value = "{\"answer\":\"yes\",\"format\":1,\"lines\":\"\\na.o: h.h\\n\"}\n";
+    expect(rt.alloc(), "repair --json -b S", 0, 0, value)
 }
 
 #[test]
@@ -100,7 +102,10 @@ fn verifies_certificates(rt: HostRuntime) -> Result<(), Fail> {
 #[test]
 fn runs_plans(rt: HostRuntime) -> Result<(), Fail> {
     let run = "a.c 1 1\na.o 2 2\np 3 3\nplan ok\n";
-    expect(rt.alloc(), "simulate -b B -p P", 0, 0, run)
+    expect(rt.alloc(), "simulate -b B -p P", 0, 0, run)?;
+    expect(rt.alloc(), "simulate -w -b B -p P", 0, 0, run)?;
+    let value = "{\"answer\":\"yes\",\"format\":1,\"printed\":\"a.c 1 1\\na.o 2 2\\np 3 3\\n\"}\n";
+    expect(rt.alloc(), "simulate --json -b B -p P", 0, 0, value)
 }
 
 #[test]

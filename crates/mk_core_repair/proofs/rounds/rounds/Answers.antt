@@ -1,4 +1,5 @@
 use Rattle.std.proofs.Common.{◌≡◌, ◌∙◌, ℕ, suc, ◌+◌, ◌-◌, List, ◌∷◌, ap, sym, subst, arith, string_bytes}
+use Rattle.mk_core_repair.specs.Amending.{added_lines}
 use Rattle.mk_core_repair.specs.Outcome.{reason_of}
 use Rattle.mk_core_repair.specs.Rounds.{max_rounds}
 use Rattle.mk_core_repair.specs.Views.{IsFound}
@@ -11,18 +12,18 @@ returns-then-is_too_long-clause-answer c =
     let left = max_rounds - (c.loop-done._done + 1) in
     let more : max_rounds - c.loop-done._done ≡ suc left = omega arith in
     let text = string_bytes c.in_ok-lines.lines in
-    let added = c.in_ok-added.ensures ∙ ap (λ (t : List ℕ). 10 ∷ t) c.as_str.ensures.value in
+    let added = c.in_ok-added.ensures ∙ ap (λ (t : List ℕ). added_lines c.args.own.now.text.items t) c.as_str.ensures.value in
     λ told base first.
     c.loop-done.invariant told base first _
     (step_long told c.args.request.now c.args.own.now c.args.known.now base first c.loop-done.words (reason_of c.loop-done.why) _ left more text c.in_ok-added.added.items c.deref.result.now
-    c.in_ok-lines.ensures added c.deref.ensures.value c.if-is_too_long.ensures)
+    c.in_ok-lines.ensures added c.deref.ensures.value (reason_of c.stopped-reason.result) c.stopped-reason.ensures c.if-is_too_long.ensures)
 
 pub returns-in-Ok-Right-clause-answer : goal.returns-in-Ok-Right-clause-answer
 returns-in-Ok-Right-clause-answer c =
     let left = max_rounds - (c.loop-done._done + 1) in
     let more : max_rounds - c.loop-done._done ≡ suc left = omega arith in
     let text = string_bytes c.in_ok-lines.lines in
-    let added = c.in_ok-added.ensures ∙ ap (λ (t : List ℕ). 10 ∷ t) c.as_str.ensures.value in
+    let added = c.in_ok-added.ensures ∙ ap (λ (t : List ℕ). added_lines c.args.own.now.text.items t) c.as_str.ensures.value in
     let ok = c.in-Ok-Right.ensures.ok in
     let is = subst (λ (f : Found). IsFound c.args.known.now.names c.loop-done.words c.round.new.words ok.0 f) c.in-Ok-Right.field-0-is ok.1 in
     λ told base first.
@@ -35,7 +36,7 @@ returns-in-Ok-Unknown-clause-answer c =
     let left = max_rounds - (c.loop-done._done + 1) in
     let more : max_rounds - c.loop-done._done ≡ suc left = omega arith in
     let text = string_bytes c.in_ok-lines.lines in
-    let added = c.in_ok-added.ensures ∙ ap (λ (t : List ℕ). 10 ∷ t) c.as_str.ensures.value in
+    let added = c.in_ok-added.ensures ∙ ap (λ (t : List ℕ). added_lines c.args.own.now.text.items t) c.as_str.ensures.value in
     let ok = c.in-Ok-Unknown.ensures.ok in
     let is = subst (λ (f : Found). IsFound c.args.known.now.names c.loop-done.words c.round.new.words ok.0 f) c.in-Ok-Unknown.field-0-is ok.1 in
     λ told base first.
@@ -48,7 +49,7 @@ returns-then-not-is_new-clause-answer c =
     let left = max_rounds - (c.loop-done._done + 1) in
     let more : max_rounds - c.loop-done._done ≡ suc left = omega arith in
     let text = string_bytes c.in_ok-lines.lines in
-    let added = c.in_ok-added.ensures ∙ ap (λ (t : List ℕ). 10 ∷ t) c.as_str.ensures.value in
+    let added = c.in_ok-added.ensures ∙ ap (λ (t : List ℕ). added_lines c.args.own.now.text.items t) c.as_str.ensures.value in
     let ok = c.in-Ok-Lacks.ensures.ok in
     let is = subst (λ (f : Found). IsFound c.args.known.now.names c.loop-done.words c.round.new.words ok.0 f) c.in-Ok-Lacks.field-0-is ok.1 in
     λ told base first.
@@ -62,7 +63,7 @@ returns-in-Err-clause-answer c =
     let left = max_rounds - (c.loop-done._done + 1) in
     let more : max_rounds - c.loop-done._done ≡ suc left = omega arith in
     let text = string_bytes c.in_ok-lines.lines in
-    let added = c.in_ok-added.ensures ∙ ap (λ (t : List ℕ). 10 ∷ t) c.as_str.ensures.value in
+    let added = c.in_ok-added.ensures ∙ ap (λ (t : List ℕ). added_lines c.args.own.now.text.items t) c.as_str.ensures.value in
     λ told base first.
     c.loop-done.invariant told base first _
     (step_refused told c.args.request.now c.args.own.now c.args.known.now base first c.loop-done.words (reason_of c.loop-done.why) _ left more text c.in_ok-added.added.items c.deref.result.now
@@ -74,7 +75,7 @@ loop-done-preserved c =
     let left = max_rounds - (c.loop-done._done + 1) in
     let more : max_rounds - c.loop-done._done ≡ suc left = omega arith in
     let text = string_bytes c.in_ok-lines.lines in
-    let added = c.in_ok-added.ensures ∙ ap (λ (t : List ℕ). 10 ∷ t) c.as_str.ensures.value in
+    let added = c.in_ok-added.ensures ∙ ap (λ (t : List ℕ). added_lines c.args.own.now.text.items t) c.as_str.ensures.value in
     let ok = c.in-Ok-Lacks.ensures.ok in
     let is = subst (λ (f : Found). IsFound c.args.known.now.names c.loop-done.words c.round.new.words ok.0 f) c.in-Ok-Lacks.field-0-is ok.1 in
     λ told base first outcome h.
@@ -88,4 +89,4 @@ returns-clause-answer c =
     let none : max_rounds - c.loop-done._done ≡ 0 = omega arith in
     λ told base first.
     c.loop-done.invariant told base first _
-    (ends_last c.args.known.now.names told c.args.request.now first c.loop-done.words (reason_of c.loop-done.why) (max_rounds - c.loop-done._done) none)
+    (ends_last c.args.known.now.names told c.args.request.now first c.loop-done.words (reason_of c.loop-done.why) (max_rounds - c.loop-done._done) (reason_of c.stopped-last.result) c.stopped-last.ensures none)
