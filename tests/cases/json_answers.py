@@ -1,5 +1,5 @@
-"""What is wrong about `--json`: its answer must have the form of docs/answer.schema.json, and say what
-the command says without it, `check` also with `-c` and `-w`."""
+"""What is wrong about `--json`: its answer must have the form of docs/answer.schema.json, and say
+what the command says without it, `check` also with `-c` and `-w`."""
 
 from __future__ import annotations
 
