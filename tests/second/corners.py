@@ -250,7 +250,6 @@ WORDS = [["check", "-b", "N", "-e", number] for number in NUMBERS] + [
     ["check"],
     ["verify", "-b", "B"],
     [],
-    ["help"],
     ["-r", "graph"],
     ["graph", "a", "-c"],
     ["graph", "a", "--", "-c"],
