@@ -66,7 +66,7 @@ class EarlyTest(ProjectTest):
         self.write(
             {
                 "makefile": (
-                    "c: b\n\tsleep 2; cp b c\nb: a\n\tsleep 2; cp a b\na: s\n\tcp s a\n"
+                    "c: b\n\tsleep 5; cp b c\nb: a\n\tsleep 2; cp a b\na: s\n\tcp s a\n"
                 ),
                 "s": "1\n",
             }

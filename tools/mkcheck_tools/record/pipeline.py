@@ -183,7 +183,8 @@ def early_replays_of(shop: Workshop, build: Build) -> AbstractContextManager[Ear
         return replace(replays, targets=early.targets, memory=early.memory, _stopped=early.stopped)
 
     targets = frozenset(map(Name, shop.absent))
-    return early_replays(replay_early, targets, real_in(shop.scratch, "replays"))
+    folder = real_in(shop.scratch, "replays")
+    return early_replays(replay_early, targets, folder, shop.failing)
 
 
 def replay_of(
@@ -278,7 +279,7 @@ def replay(
         return replays.run(world.trials)
     early.slots.release()
     replays = replace(replays, memory=early.memory, slots=early.slots, _stopped=early.stopped)
-    return replays.run(world.trials, early.started, early.pool)
+    return replays.run(world.trials, early.begun, early.pool)
 
 
 def verdict_of(

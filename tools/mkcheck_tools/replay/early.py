@@ -22,9 +22,12 @@ from collections.abc import Callable, Iterable, Iterator, Mapping
 from concurrent import futures
 from concurrent.futures import Future, ThreadPoolExecutor
 from dataclasses import dataclass, field
+from typing import Any
 
-from mkcheck_tools.replay.replays import WAITING, Replay, Started, processors
-from mkcheck_tools.replay.runs import wait_for_clock
+from mkcheck_tools.replay.alike import Way, way_of
+from mkcheck_tools.replay.halves import size_of_target
+from mkcheck_tools.replay.replays import WAITING, Begun, Replay, Started, processors
+from mkcheck_tools.replay.runs import Ahead, seconds_left, wait_for_clock
 from mkcheck_tools.replay.worlds import Trial, World
 from mkcheck_tools.run import places
 from mkcheck_tools.run.memory import Memory, memory
@@ -52,6 +55,9 @@ class Early:
     pool: ThreadPoolExecutor
     memory: Memory | None
     slots: threading.Semaphore
+    is_failing: bool
+    """Whether recipes are run where writes fail."""
+
     stopped: threading.Event = field(default_factory=threading.Event)
     changing: threading.Lock = field(default_factory=threading.Lock)
     """Held while the world of the recording changes, and while a replay takes a copy of it."""
@@ -62,18 +68,34 @@ class Early:
     writers: dict[Name, list[str]] = field(default_factory=dict)
     """The targets whose recipes wrote a file so far, by its name."""
 
+    failing: dict[int, Future[Ahead]] = field(default_factory=dict)
+    """Runs of recipes where writes fail that began, of those whose target is the largest so far of
+    all that are made alike; by the place of the recipe."""
+
+    largest: dict[Way, tuple[int, int]] = field(default_factory=dict)
+    """The largest target so far, by the way in which recipes make it: its size, and the place of
+    its recipe."""
+
     used: set[SeenPath] = field(default_factory=set)
     """Files outside of the project that these recipes used."""
 
     is_off: bool = False
     """Whether none is started any more."""
 
+    @property
+    def begun(self) -> Begun:
+        """What began, for the replays in the end."""
+        return Begun(self.started, self.failing)
+
     def begin(self) -> None:
         """The recording begins, for the first time or anew."""
-        left = {one for one in self.started.values() if not one.cancel()}
+        begun: list[Future[Any]] = [*self.started.values(), *self.failing.values()]
+        left = {one for one in begun if not one.cancel()}
         while left:
             left = futures.wait(left, MOMENT).not_done
         self.started.clear()
+        self.failing.clear()
+        self.largest.clear()
         self.writers.clear()
         self.used.clear()
 
@@ -88,20 +110,53 @@ class Early:
             return
         trial, number = world.trials[-1], len(world.trials) - 1
         self.used.update(outside(accesses, [*accesses.touched, *accesses.folders]))
+        self.start_failing(world, trial, number)
         self.started[number] = self.pool.submit(self.replayed, world, trial, number)
+
+    def start_failing(self, world: World, trial: Trial, number: int) -> None:
+        """Starts the run of a recipe where writes fail, if its target is larger than those that
+        recipes before made alike. The largest one of all is tried, and takes longest."""
+        way = way_of(trial)
+        if way is None or not self.is_failing:
+            return
+        size = size_of_target(world, trial)
+        largest, before = self.largest.get(way, (-1, -1))
+        if size > largest:
+            self.largest[way] = (size, number)
+            if before in self.failing:
+                self.failing[before].cancel()
+            self.failing[number] = self.pool.submit(self.failed, world, trial, number)
+
+    def failed(self, world: World, trial: Trial, number: int) -> Ahead:
+        """What a recipe leaves where a write to its target fails, by the world as it is then."""
+        with self.slots:
+            own = self.replay_of(world)
+            premises = own.layout.premises(trial)
+            return Ahead(premises, half=own.halves.half(trial, number, frozenset()))
 
     def replayed(self, world: World, trial: Trial, number: int) -> Started:
         """A replay, which waits for the clock and a free processor, and takes the world as it is
-        then."""
+        then. What needn't wait for the clock is run before. The processor is free meanwhile: no
+        replay holds a turn then, since those that take turns begin in the end."""
+        ahead = None
+        if seconds_left(trial) > 0:
+            with self.slots:
+                ahead = self.replay_of(world).look_ahead(trial, number)
         wait_for_clock(trial)
         with self.slots:
-            with self.changing:
-                now = world.as_now()
-                writers: dict[Name, list[str]] = {target: [target] for target in self.targets}
-                writers.update((name, [*targets]) for name, targets in self.writers.items())
-            own = self.replay(now, writers, self)
+            own = self.replay_of(world)
             premises = own.layout.premises(trial)
+            if ahead is not None and ahead.premises == premises:
+                own.ahead = ahead
             return Started(premises, own.replay_safely(trial, number, frozenset()))
+
+    def replay_of(self, world: World) -> Replay:
+        """What replays a recipe in the world as it is now."""
+        with self.changing:
+            now = world.as_now()
+            writers: dict[Name, list[str]] = {target: [target] for target in self.targets}
+            writers.update((name, [*targets]) for name, targets in self.writers.items())
+        return self.replay(now, writers, self)
 
     def refuse_disturbed(self, accesses: Accesses) -> None:
         """Raises Disturbed where a recipe that was recorded may have met a replay."""
@@ -119,13 +174,18 @@ class Early:
 
 @contextlib.contextmanager
 def early_replays(
-    replay: Callable[[World, Writers, Early], Replay], targets: frozenset[Name], scratch: RealPath
+    replay: Callable[[World, Writers, Early], Replay],
+    targets: frozenset[Name],
+    scratch: RealPath,
+    failing: bool,
 ) -> Iterator[Early]:
-    """What starts replays early; one processor is left for the recording."""
+    """What starts replays early, also where writes fail, if these are wanted (`failing`); one
+    processor is left for the recording."""
     os.makedirs(scratch, exist_ok=True)
     jobs = processors()
     with memory(unbound(scratch)) as found, ThreadPoolExecutor(WAITING * jobs) as pool:
-        early = Early(replay, targets, pool, found, threading.Semaphore(jobs - 1))
+        slots = threading.Semaphore(jobs - 1)
+        early = Early(replay, targets, pool, found, slots, failing)
         try:
             yield early
         except BaseException:

@@ -12,7 +12,7 @@ from mkcheck_tools.faults import Fault
 from mkcheck_tools.replay.differences import Difference, changed
 from mkcheck_tools.replay.layouts import lay_other
 from mkcheck_tools.replay.runs import LOOKED, Outcome, Runner
-from mkcheck_tools.replay.stamps import with_later_stamps
+from mkcheck_tools.replay.stamps import with_other_stamps
 from mkcheck_tools.replay.surroundings import NAMES, Surroundings, beside
 from mkcheck_tools.replay.versions import Version, lay
 from mkcheck_tools.replay.worlds import GIVEN, Trial, stamp_of, stamps_of
@@ -89,7 +89,8 @@ class Glances:
     ) -> Outcome:
         """A run beside other versions of some files, the newest ones or the oldest ones, and beside
         others as they were."""
-        tried = with_later_stamps(self.runner.layout.world, trial.with_reads(same))
+        # Later stamps, since files beside these keep theirs.
+        tried = with_other_stamps(self.runner.layout.world, trial.with_reads(same), True)
         oldest: frozenset[Name] = frozenset()
         if not newest:
             near = {*tried.before, *(name for name in others if others[name] != GIVEN)}

@@ -11,9 +11,9 @@ from mkcheck_tools.faults import FULL, mistake_of
 from mkcheck_tools.replay.alike import groups_of, way_of
 from mkcheck_tools.replay.differences import is_file
 from mkcheck_tools.replay.meetings import Turns
-from mkcheck_tools.replay.runs import BARE, Outcome, Runner
-from mkcheck_tools.replay.stamps import with_later_stamps
-from mkcheck_tools.replay.worlds import Trial
+from mkcheck_tools.replay.runs import BARE, Ahead, Outcome, Runner
+from mkcheck_tools.replay.stamps import with_other_stamps
+from mkcheck_tools.replay.worlds import Trial, World
 from mkcheck_tools.run import places
 from mkcheck_tools.run.folders import remove
 from mkcheck_tools.run.memory import is_full
@@ -32,20 +32,31 @@ class Halves:
     places_of: Callable[[Trial, int], Iterator[Place]]
     wanted: bool
 
-    def ahead(self, pool: ThreadPoolExecutor, trials: list[Trial]) -> Mapping[int, Future[bool]]:
+    def ahead(
+        self, pool: ThreadPoolExecutor, trials: list[Trial], early: Mapping[int, Future[Ahead]]
+    ) -> Mapping[int, Future[bool]]:
         """Whether recipes that are alike leave their targets half-written, of those two of each
         kind that are tried first. They begin before it is known whether they pass, since they
-        needn't wait for the clock. By the places of the recipes."""
+        needn't wait for the clock, and some began `early`. By the places of the recipes."""
         sizes = [
-            (number, trial, self.size_of_target(trial))
+            (number, trial, size_of_target(self.runner.layout.world, trial))
             for number, trial in enumerate(trials)
             if self.wanted and way_of(trial) is not None
         ]
         return {
-            number: pool.submit(self.half, trials[number], number, frozenset())
+            number: pool.submit(self.half_by, early.get(number), trials[number], number)
             for group in groups_of(sizes)
             for number in group[:2]
         }
+
+    def half_by(self, early: Future[Ahead] | None, trial: Trial, number: int) -> bool:
+        """The same, by a run that began early, unless an error ended that, or it took from other
+        recipes what isn't so in the end."""
+        if early is not None and not early.cancelled() and early.exception() is None:
+            found = early.result()
+            if found.half is not None and found.premises == self.runner.layout.premises(trial):
+                return found.half
+        return self.half(trial, number, frozenset())
 
     def of(
         self,
@@ -57,7 +68,7 @@ class Halves:
         are tried, and the others where one of these leaves its target half-written. Some of that
         began `ahead`."""
         waiting = [
-            (number, outcome.trial, self.size_of_target(outcome.trial))
+            (number, outcome.trial, size_of_target(self.runner.layout.world, outcome.trial))
             for number, outcome in enumerate(outcomes)
             if outcome.half is None
         ]
@@ -92,7 +103,7 @@ class Halves:
             for place in self.places_of(trial, number):
                 # Where the program ends, no more folders are laid.
                 places.pause(0)
-                found = self.leaves_half(with_later_stamps(world, trial), place, folders)
+                found = self.leaves_half(with_other_stamps(world, trial), place, folders)
                 if found is not None:
                     return found
         return False
@@ -113,8 +124,9 @@ class Halves:
         finally:
             remove(place.folder)
 
-    def size_of_target(self, trial: Trial) -> int:
-        """How many bytes a recipe left in its target, a file."""
-        target = Name(trial.recipe.target)
-        version = trial.after.get(target)
-        return self.runner.layout.world.size(target, version) if version is not None else 0
+
+def size_of_target(world: World, trial: Trial) -> int:
+    """How many bytes a recipe left in its target, a file."""
+    target = Name(trial.recipe.target)
+    version = trial.after.get(target)
+    return world.size(target, version) if version is not None else 0

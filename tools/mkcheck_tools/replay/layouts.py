@@ -9,7 +9,7 @@ import os
 import stat
 import time
 from collections.abc import Container, Iterator, Mapping
-from dataclasses import dataclass, field
+from dataclasses import dataclass, field, replace
 
 from mkcheck_tools.answers.graphs import Ancestors
 from mkcheck_tools.replay import orders
@@ -201,6 +201,13 @@ class Layout:
             # A recipe that is recorded just now changed it.
             os.unlink(goal)
             self.lay(name, version, folder, twins)
+
+    def lay_output(self, trial: Trial, name: Name, folder: RealPath) -> None:
+        """Lays a file as the recording left it, with the newest stamp."""
+        version = trial.after[name]
+        assert version is not None
+        source = self.world.store.path(version)
+        lay(source, real_in(folder, name), replace(version, stamp=time.time_ns()))
 
     def restore(self, trial: Trial, folder: RealPath) -> dict[Name, tuple[int, ...]]:
         """Lays those reads anew that the recipe wrote or took away itself.

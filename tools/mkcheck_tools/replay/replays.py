@@ -26,6 +26,7 @@ from collections.abc import Iterable, Iterator, Mapping
 from concurrent import futures
 from concurrent.futures import Future, ThreadPoolExecutor
 from dataclasses import dataclass, field, replace
+from typing import Any
 
 from mkcheck_tools.answers.graphs import Ancestors
 from mkcheck_tools.faults import FULL, Fault, mistake_of
@@ -42,12 +43,14 @@ from mkcheck_tools.replay.runs import (
     HANDED,
     ORDERED,
     VARIED,
+    Ahead,
     Followed,
     Outcome,
+    Run,
     Runner,
     wait_for_clock,
 )
-from mkcheck_tools.replay.stamps import with_later_stamps
+from mkcheck_tools.replay.stamps import with_other_stamps
 from mkcheck_tools.replay.surroundings import (
     AS_RECORDED,
     CLOCK,
@@ -94,6 +97,15 @@ class Started:
     outcome: Outcome
 
 
+@dataclass(frozen=True)
+class Begun:
+    """What began while recipes were recorded, by their places among all: replays, and runs of
+    recipes where writes fail."""
+
+    started: Mapping[int, Future[Started]] = field(default_factory=dict)
+    failing: Mapping[int, Future[Ahead]] = field(default_factory=dict)
+
+
 @dataclass
 class Replay:
     """Replays the recipes of a world.
@@ -121,6 +133,10 @@ class Replay:
     _stopped: threading.Event = field(default_factory=threading.Event)
     slots: threading.Semaphore = field(default_factory=lambda: threading.Semaphore(processors()))
     """One for each processor, held by the replays that run."""
+    later_ones: bool = False
+    """Whether made files get later stamps, also where these have to be waited for."""
+    ahead: Ahead | None = None
+    """What the one recipe that is replayed showed before."""
 
     @functools.cached_property
     def layout(self) -> Layout:
@@ -142,15 +158,19 @@ class Replay:
         """What tries recipes where a write to their target fails."""
         return Halves(self.runner, self.turns, self.slots, self.places_beside, self.failing)
 
+    def stamped(self, trial: Trial) -> Trial:
+        """The recipe with other stamps of what recipes make."""
+        return with_other_stamps(self.world, trial, self.later_ones)
+
     def run(
         self,
         trials: list[Trial],
-        started: Mapping[int, Future[Started]] | None = None,
+        early: Begun | None = None,
         workers: ThreadPoolExecutor | None = None,
     ) -> Replayed:
         """Replays these recipes, several at a time where that can be, by `workers` where these are
         there. Returns outcomes in order, or those that are there when a signal or a full disk ends
-        it. `started` are replays that began early, by the places of their recipes."""
+        it. Some of that began `early`."""
         os.makedirs(self.scratch, exist_ok=True)
         jobs = processors()
         if places.namespace() is None:
@@ -158,6 +178,7 @@ class Replay:
             aside = real_in(self.scratch, "built")
             os.rename(self.world.place, aside)
             self.world.place = aside
+        early = early or Begun()
         progress = Progress(len(trials), title="replay")
         waiting: list[Future[Outcome]] = []
         with contextlib.ExitStack() as stack:
@@ -165,14 +186,14 @@ class Replay:
                 self.memory = stack.enter_context(memory(unbound(self.scratch)))
             pool = workers or stack.enter_context(ThreadPoolExecutor(WAITING * jobs))
             try:
-                ahead = self.halves.ahead(pool, trials) if jobs > 1 else {}
+                ahead = self.halves.ahead(pool, trials, early.failing) if jobs > 1 else {}
                 for number, trial in enumerate(trials):
-                    waiting.append(self.begun(pool, trial, number, (started or {}).get(number)))
-                self.watch(waiting, started or {}, trials, progress)
+                    waiting.append(self.begun(pool, trial, number, early.started.get(number)))
+                self.watch(waiting, early.started, trials, progress)
                 outcomes = [future.result() for future in waiting]
                 outcomes = self.with_folders(pool, outcomes)
-                beside = jobs > 1 and (len(trials) > 1 or bool(started))
-                outcomes = self.alone(outcomes, ahead.values()) if beside else outcomes
+                if jobs > 1 and (len(trials) > 1 or early.started):
+                    outcomes = self.alone(outcomes, [*ahead.values(), *early.failing.values()])
                 outcomes = self.halves.of(pool, outcomes, ahead)
             except BaseException as end:
                 ended = [one for one in waiting if one.done() and one.exception() is None]
@@ -239,7 +260,7 @@ class Replay:
         trial, place = outcome.trial, self.place_of(number)
         try:
             with self.turns.turn(trial.recipe.target):
-                tried = with_later_stamps(self.world, trial)
+                tried = self.stamped(trial)
                 self.layout.furnish(tried, place.folder, frozenset())
                 return replace(outcome, met=self.beside(tried, place, late))
         except Exception:
@@ -285,20 +306,44 @@ class Replay:
                 raise
             return Outcome(trial, BARE, broken=mistake_of(error, "recorder"))
 
-    def alone(self, outcomes: list[Outcome], others: Iterable[Future[bool]]) -> list[Outcome]:
+    def look_ahead(self, trial: Trial, number: int) -> Ahead:
+        """What a recipe shows in the second of its recording. What it doesn't show now, or shows
+        otherwise than it should, is left to the replay."""
+        found = Ahead(self.layout.premises(trial))
+        with contextlib.suppress(Exception), self.in_memory(trial, f"{number}.ahead") as place:
+            # Where the program ends, no more folders are laid.
+            places.pause(0)
+            if place is not None:
+                try:
+                    tried = self.stamped(trial)
+                    others = all_others(trial.recipe.strict, place.is_bound)
+                    bench = Bench(self.runner, tried, place, frozenset())
+                    found = replace(found, passed=bench.tried_ahead(orders.OTHER, others))
+                    if self.failing and way_of(trial) is None:
+                        half = self.halves.leaves_half(tried, place, frozenset())
+                        found = replace(found, half=half)
+                finally:
+                    remove(place.folder)
+        return found
+
+    def alone(self, outcomes: list[Outcome], others: Iterable[Future[Any]]) -> list[Outcome]:
         """The outcomes, where each that shows something is of a replay with no other beside it:
         two may meet elsewhere by what no trace shows, or need all processors. So it waits for the
         `others` first.
 
-        One that differs without its outputs is first run as it differed at last.
+        One that differs without its outputs is first run as it differed at last. Files that recipes
+        make have later stamps.
         """
-        left = set() if all(outcome.passed for outcome in outcomes) else set(others)
+        own = replace(self, later_ones=True)
+        left: set[Future[Any]] = set()
+        if not all(outcome.passed for outcome in outcomes):
+            left.update(others)
         while left:
             left = futures.wait(left, SECONDS_SHOWN).not_done
         found: list[Outcome] = []
         for number, outcome in enumerate(outcomes):
-            if not outcome.passed and not self.differs_alone(outcome, number):
-                outcome = self.replay_safely(outcome.trial, number, outcome.given)
+            if not outcome.passed and not own.differs_alone(outcome, number):
+                outcome = own.replay_safely(outcome.trial, number, outcome.given)
             found.append(outcome)
         return found
 
@@ -309,7 +354,7 @@ class Replay:
         trial, place = outcome.trial, self.place_of(number)
         *_, seen = self.seen_by(trial)
         try:
-            tried = with_later_stamps(self.world, trial.with_reads(seen))
+            tried = self.stamped(trial.with_reads(seen))
             return self.tried(tried, place, outcome.given).run == BARE
         finally:
             remove(place.folder)
@@ -402,14 +447,14 @@ class Replay:
             failed: list[Outcome] = []
             sets = list(self.seen_by(trial))
             for seen in sets:
-                tried = with_later_stamps(self.world, trial.with_reads(seen))
+                tried = self.stamped(trial.with_reads(seen))
                 outcome = self.tried(tried, place, folders)
                 if outcome.run != BARE:
                     seen = self.needed(trial, seen, place, folders)
                     if outcome.passed:
                         outcome, more = self.glancing(trial, seen, place, folders, outcome)
                         seen = {**seen, **more}
-                    tried = with_later_stamps(self.world, trial.with_reads(seen))
+                    tried = self.stamped(trial.with_reads(seen))
                     met = Met(seen=frozenset(seen))
                     if outcome.passed and self.is_by_age(tried, place):
                         outcome = self.listed(tried, place, folders, outcome)
@@ -422,7 +467,10 @@ class Replay:
                         return outcome
                     if not seen and way_of(trial) is not None:
                         return replace(outcome, half=None)
-                    return replace(outcome, half=self.halves.leaves_half(tried, place, folders))
+                    half = None if self.ahead is None or seen or folders else self.ahead.half
+                    if half is None:
+                        half = self.halves.leaves_half(tried, place, folders)
+                    return replace(outcome, half=half)
                 failed.append(outcome)
             absent = trial.known - {*self.layout.folders_of(trial), *folders}
             for outcome, seen in zip(failed, sets):
@@ -442,7 +490,7 @@ class Replay:
         and all else as it was recorded, and then with each of that alone.
         """
         others = all_others(trial.recipe.strict, place.is_bound)
-        bench = Bench(self.runner, trial, place, folders)
+        bench = Bench(self.runner, trial, place, folders, self.ahead)
         outcome = bench.tried(orders.OTHER, others)
         if outcome.passed or outcome.run == BARE:
             return outcome
@@ -480,7 +528,7 @@ class Replay:
         """Whether a recipe that fails or differs passes the bare run where the files that recipes
         make have the stamps of the recording.
         """
-        if with_later_stamps(self.world, trial) is trial:
+        if self.stamped(trial) is trial:
             return False
         return self.tried(trial, place, folders).run != BARE
 
@@ -538,7 +586,7 @@ class Replay:
                     groups.setdefault(key, set()).add(name)
         for group in groups.values():
             less = {name: version for name, version in seen.items() if name not in group}
-            tried = with_later_stamps(self.world, trial.with_reads(less))
+            tried = self.stamped(trial.with_reads(less))
             if self.tried(tried, place, folders).run != BARE:
                 seen = less
         return seen
@@ -552,7 +600,7 @@ class Replay:
     ) -> tuple[Name, ...]:
         """What a recipe that fails or differs looks for in vain, and what was there when it was
         recorded."""
-        self.layout.furnish(with_later_stamps(self.world, trial), place.folder, folders)
+        self.layout.furnish(self.stamped(trial), place.folder, folders)
         accesses = Accesses(Tree.of(place))
         follower = Follower(accesses, place.seen)
         try:
@@ -597,7 +645,7 @@ class Replay:
         if shown is not None:
             return shown, {}
         if more:
-            tried = with_later_stamps(self.world, trial.with_reads({**seen, **more}))
+            tried = self.stamped(trial.with_reads({**seen, **more}))
             outcome = self.tried(tried, place, folders)
         return outcome, more
 
@@ -658,6 +706,7 @@ class Bench:
     trial: Trial
     place: Place
     folders: frozenset[Name]
+    ahead: Ahead | None = None
 
     def tried(self, order: str, amid: Surroundings = AS_RECORDED) -> Outcome:
         """The runs of the recipe in a folder that is made for them, with this order of stamps.
@@ -667,13 +716,29 @@ class Bench:
         layout, outcome = self.runner.layout, None
         if layout.joins(self.trial, self.folders):
             layout.furnish(self.trial, self.place.folder, self.folders)
-            outcome = self.runner.joined(self.trial, self.place, order, amid)
+            passed = self.ahead is not None and self.ahead.passed == self.run(order, amid)
+            outcome = self.runner.joined(self.trial, self.place, order, amid, passed)
             remove(self.place.folder)
         if outcome is None:
             layout.furnish(self.trial, self.place.folder, self.folders)
             outcome = self.runner.runs(self.trial, self.place, order, amid)
             remove(self.place.folder)
         return outcome
+
+    def tried_ahead(self, order: str, amid: Surroundings) -> Run | None:
+        """The run over its outputs that it passes before the clock has gone on; None where it
+        doesn't, or that could hide something."""
+        layout = self.runner.layout
+        if not layout.joins(self.trial, self.folders):
+            return None
+        layout.furnish(self.trial, self.place.folder, self.folders)
+        passed = self.runner.passes_ahead(self.trial, self.place, order, amid)
+        remove(self.place.folder)
+        return self.run(order, amid) if passed else None
+
+    def run(self, order: str, amid: Surroundings) -> Run:
+        """What decides the run over its outputs."""
+        return Run(self.trial.before, self.folders, order, amid)
 
     def without(self, kind: str, others: Surroundings) -> Outcome:
         """Its runs amid all other surroundings but one kind."""

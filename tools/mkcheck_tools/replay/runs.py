@@ -14,7 +14,7 @@ from mkcheck_tools.judge.late import Met
 from mkcheck_tools.replay.differences import Comparison, Difference, is_file, only_touched
 from mkcheck_tools.replay.layouts import Layout, aged, damage
 from mkcheck_tools.replay.surroundings import AS_RECORDED, CLOCK, Surroundings, beside, clear
-from mkcheck_tools.replay.versions import version_of
+from mkcheck_tools.replay.versions import Version, version_of
 from mkcheck_tools.replay.worlds import Trial, entries, stamp_of, stamps_of
 from mkcheck_tools.run import places
 from mkcheck_tools.run.folders import remove
@@ -95,6 +95,28 @@ class Outcome:
 
 
 @dataclass(frozen=True)
+class Ahead:
+    """What a recipe showed in the second of its recording: the premises, as `Layout` has them; the
+    run over its outputs that it passed, if it did; and whether it leaves its target half-written
+    where a write to that fails, None where that isn't known."""
+
+    premises: str
+    passed: Run | None = None
+    half: bool | None = None
+
+
+@dataclass(frozen=True)
+class Run:
+    """What decides a run over outputs: what the recipe reads, the further folders, the order of
+    stamps, and what else is another one."""
+
+    before: Mapping[Name, Version]
+    folders: frozenset[Name]
+    order: str
+    amid: Surroundings
+
+
+@dataclass(frozen=True)
 class Followed:
     """What takes the calls of commands; with `looking` also those that only look at names."""
 
@@ -146,10 +168,12 @@ class Runner:
             return replace(outcome, warning=found.failed)
         return outcome if found.passed else found
 
-    def joined(self, trial: Trial, place: Place, order: str, amid: Surroundings) -> Outcome | None:
+    def joined(
+        self, trial: Trial, place: Place, order: str, amid: Surroundings, ahead: bool = False
+    ) -> Outcome | None:
         """The same by two runs, where `Layout.joins` allows that: the bare one and the damaged one
         are one, which comes first. None where that one shows something: then each has to be run by
-        itself."""
+        itself. The other one isn't made where it passed `ahead`."""
         wait_for_clock(trial)
         self.layout.reorder(trial, place.folder, order)
         laid = stamps_of(trial, place.folder)
@@ -157,8 +181,29 @@ class Runner:
         if not self.damaged(trial, place, laid, outputs).passed:
             return None
         outcome = Outcome(trial, folders=folders_in(place))
+        if ahead:
+            return outcome
         found = self.again(trial, place, laid, outputs, amid)
         return outcome if found.passed else found
+
+    def passes_ahead(self, trial: Trial, place: Place, order: str, amid: Surroundings) -> bool:
+        """Whether a recipe passes the run over its outputs in the second of its recording, where
+        `Layout.joins` allows that they are laid as the recording left them.
+
+        The joined run is in another second. So this one would have to be in another one only for a
+        recipe that goes by the clock where its outputs are whole, and not where they hold other
+        bytes. Then it finds another day here, by what sets clocks forward; without that, it isn't
+        run ahead. What doesn't get its time from there would have to write now what it wrote in the
+        recording, and in another second something else, though over other bytes it then writes what
+        it wrote in the recording.
+        """
+        if CLOCK not in amid:
+            return False
+        self.layout.reorder(trial, place.folder, order)
+        laid = stamps_of(trial, place.folder)
+        for name in trial.writes:
+            self.layout.lay_output(trial, name, place.folder)
+        return self.again(trial, place, laid, list(trial.writes), amid).passed
 
     def again(
         self,
@@ -282,8 +327,13 @@ class Runner:
 
 def wait_for_clock(trial: Trial) -> None:
     """Waits until the clock shows another second than when the recipe ended."""
-    while (left := int(trial.ended) + 1 + STEP - time.time()) > 0:
+    while (left := seconds_left(trial)) > 0:
         places.pause(left)
+
+
+def seconds_left(trial: Trial) -> float:
+    """How long that takes; nothing, or less, where it does so now."""
+    return int(trial.ended) + 1 + STEP - time.time()
 
 
 def folders_in(place: Place) -> frozenset[Name]:

@@ -133,6 +133,9 @@ class Trial:
     effects: Effects | None = None
     """What it did."""
 
+    moved: frozenset[Name] = frozenset()
+    """The files that it reads which have another stamp here than in the recording."""
+
     def with_reads(self, reads: Mapping[Name, Version]) -> Trial:
         """The same recipe, recorded to read these too."""
         return replace(self, before={**self.before, **reads}, after={**self.after, **reads})
