@@ -11,6 +11,7 @@ import sys
 import unittest
 from pathlib import Path
 
+from mkcheck_tools.replay.surroundings import library
 from mkcheck_tools.run import places
 from recorder.project import MKCHECK, ROOT, ProjectTest, compiled, traced
 
@@ -193,20 +194,83 @@ class AlikeTest(ProjectTest):
         noted = {note["target"] for note in notes if note["kind"] == "half-written"}
         return set(done.stdout.split()), noted
 
+    def runs(self, makefile: str, files: dict[str, str], **more: str) -> dict[str, list[str]]:
+        """The kinds of runs of each target's recipe, sorted."""
+        self.write({"makefile": makefile, **files})
+        words = ["-C", str(self.folder), "-o", str(self.book)]
+        done = subprocess.run(
+            [sys.executable, "-c", TOLD, *words],
+            env={**os.environ, "MKCHECK": MKCHECK, "PYTHONPATH": str(ROOT / "tools"), **more},
+            capture_output=True,
+            text=True,
+            check=False,
+        )
+        found: dict[str, list[str]] = {}
+        for line in sorted(done.stdout.splitlines()):
+            target, kind = line.split()
+            found.setdefault(target, []).append(kind)
+        return found
+
     def rules(self, command: str, names: str = "abcd") -> str:
         """A makefile with a recipe for each of these objects."""
         rules = (f"{name}.o: {name}.c\n\t{command.replace('%', name)}\n" for name in names)
         return f"all: {' '.join(f'{name}.o' for name in names)}\n{''.join(rules)}"
 
     def test_the_smallest_and_the_largest_target_are_tried(self) -> None:
-        sizes = {"b": 1, "a": 30, "d": 300, "c": 3000}
-        files = {
-            f"{name}.c": "".join(f"int {name}{i} = 1;\n" for i in range(count))
-            for name, count in sizes.items()
-        }
+        files = self.sized(a=30, b=1, c=3000, d=300)
         tried, noted = self.tried(self.rules("cc -c -o %.o %.c"), files)
         # The first one is the largest until others are recorded.
         self.assertEqual((tried - {"a.o"}, noted), ({"b.o", "c.o"}, set()))
+
+    def test_those_between_run_once_over_their_outputs(self) -> None:
+        """All but the smallest and the largest target, and those that were the largest so far."""
+        runs = self.runs(self.rules("cc -c -o %.o %.c"), self.sized(a=30, b=1, c=3000, d=300))
+        each = ["again", "damaged"]
+        self.assertEqual(runs["d.o"], ["damaged"])
+        self.assertEqual((runs["a.o"], runs["c.o"]), (each, each))
+        self.assertEqual(set(runs["b.o"]), set(each))
+
+    def test_all_run_apart_where_another_process_asks_for_the_target(self) -> None:
+        """It may do something else over an output that is whole."""
+        command = "test -e %.o; cc -c -o %.o %.c"
+        runs = self.runs(self.rules(command), self.sized(a=30, b=1, c=3000, d=300))
+        self.assertEqual(runs["d.o"], ["again", "damaged"])
+
+    @unittest.skipUnless(library(), "no faketime")
+    def test_one_that_goes_by_the_day_runs_apart(self) -> None:
+        files = self.sized(a=30, b=1, c=3000, d=300)
+        files["d.c"] += "const char *day = __DATE__;\n"
+        runs = self.runs(self.rules("cc -c -o %.o %.c"), files)
+        self.assertIn("again", runs["d.o"])
+        notes = json.loads(Path(f"{self.book}.notes").read_text())["notes"]
+        self.assertIn(("d.o", "date"), [(note["target"], note["kind"]) for note in notes])
+
+    def test_all_run_apart_where_one_keeps_a_whole_output(self) -> None:
+        """An assembler that leaves an output which it knows as its own."""
+        folder = self.scratch / "bin"
+        folder.mkdir()
+        (folder / "as").write_text(
+            '#!/bin/sh\nif test -e "$1" && read -r line < "$1" && test "$line" = object; then\n'
+            'exit 0\nfi\nread -r line < "$2"\nprintf "object\\n%s\\n" "$line" > "$1"\n'
+        )
+        (folder / "as").chmod(0o755)
+        self.write(
+            {
+                "makefile": self.rules(f"{folder}/as %.o %.c"),
+                **{f"{name}.c": f"{name * count}\n" for name, count in zip("abcd", (3, 1, 9, 5))},
+            }
+        )
+        outcome = self.record("--fixed", f"{folder}/")
+        self.assertTrue(outcome.lacks("a.o", "b.o", "c.o", "d.o"), outcome.errors)
+        for name in "abcd":
+            self.assertIn(f"doesn't write {name}.o anew", outcome.errors)
+
+    def sized(self, **counts: int) -> dict[str, str]:
+        """Sources with so many variables."""
+        return {
+            f"{name}.c": "".join(f"int {name}{i} = 1;\n" for i in range(count))
+            for name, count in counts.items()
+        }
 
     def test_objects_are_alike_by_the_names_of_other_tools(self) -> None:
         """CMake's objects have the ending of their source too, and lie in folders that are named

@@ -31,7 +31,7 @@ from mkcheck_tools.replay.runs import Ahead, seconds_left, wait_for_clock
 from mkcheck_tools.replay.worlds import Trial, World
 from mkcheck_tools.run import places
 from mkcheck_tools.run.memory import Memory, memory
-from mkcheck_tools.run.paths import Name, RealPath, SeenPath, unbound
+from mkcheck_tools.run.paths import Name, RealPath, SeenPath, seen_in, unbound
 from mkcheck_tools.run.places import DEVICES, TEMPORARY
 from mkcheck_tools.trace.accesses import Accesses
 
@@ -76,6 +76,9 @@ class Early:
     """The largest target so far, by the way in which recipes make it: its size, and the place of
     its recipe."""
 
+    alike: set[int] = field(default_factory=set)
+    """The places of recipes whose output an assembler alone writes and asks for."""
+
     used: set[SeenPath] = field(default_factory=set)
     """Files outside of the project that these recipes used."""
 
@@ -85,7 +88,7 @@ class Early:
     @property
     def begun(self) -> Begun:
         """What began, for the replays in the end."""
-        return Begun(self.started, self.failing)
+        return Begun(self.started, self.failing, frozenset(self.alike))
 
     def begin(self) -> None:
         """The recording begins, for the first time or anew."""
@@ -96,6 +99,7 @@ class Early:
         self.started.clear()
         self.failing.clear()
         self.largest.clear()
+        self.alike.clear()
         self.writers.clear()
         self.used.clear()
 
@@ -110,22 +114,29 @@ class Early:
             return
         trial, number = world.trials[-1], len(world.trials) - 1
         self.used.update(outside(accesses, [*accesses.touched, *accesses.folders]))
-        self.start_failing(world, trial, number)
-        self.started[number] = self.pool.submit(self.replayed, world, trial, number)
+        is_largest = self.is_largest(world, trial, number)
+        if is_largest and self.is_failing:
+            self.failing[number] = self.pool.submit(self.failed, world, trial, number)
+        if asks_alone(accesses, trial):
+            self.alike.add(number)
+        lean = number in self.alike and not is_largest
+        self.started[number] = self.pool.submit(self.replayed, world, trial, number, lean)
 
-    def start_failing(self, world: World, trial: Trial, number: int) -> None:
-        """Starts the run of a recipe where writes fail, if its target is larger than those that
-        recipes before made alike. The largest one of all is tried, and takes longest."""
+    def is_largest(self, world: World, trial: Trial, number: int) -> bool:
+        """Whether a recipe's target is larger than all that recipes before made alike. The largest
+        one of all has each run, also where writes fail, and takes longest. So these runs begin now,
+        and that of the one before doesn't any more."""
         way = way_of(trial)
-        if way is None or not self.is_failing:
-            return
+        if way is None:
+            return False
         size = size_of_target(world, trial)
         largest, before = self.largest.get(way, (-1, -1))
-        if size > largest:
-            self.largest[way] = (size, number)
-            if before in self.failing:
-                self.failing[before].cancel()
-            self.failing[number] = self.pool.submit(self.failed, world, trial, number)
+        if size <= largest:
+            return False
+        self.largest[way] = (size, number)
+        if before in self.failing:
+            self.failing[before].cancel()
+        return True
 
     def failed(self, world: World, trial: Trial, number: int) -> Ahead:
         """What a recipe leaves where a write to its target fails, by the world as it is then."""
@@ -134,17 +145,18 @@ class Early:
             premises = own.layout.premises(trial)
             return Ahead(premises, half=own.halves.half(trial, number, frozenset()))
 
-    def replayed(self, world: World, trial: Trial, number: int) -> Started:
+    def replayed(self, world: World, trial: Trial, number: int, lean: bool) -> Started:
         """A replay, which waits for the clock and a free processor, and takes the world as it is
         then. What needn't wait for the clock is run before. The processor is free meanwhile: no
         replay holds a turn then, since those that take turns begin in the end."""
         ahead = None
-        if seconds_left(trial) > 0:
+        if not lean and seconds_left(trial) > 0:
             with self.slots:
                 ahead = self.replay_of(world).look_ahead(trial, number)
         wait_for_clock(trial)
         with self.slots:
             own = self.replay_of(world)
+            own.lean = lean
             premises = own.layout.premises(trial)
             if ahead is not None and ahead.premises == premises:
                 own.ahead = ahead
@@ -200,6 +212,15 @@ def outside(accesses: Accesses, paths: Iterable[SeenPath]) -> list[SeenPath]:
     folders = (*TEMPORARY, os.path.realpath(tempfile.gettempdir()), f"{DEVICES}/shm")
     fronts = tuple(f"{folder}/" for folder in folders)
     return [path for path in paths if path.startswith(fronts) and not accesses.tree.has(path)]
+
+
+def asks_alone(accesses: Accesses, trial: Trial) -> bool:
+    """Whether a recipe writes its target alone, by an assembler, and no other of its processes
+    learnt what stands there."""
+    target = Name(trial.recipe.target)
+    path = seen_in(accesses.tree.root, target)
+    is_one = trial.writes == (target,) and accesses.is_asked_for_alone(path)
+    return is_one and way_of(trial) is not None
 
 
 def has_to_be_alone(accesses: Accesses) -> bool:

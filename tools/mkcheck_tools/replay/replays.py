@@ -32,9 +32,9 @@ from mkcheck_tools.answers.graphs import Ancestors
 from mkcheck_tools.faults import FULL, Fault, mistake_of
 from mkcheck_tools.judge.late import Late, Met, folders_of
 from mkcheck_tools.replay import orders
-from mkcheck_tools.replay.alike import way_of
+from mkcheck_tools.replay.alike import groups_of, way_of
 from mkcheck_tools.replay.glances import Glances
-from mkcheck_tools.replay.halves import Halves
+from mkcheck_tools.replay.halves import Halves, size_of_target
 from mkcheck_tools.replay.layouts import Layout
 from mkcheck_tools.replay.listings import Age, age_of, is_listed
 from mkcheck_tools.replay.meetings import Meetings, Turns
@@ -104,6 +104,8 @@ class Begun:
 
     started: Mapping[int, Future[Started]] = field(default_factory=dict)
     failing: Mapping[int, Future[Ahead]] = field(default_factory=dict)
+    alike: frozenset[int] = frozenset()
+    """The places of those that may be run once, where others that are alike have each run."""
 
 
 @dataclass
@@ -137,6 +139,10 @@ class Replay:
     """Whether made files get later stamps, also where these have to be waited for."""
     ahead: Ahead | None = None
     """What the one recipe that is replayed showed before."""
+    lean: bool = False
+    """Whether it is run once, unless that run shows something."""
+    whole: frozenset[int] = frozenset()
+    """The places of recipes that have each run, for those that are alike."""
 
     @functools.cached_property
     def layout(self) -> Layout:
@@ -187,10 +193,13 @@ class Replay:
             pool = workers or stack.enter_context(ThreadPoolExecutor(WAITING * jobs))
             try:
                 ahead = self.halves.ahead(pool, trials, early.failing) if jobs > 1 else {}
+                groups = self.groups(trials, early.alike)
+                self.whole = frozenset(number for group in groups for number in group[:2])
                 for number, trial in enumerate(trials):
                     waiting.append(self.begun(pool, trial, number, early.started.get(number)))
                 self.watch(waiting, early.started, trials, progress)
                 outcomes = [future.result() for future in waiting]
+                outcomes = self.with_alike(pool, outcomes, groups)
                 outcomes = self.with_folders(pool, outcomes)
                 if jobs > 1 and (len(trials) > 1 or early.started):
                     outcomes = self.alone(outcomes, [*ahead.values(), *early.failing.values()])
@@ -216,7 +225,7 @@ class Replay:
         """A replay that begins now, or what comes of one that began early."""
         if started is not None and started.done() and trial.recipe.target not in self.late:
             outcome = self.shown_early(started, trial)
-            if outcome is not None:
+            if outcome is not None and not (outcome.lean and number in self.whole):
                 known: Future[Outcome] = Future()
                 known.set_result(outcome)
                 return known
@@ -234,11 +243,35 @@ class Replay:
         """The outcome of a replay that began early, or of one that begins now, where there is none
         or that one doesn't count. Late files are known only now."""
         outcome = self.shown_early(started, trial) if started is not None else None
+        if outcome is not None and outcome.lean and number in self.whole:
+            outcome = None
         late = self.late.get(trial.recipe.target, ())
         if outcome is not None and late:
             with self.processor(trial):
                 outcome = self.with_late(outcome, number, late)
         return outcome or self.in_turn(trial, number, frozenset())
+
+    def groups(self, trials: list[Trial], alike: Iterable[int]) -> list[list[int]]:
+        """The places of recipes that may be run once, in groups of those that are alike: first
+        those two of each that have each run."""
+        found = [(number, trials[number]) for number in sorted(alike)]
+        return groups_of((number, one, size_of_target(self.world, one)) for number, one in found)
+
+    def with_alike(
+        self, pool: ThreadPoolExecutor, outcomes: list[Outcome], groups: list[list[int]]
+    ) -> list[Outcome]:
+        """The outcomes, where recipes have each run if one that is alike shows something over its
+        outputs."""
+        again = {
+            number: pool.submit(self.in_turn, outcomes[number].trial, number, frozenset())
+            for group in groups
+            for number in group
+            if outcomes[number].lean and not all(outcomes[one].shows_nothing for one in group)
+        }
+        return [
+            again[number].result() if number in again else outcome
+            for number, outcome in enumerate(outcomes)
+        ]
 
     def in_turn(self, trial: Trial, number: int, folders: frozenset[Name]) -> Outcome:
         """A replay that begins as soon as a processor is free."""
@@ -448,7 +481,8 @@ class Replay:
             sets = list(self.seen_by(trial))
             for seen in sets:
                 tried = self.stamped(trial.with_reads(seen))
-                outcome = self.tried(tried, place, folders)
+                outcome = None if seen or folders else self.at_once(tried, place)
+                outcome = outcome or self.tried(tried, place, folders)
                 if outcome.run != BARE:
                     seen = self.needed(trial, seen, place, folders)
                     if outcome.passed:
@@ -482,6 +516,14 @@ class Replay:
             )
         finally:
             remove(folder)
+
+    def at_once(self, trial: Trial, place: Place) -> Outcome | None:
+        """The outcome of a recipe that passes where it is run once for all; None where it doesn't,
+        or that isn't to be or could hide something."""
+        if not self.lean:
+            return None
+        others = all_others(trial.recipe.strict, place.is_bound)
+        return Bench(self.runner, trial, place, frozenset()).at_once(orders.OTHER, others)
 
     def tried(self, trial: Trial, place: Place, folders: frozenset[Name]) -> Outcome:
         """The runs of a recipe in a folder that is made for them.
@@ -723,6 +765,16 @@ class Bench:
             layout.furnish(self.trial, self.place.folder, self.folders)
             outcome = self.runner.runs(self.trial, self.place, order, amid)
             remove(self.place.folder)
+        return outcome
+
+    def at_once(self, order: str, amid: Surroundings) -> Outcome | None:
+        """Its one run for all, if it passes that, where it can hide nothing."""
+        layout = self.runner.layout
+        if not layout.joins(self.trial, self.folders):
+            return None
+        layout.furnish(self.trial, self.place.folder, self.folders)
+        outcome = self.runner.at_once(self.trial, self.place, order, amid)
+        remove(self.place.folder)
         return outcome
 
     def tried_ahead(self, order: str, amid: Surroundings) -> Run | None:

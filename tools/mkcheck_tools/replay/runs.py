@@ -79,6 +79,9 @@ class Outcome:
     """Whether it leaves its target half-written where a write to that fails; None where that isn't
     known yet."""
 
+    lean: bool = False
+    """Whether it was run once for all runs, since other recipes that are alike have each."""
+
     glanced: tuple[Name, ...] = ()
     """The files at which it only looked, where a run shows that it depends on one."""
 
@@ -92,6 +95,11 @@ class Outcome:
     def passed(self) -> bool:
         """Whether all runs gave what the recording gave."""
         return not self.failed and not self.differences and not self.broken
+
+    @property
+    def shows_nothing(self) -> bool:
+        """Whether there is nothing to say of its runs over its outputs."""
+        return self.passed and not self.warning and not self.amid
 
 
 @dataclass(frozen=True)
@@ -186,6 +194,25 @@ class Runner:
         found = self.again(trial, place, laid, outputs, amid)
         return outcome if found.passed else found
 
+    def at_once(
+        self, trial: Trial, place: Place, order: str, amid: Surroundings
+    ) -> Outcome | None:
+        """The same by one run, over outputs with other bytes and amid other surroundings. None
+        where it shows something.
+
+        That is enough for a recipe of which an assembler alone learns what stands at its output,
+        where others that are alike have each run: whether that process, over an output that is
+        whole, does something else than over one with other bytes, isn't decided by what it reads.
+        And to all others of its processes the three runs are one: they find the same, but for the
+        surroundings. In the recording and in this run these were two different ones; what came to
+        the same amid both doesn't go by them, nor by the clock.
+        """
+        wait_for_clock(trial)
+        self.layout.reorder(trial, place.folder, order)
+        laid = stamps_of(trial, place.folder)
+        found = self.damaged(trial, place, laid, list(trial.writes), amid)
+        return Outcome(trial, folders=folders_in(place), lean=True) if found.passed else None
+
     def passes_ahead(self, trial: Trial, place: Place, order: str, amid: Surroundings) -> bool:
         """Whether a recipe passes the run over its outputs in the second of its recording, where
         `Layout.joins` allows that they are laid as the recording left them.
@@ -216,12 +243,7 @@ class Runner:
         """A run where the outputs of one before are there, amid other surroundings."""
         paths = {name: real_in(place.folder, name) for name in outputs}
         old = {name: aged(path) for name, path in paths.items()}
-        self.layout.close(trial, place.folder)
-        amid.name_again(place.folder, [name for name in laid if laid[name]])
-        amid.touch_folders(place.folder)
-        found = self.one(trial, place, AGAIN, laid, amid)
-        remove(beside(place.folder))
-        self.layout.liken(trial, place.folder)
+        found = self.one_amid(trial, place, AGAIN, laid, amid)
         kept = [name for name, path in paths.items() if old[name] == stamp_of(path)]
         if not (found.passed and kept):
             return found
@@ -234,6 +256,7 @@ class Runner:
         place: Place,
         laid: Mapping[Name, tuple[int, ...]],
         outputs: Sequence[Name],
+        amid: Surroundings = AS_RECORDED,
     ) -> Outcome:
         """A run where these outputs, which are files, hold other bytes and have later stamps."""
         paths = {name: real_in(place.folder, name) for name in outputs}
@@ -242,8 +265,7 @@ class Runner:
             version = trial.after[name]
             damage(path, version.mode if version is not None else 0o666)
             old[name] = aged(path)
-        self.layout.close(trial, place.folder)
-        found = self.one(trial, place, DAMAGED, laid)
+        found = self.one_amid(trial, place, DAMAGED, laid, amid)
         touched = {
             name
             for name, path in paths.items()
@@ -251,6 +273,23 @@ class Runner:
         }
         rest = tuple(one for one in found.differences if one.name not in touched)
         return replace(found, differences=rest)
+
+    def one_amid(
+        self,
+        trial: Trial,
+        place: Place,
+        run: str,
+        laid: Mapping[Name, tuple[int, ...]],
+        amid: Surroundings,
+    ) -> Outcome:
+        """A run where outputs were laid, amid other surroundings."""
+        self.layout.close(trial, place.folder)
+        amid.name_again(place.folder, [name for name in laid if laid[name]])
+        amid.touch_folders(place.folder)
+        found = self.one(trial, place, run, laid, amid)
+        remove(beside(place.folder))
+        self.layout.liken(trial, place.folder)
+        return found
 
     def one(
         self,

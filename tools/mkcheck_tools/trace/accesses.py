@@ -15,6 +15,7 @@ from mkcheck_tools.trace.calls import (
     LOOKS_IN_VAIN,
     NOT_EMPTY,
     NOTHING_THERE,
+    OF_LINKS,
     READ_ONLY,
     REMOVALS,
     SAME,
@@ -149,6 +150,13 @@ class Accesses:
     """Files that an assembler alone wrote, each with the assembler, and with the files of the
     project that the processes read by which it was started."""
 
+    assemblers: dict[SeenPath, int] = field(default_factory=dict)
+    """The process of that assembler, by the file."""
+
+    asking: dict[SeenPath, set[int]] = field(default_factory=dict)
+    """By the path of a file of the project the processes that opened it or looked at it, but for
+    those that only asked whether it is a link. Nothing has to be there."""
+
     def wrote(self, path: SeenPath) -> bool:
         """Whether the recipe wrote this file before, or moved a folder there that holds it."""
         if path in self.writes or not self.moved:
@@ -249,6 +257,16 @@ class Accesses:
         if path in self.tree.there and path not in self.made:
             self.lost.setdefault(path)
 
+    def ask(self, path: SeenPath, process: int) -> None:
+        """A process opens a file, or looks at it."""
+        if self.tree.has(path):
+            self.asking.setdefault(path, set()).add(process)
+
+    def is_asked_for_alone(self, path: SeenPath) -> bool:
+        """Whether an assembler alone wrote a file, and no other process learnt what was there."""
+        own = {self.assemblers[path]} if path in self.assembled else set()
+        return bool(own) and self.asking.get(path, set()) <= own
+
     def pass_over(self, links: Iterable[SeenPath]) -> None:
         """The recipe follows symbolic links; one that a recipe made is a file that it reads."""
         for link in links:
@@ -257,11 +275,14 @@ class Accesses:
             elif self.tree.has(link):
                 self.over.setdefault(link)
 
-    def look(self, name: SeenPath) -> None:
-        """The recipe looks at a name: at the file behind it, and at each link on the way."""
+    def look(self, name: SeenPath) -> Iterable[SeenPath]:
+        """The recipe looks at a name: at the file behind it, and at each link on the way. Returns
+        all of these."""
         real, links = self.tree.follow(name)
-        for path in (real, *links, self.tree.own(name)[0]):
+        found = (real, *links, self.tree.own(name)[0])
+        for path in found:
             self.looked.setdefault(path)
+        return found
 
     def seek(self, name: SeenPath) -> None:
         """The recipe looks for a file that isn't there, unless it removed the file itself.
@@ -360,6 +381,7 @@ class Follower:
                     found.update(self.own_reads.get(above, {}))
                     above = self.parents.get(above)
                 self.accesses.assembled[path] = (program, *found)
+                self.accesses.assemblers[path] = process or 0
 
     def opened_to_write(self, path: SeenPath, process: int) -> None:
         """A process opens a file to write it."""
@@ -381,7 +403,9 @@ class Follower:
         folder, name = LOOKS.get(call.name) or LOOKS_IN_VAIN[call.name]
         if len(call.arguments) > name and text_of(call.arguments[name]):
             path = self.path(call, name, folder)
-            self.accesses.look(path)
+            for found in self.accesses.look(path):
+                if call.name not in OF_LINKS:
+                    self.accesses.ask(found, call.process)
             if call.failed and call.result == NOTHING_THERE and call.name not in REMOVALS:
                 self.accesses.seek(path)
 
@@ -514,9 +538,11 @@ class Follower:
         else:
             self.accesses.reach(name)
         if "O_PATH" in flags or "O_DIRECTORY" in flags or "O_TMPFILE" in flags:
-            self.accesses.look(name)
+            for found in self.accesses.look(name):
+                self.accesses.ask(found, call.process)
             return
         written = "O_WRONLY" in flags or "O_RDWR" in flags
+        self.accesses.ask(real, call.process)
         if self.accesses.tree.has(real):
             self.at_work.add(call.process)
             if not written:
