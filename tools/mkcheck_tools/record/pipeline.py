@@ -32,6 +32,7 @@ from mkcheck_tools.record.building import Build, build_of, makefile_of, removes_
 from mkcheck_tools.record.presuming import Beginning, keep_premises
 from mkcheck_tools.record.recording import Recorded, Workshop, record
 from mkcheck_tools.record.request import Request
+from mkcheck_tools.replay.digests import Digests
 from mkcheck_tools.replay.early import Disturbed, Early, early_replays
 from mkcheck_tools.replay.meetings import meetings_of
 from mkcheck_tools.replay.replays import Replay, Replayed, processors
@@ -125,6 +126,8 @@ def workshop(request: Request, build: Build, scratch: RealPath, warn: Warn) -> W
         warn(Note("", Kind.UNBOUND, UNBOUND))
     graph = build.graph
     environment = tracing.environment(place, choice.operands, build.macros)
+    conditions = Conditions.of(asked_of(request, place), environment)
+    updating = updating_of(request, build, conditions, warn)
     return Workshop(
         request,
         place,
@@ -134,8 +137,9 @@ def workshop(request: Request, build: Build, scratch: RealPath, warn: Warn) -> W
         build.macros,
         build.varying,
         build.prober.ruled,
-        updating_of(request, build, Conditions.of(asked_of(request, place), environment), warn),
+        updating,
         not removes_on_error(request),
+        None if updating is None else Digests(place.seen),
     )
 
 

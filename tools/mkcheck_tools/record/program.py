@@ -7,6 +7,7 @@ import json
 import os
 import shlex
 import sys
+import threading
 from functools import partial
 from pathlib import Path
 
@@ -182,13 +183,18 @@ def record(asked: argparse.Namespace) -> int:
         if status is not None:
             return status
         before.know()
-    from mkcheck_tools.record.pipeline import record_folder
     from mkcheck_tools.run import places
 
+    # Processes that try what the system allows run while modules are loaded.
+    probing = threading.Thread(target=places.probe)
+    probing.start()
     try:
+        from mkcheck_tools.record.pipeline import record_folder
+
         with scratch_folder(request.folder) as scratch:
             return record_folder(request, scratch)
     finally:
+        probing.join()
         places.end_all()
 
 

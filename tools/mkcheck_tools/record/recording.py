@@ -30,6 +30,7 @@ from mkcheck_tools.judge.notes import Kind, Note, Warn
 from mkcheck_tools.judge.refusals import listed, refuse_unmade, refuse_unseen
 from mkcheck_tools.record.building import VARYING_HELP
 from mkcheck_tools.record.request import Request
+from mkcheck_tools.replay.digests import Digests
 from mkcheck_tools.replay.early import Disturbed, Early
 from mkcheck_tools.replay.versions import Store, Version, version_of
 from mkcheck_tools.replay.worlds import Effects, World
@@ -75,6 +76,9 @@ class Workshop:
     updating: Updating | None = None
     failing: bool = True
     """Whether the replay tries what recipes leave where a write fails."""
+
+    digests: Digests | None = None
+    """What works out digests while recipes run, where an update is to know them."""
 
     @property
     def folder(self) -> RealPath:
@@ -364,7 +368,8 @@ def run(
     """Runs a recipe, command by command, as make would; returns what it put out. `accesses` takes
     what it did."""
     tree = accesses.tree
-    tracer = Tracer(shop.place, shop.environment, shop.scratch)
+    told = shop.digests.take if shop.digests is not None else None
+    tracer = Tracer(shop.place, shop.environment, shop.scratch, told)
     output = ""
     for command in recipe.commands:
         progress.step(command.text)

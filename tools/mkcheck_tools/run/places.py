@@ -202,6 +202,13 @@ def shut() -> str | None:
     return front if works(way, front) else None
 
 
+def probe() -> None:
+    """Finds out what the system allows, so that it is known later. Where that fails, it fails then
+    again."""
+    with contextlib.suppress(Exception):
+        shut()
+
+
 @dataclass(frozen=True)
 class Place:
     """A folder in which commands run: it lies at `folder`, and they see it at `seen`.

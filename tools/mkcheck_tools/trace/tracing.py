@@ -12,7 +12,7 @@ import signal
 import subprocess
 import tempfile
 import threading
-from collections.abc import Mapping
+from collections.abc import Callable, Mapping
 from dataclasses import dataclass, field
 from pathlib import Path
 
@@ -160,12 +160,14 @@ class Listener:
     waits for them, but a moment later, in which most of them start the program that tells the user
     who they are. One to which a signal was sent isn't left if it ends and writes nothing.
 
-    `makes`, where it is there, ends the command as soon as a make begins to work.
+    `makes`, where it is there, ends the command as soon as a make begins to work, and `told` is
+    given each call as it comes.
     """
 
     pipe: int
     trace: Trace = field(default_factory=Trace)
     makes: Makes | None = None
+    told: Callable[[Call], None] | None = None
     left: set[int] = field(default_factory=set)
     fault: Fault | None = None
     ending: bool = False
@@ -197,6 +199,9 @@ class Listener:
             self.fault = fault
             self.kill()
         calls, self.taken = self.trace.found[self.taken :], len(self.trace.found)
+        if self.told is not None:
+            for call in calls:
+                self.told(call)
         if self.makes is not None and any([self.makes.take(call) for call in calls]):
             self.ending = True
         if self.ending:
@@ -243,6 +248,8 @@ class Tracer:
     place: Place
     environment: Mapping[str, str]
     scratch: str
+    told: Callable[[Call], None] | None = None
+    """What is given each call as it comes."""
 
     def run(self, words: list[str], watch: Watch, makes: Makes | None = None) -> Done:
         """Runs a command. No process of it is left then. With `makes` a make that it starts is
@@ -251,7 +258,8 @@ class Tracer:
         with contextlib.suppress(FileNotFoundError):
             os.unlink(pipe)
         os.mkfifo(pipe)
-        listener = Listener(os.open(pipe, os.O_RDONLY | os.O_NONBLOCK), Trace(watch.looking), makes)
+        descriptor = os.open(pipe, os.O_RDONLY | os.O_NONBLOCK)
+        listener = Listener(descriptor, Trace(watch.looking), makes, self.told)
         own_end = os.open(pipe, os.O_WRONLY)
         os.set_blocking(listener.pipe, True)
         with contextlib.suppress(OSError):
