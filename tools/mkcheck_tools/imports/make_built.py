@@ -89,6 +89,7 @@ def built_by(asked: MakeShown) -> MakeBuilt:
     front, copies = shown.front, shown.front.copies
     place = copies.place("built")
     times = times_in(place.folder)
+    front.builds.append("second")
     after = front.run("built", is_real=True)
     folder = copies.place("built").folder
     files, after_times = listing(folder), times_in(folder)
@@ -98,8 +99,10 @@ def built_by(asked: MakeShown) -> MakeBuilt:
     makefiles = makefiles_of(copies.seen, folder, [*shown.makes, *built, *after])
     made = files - shown.files
     touch_sources(copies.seen, folder, [*built, *after], made)
+    front.builds.append("third")
     # A make that a recipe starts by its name isn't started by `make -n`.
     later = front.run("built", is_real=len(built) > len(shown.makes))
+    front.builds.append("asked")
     asking = Asking(
         front.start,
         copies.seen,

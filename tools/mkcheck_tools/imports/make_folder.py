@@ -60,6 +60,9 @@ class MakeFolder:
     more: Mapping[str, str] = field(default_factory=dict)
     """Further variables of the environment."""
 
+    builds: list[str] = field(default_factory=list, compare=False)
+    """The words for the builds after the first one, up to the present one."""
+
     @property
     def wrapper(self) -> str:
         """The path of the script that stands for make in commands."""

@@ -21,9 +21,13 @@ COUNT = re.compile(r"\[(?:(\w+) )?(\d+)/(\d+)(?: ([\d:]+) left)?\]")
 DOING = {
     "read": "reading",
     "build": "building",
+    "second": "building a second time",
+    "third": "building a third time",
+    "asked": "asking make what it would do",
     "translate": "translating",
     "record": "recording",
     "replay": "replaying",
+    "failing": "replaying where writes fail",
     "check": "checking",
 }
 

@@ -120,9 +120,11 @@ class MakeTool:
         return to_build(shown.makes, [])
 
     def how_far(self, shown: MakeShown) -> str:
-        """How many commands the present make has begun, of those that `make -n` showed."""
-        total = shown.commands
-        return f"[{min(shown.front.begun(), total)}/{total}]" if total else ""
+        """How many commands the present make has begun, of those that `make -n` showed, and which
+        build it is after the first one."""
+        front, total = shown.front, shown.commands
+        which = f"{front.builds[-1]} " if front.builds else ""
+        return f"[{which}{min(front.begun(), total)}/{total}]" if total else ""
 
     def build(self, shown: MakeShown) -> MakeBuilt:
         """Lets make build in a copy."""

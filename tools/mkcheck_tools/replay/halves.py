@@ -19,6 +19,7 @@ from mkcheck_tools.run.folders import remove
 from mkcheck_tools.run.memory import is_full
 from mkcheck_tools.run.paths import Name
 from mkcheck_tools.run.places import Place
+from mkcheck_tools.run.progress import Progress
 
 
 @dataclass(frozen=True)
@@ -81,7 +82,12 @@ class Halves:
                 for number in wanted
                 if wanted == group[:2] or any(found[one].half is not False for one in group[:2])
             }
-            found.update((number, one.result()) for number, one in tried.items())
+            progress = Progress(len(tried), title="failing")
+            for number, one in tried.items():
+                found[number] = one.result()
+                progress.ended(found[number].trial.recipe.target)
+            if tried:
+                progress.clear()
         return [replace(outcome, half=bool(outcome.half)) for outcome in found.values()]
 
     def with_half(self, outcome: Outcome, number: int, ahead: Future[bool] | None) -> Outcome:
