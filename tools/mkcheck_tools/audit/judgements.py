@@ -7,8 +7,9 @@ from dataclasses import dataclass
 from mkcheck_tools.audit.accepting import Accepted
 from mkcheck_tools.audit.makefile_lines import Sources
 from mkcheck_tools.audit.mending import Mending
-from mkcheck_tools.audit.readers import Reader
+from mkcheck_tools.audit.readers import POSIX, Reader
 from mkcheck_tools.audit.verdicts import NONE, Audited, number_of
+from mkcheck_tools.run import places
 
 
 @dataclass(frozen=True)
@@ -42,7 +43,10 @@ class Judgement:
             left = number_of(one.finding for one in self.mending.left)
             are = "finding is" if left == 1 else "findings are"
             rest = f" {left:,} {are} left to you, as said above." if left else ""
-            return f"mkcheck-audit --diff shows the lines at their place, --fix writes them.{rest}"
+            # Without mount namespaces each import is a new build.
+            is_kept = self.reader.kind == POSIX or places.namespace() is not None
+            front = "mkcheck-audit --diff" if is_kept else "mkcheck-audit --no-record --diff"
+            return f"{front} shows the lines at their place, --fix writes them.{rest}"
         if audited.open:
             return (
                 "Mend these as the lines above say, or accept them in mkcheck.toml with a reason;"
