@@ -14,8 +14,10 @@ from pathlib import Path
 from mkcheck_tools.answers.graphs import Ancestors, Recipe
 from mkcheck_tools.replay import runs
 from mkcheck_tools.replay.differences import lines_that_differ
+from mkcheck_tools.replay.orders import DAY
 from mkcheck_tools.replay.replays import Replay
 from mkcheck_tools.replay.runs import AGAIN, BARE, DAMAGED, ORDERED, Outcome
+from mkcheck_tools.replay.stamps import LEAST, made_since, with_other_stamps
 from mkcheck_tools.replay.versions import Store, Version, version_of
 from mkcheck_tools.replay.worlds import Effects, World
 from mkcheck_tools.run import places
@@ -386,6 +388,66 @@ class OrderedTest(ReplayTest):
             "q: x y c\n\tcat x y c > q; test c -nt x; test ! c -nt y\nc: y\n\tcp -p y c\n",
             {"x": "1\n", "y": "2\n"},
         )
+
+
+class OldSourcesTest(OrderedTest):
+    """The same of sources that are older: made files get earlier stamps, and not later ones."""
+
+    def write(self, files: dict[str, str]) -> None:
+        super().write(files)
+        for path in (self.folder, *self.folder.rglob("*")):
+            stamp = path.stat().st_mtime_ns - DAY
+            os.utime(path, ns=(stamp, stamp))
+
+    @unittest.skipUnless(shutil.which("gzip"), "no gzip")
+    def test_stamps_that_are_stored(self) -> None:
+        makefile = "out: s a\n\tgzip -c a > out\na: s\n\tcat s > a\n"
+        said = self.refused(makefile, "writes out with other contents", BARE, {"s": "1\n"})
+        self.assertIn("it uses the time stamp of a file that a recipe makes", said)
+
+
+class StampsTest(unittest.TestCase):
+    """Other stamps of files that recipes make."""
+
+    def setUp(self) -> None:
+        self.scratch = Path(tempfile.mkdtemp(prefix="recorder-test-")).resolve()
+        self.addCleanup(shutil.rmtree, self.scratch)
+
+    def moved(self, source: int, outside: int = DAY, folder: int = DAY) -> int:
+        """By how many nanoseconds a made file's stamp is moved, where a source, a file elsewhere
+        and a folder were changed so long before the recording."""
+        project, place = self.scratch / "project", self.scratch / "place"
+        (project / "d").mkdir(parents=True)
+        (project / "s").write_text("1\n")
+        (self.scratch / "elsewhere").write_text("1\n")
+        shutil.copytree(project, place)
+        now = time.time_ns()
+        for path, age in ((place / "s", source), (self.scratch / "elsewhere", outside)):
+            os.utime(path, ns=(now - age, now - age))
+        for path in (place / "d", place):
+            os.utime(path, ns=(now - folder, now - folder))
+        world = World.of(str(project), str(place), Store(str(self.scratch / "store")))
+        (place / "a").write_text("1\n")
+        world.took(Recipe("a", ["cp s a"]), Effects(("s",), ("a",)), time.time())
+        (place / "out").write_text("1\n")
+        looked = ("../elsewhere",)
+        effects = Effects(("s", "a"), ("out",), looked=looked)
+        trial = world.took(Recipe("out", ["cp a out"]), effects, time.time())
+        found = with_other_stamps(world, trial)
+        self.assertIs(with_other_stamps(world, found), found)
+        self.assertEqual(set(made_since(world, found, time.time_ns())), {"a"})
+        self.assertEqual(found.after["a"], found.before["a"])
+        shutil.rmtree(project)
+        shutil.rmtree(place)
+        return found.before["a"].stamp - trial.before["a"].stamp
+
+    def test_they_are_earlier_where_nothing_is_in_between(self) -> None:
+        self.assertEqual(self.moved(DAY), -LEAST)
+
+    def test_they_are_later_where_something_is(self) -> None:
+        second = LEAST // 2
+        for ages in ((second,), (DAY, second), (DAY, DAY, second)):
+            self.assertGreaterEqual(self.moved(*ages), LEAST, ages)
 
 
 @traced
