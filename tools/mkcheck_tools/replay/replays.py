@@ -10,7 +10,8 @@ Three runs, and for some recipes more, each in a folder that appears at the proj
 - *late*: where there are late files. The folder of the bare run, with a short file for each late
   one. Traced, since it tells which of them the recipe uses.
 
-The bare run and the damaged one are one run where that can hide nothing (`Layout.joins`).
+The bare run and the damaged one are one run where that can hide nothing (`Layout.joins`), and all
+three are one for most of the recipes that are alike (`Runner.at_once`).
 
 Folders that no recipe made are there too, folders that recipes make which always run before, and
 the links over which the recipe went when it was recorded.
@@ -210,7 +211,9 @@ class Replay:
                 places.end_all()
                 pool.shutdown(wait=True, cancel_futures=True)
                 passed = [one.result() for one in ended if one.result().passed]
-                return Replayed([one for one in passed if one.half is not None], end)
+                # Those that ran once count only beside others that are alike.
+                judged = [one for one in passed if one.half is not None and not one.lean]
+                return Replayed(judged, end)
             finally:
                 progress.clear()
         return Replayed(outcomes)
