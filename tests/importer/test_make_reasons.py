@@ -75,6 +75,19 @@ class OwnFolderTest(UnseenTestCase):
                     self.assertRegex(commands[0], "mkdir -p|install -d")
                 self.assertEqual(self.left({"a": "2\n"}, "out/x"), ["2\n", "2\n"])
 
+    def test_a_command_that_only_prints_makes_nothing(self) -> None:
+        """As git's makefile has it, where make itself makes the folder."""
+        line = "$(if $(wildcard $(@D)),,@echo '   ' MKDIR -p $(@D);$(shell mkdir -p $(@D)))"
+        self.folder_by(line)
+        self.accepted()
+        self.assertEqual(self.left({"a": "2\n"}, "out/x"), ["2\n", "2\n"])
+
+    def test_what_is_printed_into_a_file_counts(self) -> None:
+        for line in ("echo $(@D) > $@.new", "echo a; echo b >> $@", "echo a # b; cp a out/x"):
+            with self.subTest(line):
+                self.folder_by(f"$(if $(wildcard $(@D)),,mkdir -p $(@D); {line})")
+                self.refused("after a build make has other commands for out/x")
+
     def test_the_folder_of_another_target_is_not_its_own(self) -> None:
         self.folder_by("$(if $(wildcard $(@D)),: it is there,mkdir -p $(@D))")
         self.refused("after a build make has other commands for out/x")

@@ -2,7 +2,8 @@
 
 `$(if $(wildcard $(@D)),,mkdir -p $(@D))` is such a line. `mkdir -p` changes nothing where the
 folder is there, so recipes that differ by such commands alone do the same, and the longer one
-stands for both.
+stands for both. So it is with `$(if $(wildcard $(@D)),,@echo MKDIR $(@D);$(shell mkdir -p $(@D)))`:
+a command that only prints makes nothing.
 """
 
 from __future__ import annotations
@@ -16,20 +17,31 @@ from mkcheck_tools.imports.gnumake import Make
 
 # A command that makes folders, and the rest of the line.
 MAKING = re.compile(r"\s*(?:mkdir (?:-p|--parents)|install -d)\s+([^;&|<>`$()\n]+)(;|&&|$)")
+# A command that prints words, and the rest of the line.
+PRINTING = re.compile(
+    r"""\s*echo(?:\s+(?:'[^'\n]*'|"[^"$`\\\n]*"|[^;&|<>`$()'"\\#\n])*)?(?:;|&&|$)"""
+)
 
 
 def without_folder(text: str, target: str) -> str:
-    """A command without what makes the folder of its target, or one above it, at its front."""
+    """A command without what makes the folder of its target, or one above it, and what only
+    prints, at its front."""
     folder = os.path.normpath(os.path.dirname(target))
-    while found := MAKING.match(text):
-        try:
-            names = [os.path.normpath(word) for word in shlex.split(found.group(1))]
-        except ValueError:
-            break
-        if not all(folder == name or folder.startswith(name + "/") for name in names):
-            break
+    while found := PRINTING.match(text) or made_above(text, folder):
         text = text[found.end() :]
     return text.strip()
+
+
+def made_above(text: str, folder: str) -> re.Match[str] | None:
+    """The front of a command that makes a folder, or one above it."""
+    found = MAKING.match(text)
+    try:
+        words = shlex.split(found.group(1)) if found else []
+    except ValueError:
+        return None
+    names = [os.path.normpath(word) for word in words]
+    is_own = all(folder == name or folder.startswith(name + "/") for name in names)
+    return found if is_own else None
 
 
 def essential(rule: Rule) -> list[tuple[str, Shown]]:
