@@ -1,4 +1,4 @@
-"""Builds that CMake configured for ninja."""
+"""Builds that CMake configured for ninja and for make."""
 
 from __future__ import annotations
 
@@ -6,6 +6,8 @@ import shutil
 import subprocess
 import unittest
 
+from importer import make_folder
+from importer.make_folder import MakeFolderTest
 from importer.ninja_folder import NinjaFolderTest, can_judge
 
 LISTS = """cmake_minimum_required(VERSION 3.13)
@@ -67,3 +69,72 @@ class CmakeTest(NinjaFolderTest):
         answer = self.answer(folder="out")
         self.assertEqual(answer.findings, [])
         self.assertIn(["out/CMakeFiles/look", "other.c", "always"], [w[:3] for w in answer.ways])
+
+
+MAKE_LISTS = """cmake_minimum_required(VERSION 3.13)
+project(small C)
+"""
+# A header without DEPENDS, and a library that doesn't wait for it.
+HEADER = """add_custom_command(OUTPUT made.h
+  COMMAND sed s/@/x/ ${CMAKE_CURRENT_SOURCE_DIR}/made.txt > made.h NEEDS)
+add_custom_target(header ALL DEPENDS made.h)
+"""
+LIBRARY = """add_library(part STATIC two.c)
+target_include_directories(part PRIVATE ${CMAKE_CURRENT_BINARY_DIR})
+"""
+
+
+@make_folder.can_judge
+@unittest.skipUnless(shutil.which("cmake") and shutil.which("cc"), "no cmake, or no compiler")
+class CmakeForMakeTest(MakeFolderTest):
+    """A library with a generated header, in CMake's makefiles."""
+
+    def configure(self, lines: str) -> None:
+        """Writes the project, and lets CMake configure it in the folder `out`."""
+        two = '#include "made.h"\nint two(void) { return TWO; }\n'
+        self.write({"CMakeLists.txt": lines, "made.txt": FILES["made.txt"], "two.c": two})
+        words = ["cmake", "-G", "Unix Makefiles", "-S", ".", "-B", "out"]
+        subprocess.run(words, cwd=self.folder, capture_output=True, check=True)
+
+    def test_advice_is_for_the_file_that_people_edit(self) -> None:
+        self.configure(MAKE_LISTS + HEADER.replace(" NEEDS", "") + LIBRARY)
+        answer = self.imported("-S", "out")
+        self.assertEqual(answer.status, 1, answer.output + answer.errors)
+        self.assertIn("write `add_dependencies(part header)` in CMakeLists.txt", answer.output)
+        self.assertIn("CMake writes it, so say it in CMakeLists.txt, by DEPENDS", answer.output)
+        self.assertEqual(self.made_after("TWO 3"), "#define TWO 2 /* x */\n")
+
+    def test_with_what_is_advised_the_answer_is_yes(self) -> None:
+        header = HEADER.replace("NEEDS", "DEPENDS made.txt")
+        self.configure(MAKE_LISTS + header + LIBRARY + "add_dependencies(part header)\n")
+        answer = self.imported("-S", "out")
+        self.assertEqual(answer.status, 0, answer.output + answer.errors)
+        self.assertEqual(self.made_after("TWO 3"), "#define TWO 3 /* x */\n")
+
+    def test_a_list_that_was_edited_since_is_told(self) -> None:
+        """Make itself would run CMake first."""
+        self.configure(MAKE_LISTS)
+        self.write({"CMakeLists.txt": MAKE_LISTS + HEADER.replace(" NEEDS", "") + LIBRARY})
+        answer = self.imported("-S", "out")
+        self.assertEqual(answer.status, 2)
+        self.assertIn(
+            "CMakeLists.txt has changed since CMake configured out, so make would let CMake do so"
+            " anew first: run `cmake out`",
+            answer.errors,
+        )
+        words = ["make", "-C", "out"]
+        done = subprocess.run(words, cwd=self.folder, capture_output=True, text=True, check=True)
+        self.assertIn("Configuring done", done.stdout)
+
+    def made_after(self, new: str) -> str:
+        """What make leaves in the header after an edit of its source in a built copy."""
+        copy = self.scratch / "copy"
+        shutil.rmtree(copy, ignore_errors=True)
+        shutil.copytree(self.folder, copy)
+        shutil.rmtree(copy / "out")
+        for words in (["cmake", "-S", ".", "-B", "out"], ["make", "-C", "out"]):
+            subprocess.run(words, cwd=copy, capture_output=True, check=True)
+        text = (copy / "made.txt").read_text()
+        (copy / "made.txt").write_text(text.replace("TWO 2", new))
+        subprocess.run(["make", "-C", "out"], cwd=copy, capture_output=True, check=True)
+        return (copy / "out" / "made.h").read_text()

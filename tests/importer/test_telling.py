@@ -5,7 +5,7 @@ from __future__ import annotations
 import io
 import unittest
 
-from mkcheck_tools.imports.telling import Telling
+from mkcheck_tools.imports.telling import ASKED, Telling
 
 
 class TellingTest(unittest.TestCase):
@@ -23,6 +23,10 @@ class TellingTest(unittest.TestCase):
         for word, name in (("second", "second"), ("third", "third")):
             line = f"{front} a {name} time, 0:10, 8 of 8\n"
             self.assertEqual(self.told("build", f"[{word} 8/8]", 10.0), line)
+
+    def test_no_count_where_make_is_asked(self) -> None:
+        line = "mkcheck-import: asking make what it would do, 1:30\n"
+        self.assertEqual(self.told("build", ASKED, 90.0), line)
 
     def test_replays_where_writes_fail(self) -> None:
         text = "[replay 8/8] a.o\n[failing 1/2] a.o\n"

@@ -15,6 +15,7 @@ from dataclasses import dataclass, field
 from mkcheck_tools.faults import Fault
 from mkcheck_tools.imports.builds import FOREIGN, Build
 
+CMAKE = "CMake"
 # What CMake writes beside the folders `CMakeFiles`.
 OF_CMAKE = (
     "CMakeCache.txt",
@@ -33,6 +34,9 @@ SOURCES = ("*.h", "*.hh", "*.hpp", "*.hxx", "*.inc", "*.c", "*.cc", "*.cpp", "*.
 # What config.status and Automake write beside the makefiles.
 OF_AUTOCONF = ("config.status", "config.log", "config.cache", "libtool", "stamp-h*")
 RUNS_CONFIG_STATUS = re.compile(r"(?:^|[\s/;&|])config\.status(?:\s|$)")
+# What CMake's makefile was made from, and what was written with it, in CMake's own list.
+LIST_OF_CMAKE = re.compile(r"^set\(CMAKE_MAKEFILE_(DEPENDS|OUTPUTS)\n([^)]*)\)", re.MULTILINE)
+QUOTED = re.compile(r'^ *"(.*)"$', re.MULTILINE)
 LIST_OF_FILES = re.compile(r'^config_(?:files|links)="([^"]*)"', re.MULTILINE)
 
 
@@ -79,7 +83,7 @@ def configured_files(root: str, asked: Iterable[str] = ()) -> Configured:
         folder, base = os.path.split(name)
         if base == "CMakeCache.txt":
             below = [one for one in files if is_below(one, folder)]
-            found.add((one for one in below if is_of_cmake(root, one)), "CMake", folder or ".")
+            found.add((one for one in below if is_of_cmake(root, one)), CMAKE, folder or ".")
         elif base == "coredata.dat" and os.path.basename(folder) == OF_MESON[0]:
             folder = os.path.dirname(folder)
             below = [one for one in files if is_below(one, folder)]
@@ -89,6 +93,24 @@ def configured_files(root: str, asked: Iterable[str] = ()) -> Configured:
             below = [one for one in files if is_below(one, folder)]
             found.add(of_config_status(root, folder, below), "config.status", folder or ".")
     return found
+
+
+def changed_since_cmake(root: str, folder: str) -> str:
+    """The file for which a make in a folder would first let CMake configure it anew: the latest of
+    those that CMake read, where it is later than what CMake wrote; empty where there is none."""
+    own = os.path.join(root, folder)
+    try:
+        with open(os.path.join(own, "CMakeFiles", "Makefile.cmake"), encoding="utf-8") as file:
+            found = LIST_OF_CMAKE.findall(file.read())
+    except (OSError, UnicodeDecodeError):
+        return ""
+    stamps: dict[str, list[tuple[int, str]]] = {}
+    for word, text in found:
+        paths = (os.path.join(own, name) for name in QUOTED.findall(text))
+        stamps[word] = [(os.stat(one).st_mtime_ns, one) for one in paths if os.path.isfile(one)]
+    latest = max(stamps.get("DEPENDS", []), default=(0, ""))
+    is_old = latest[0] > min(stamps.get("OUTPUTS", []), default=latest)[0]
+    return os.path.relpath(latest[1], root) if is_old else ""
 
 
 def configuring(build: Build) -> list[str]:

@@ -3,11 +3,13 @@
 from __future__ import annotations
 
 import os
+import re
 from dataclasses import dataclass, field
 
 from mkcheck_tools.book.footprint_files import Footprints
 from mkcheck_tools.gnu.rule_lines import pattern_rule
 from mkcheck_tools.imports.builds import Build, Kind, Node
+from mkcheck_tools.imports.configured import CMAKE
 from mkcheck_tools.imports.judging import UNAWARE, BuildFinding
 
 OTHERS = {
@@ -47,9 +49,11 @@ TAKEN_AWAY = (
 # This many different sentences on targets of one line become one sentence.
 OF_ONE_LINE = 3
 CONFIGURING = "config.status"
+# The name in CMake's makefiles under which a target of CMakeLists.txt is built.
+OF_CMAKE_TARGET = re.compile(r"(?:^|/)CMakeFiles/([^/]+)\.dir/all$")
 # What is said of a makefile that a tool wrote, to which lines are to be added.
 GENERATED = {
-    "CMake": "CMake writes it, so say it in CMakeLists.txt, by DEPENDS, OBJECT_DEPENDS or"
+    CMAKE: "CMake writes it, so say it in CMakeLists.txt, by DEPENDS, OBJECT_DEPENDS or"
     " LINK_DEPENDS",
     "Meson": "Meson writes it, so say it in meson.build, by depends, depend_files or link_depends",
     CONFIGURING: "config.status writes it, so say it in Makefile.am or Makefile.in",
@@ -399,11 +403,24 @@ class Sentences:
             )
         if one.folder != other.folder:
             return f"let the one in {other.folder} be done before the one in {one.folder} begins"
-        names = [self.called(self.build.starters.get(node.make, "")) for node in (other, one)]
+        starters = [self.build.starters.get(node.make, "") for node in (other, one)]
+        targets = [self.cmake_target(name) for name in starters]
+        if all(targets):
+            return f"write `add_dependencies({targets[1]} {targets[0]})` in CMakeLists.txt"
+        names = [self.called(name) for name in starters]
         return (
             f"let the one that the recipe of {names[0]} starts be done before that of {names[1]}"
             " begins"
         )
+
+    def cmake_target(self, starter: str) -> str:
+        """The target of CMake that a recipe of CMake's makefiles builds by a make of its own; empty
+        where it is none."""
+        node = self.node(starter)
+        found = OF_CMAKE_TARGET.search(node.name)
+        makefile = node.origin.makefile if node.origin else ""
+        is_cmakes = self.build.generators.get(makefile) == CMAKE
+        return found.group(1) if is_cmakes and found is not None else ""
 
     def starter(self, make: int, above: int) -> str | None:
         """The node of the make `above` whose recipe starts a make, or a make that starts it."""

@@ -18,6 +18,8 @@ SECONDS_ON_TERMINAL = 1.0
 SECONDS_ELSEWHERE = 60.0
 # A count in a line of another program, as `[replay 3/10 0:05 left] a.o` or `[3/10] `.
 COUNT = re.compile(r"\[(?:(\w+) )?(\d+)/(\d+)(?: ([\d:]+) left)?\]")
+# In place of a count, where make is asked what it would do: it begins no commands then.
+ASKED = "[asked 0/0]"
 DOING = {
     "read": "reading",
     "build": "building",
@@ -87,11 +89,13 @@ class Telling:
 
 
 def how_far(text: str, seconds: float) -> str:
-    """The last count in a text, and the time that is left; empty where there is none."""
+    """The last count in a text, and the time that is left; empty where there is none, or it counts
+    nothing."""
     counts = list(COUNT.finditer(text))
-    if not counts:
+    done, total = map(int, counts[-1].group(2, 3)) if counts else (0, 0)
+    if total == 0:
         return ""
-    done, total, left = int(counts[-1].group(2)), int(counts[-1].group(3)), counts[-1].group(4)
+    left = counts[-1].group(4)
     if left is None and 0 < done < total:
         left = duration(seconds / done * (total - done))
     return f", {done} of {total}{f', {left} left' if left else ''}"

@@ -10,8 +10,10 @@ from collections.abc import Iterable
 from dataclasses import asdict, dataclass, field, replace
 from typing import Any, Protocol, TypeVar
 
+from mkcheck_tools.faults import Fault
 from mkcheck_tools.imports.answers import counted
 from mkcheck_tools.imports.builds import Build, path_name
+from mkcheck_tools.imports.configured import changed_since_cmake
 from mkcheck_tools.imports.copies import Copies, Tail
 from mkcheck_tools.imports.gnumake import Make, content, find_make, own_environment
 from mkcheck_tools.imports.leftovers import targets_there
@@ -27,6 +29,7 @@ from mkcheck_tools.imports.ninja_folder import (
 )
 from mkcheck_tools.imports.real_commands import to_build
 from mkcheck_tools.imports.request import Request
+from mkcheck_tools.imports.telling import ASKED
 from mkcheck_tools.run.paths import SeenPath
 
 Shown = TypeVar("Shown")
@@ -94,8 +97,14 @@ class MakeTool:
     scratch: str
 
     def read(self) -> MakeShown:
-        """Asks make what it would do."""
+        """Asks make what it would do. Raises `Fault` where make would let CMake write its makefiles
+        anew first: they are those of the configure step, which is taken as it is."""
         request = self.request
+        if changed := changed_since_cmake(request.root, request.folder):
+            raise Fault(
+                f"{changed} has changed since CMake configured {request.folder}, so make would let"
+                f" CMake do so anew first: run `cmake {request.folder}`"
+            )
         front = make_folder(self.copies, request.folder, request.make_words, self.scratch)
         return shown_by(replace(front, keep=request.keep, is_built=request.build))
 
@@ -121,8 +130,10 @@ class MakeTool:
 
     def how_far(self, shown: MakeShown) -> str:
         """How many commands the present make has begun, of those that `make -n` showed, and which
-        build it is after the first one."""
+        build it is after the first one; no count where make is only asked."""
         front, total = shown.front, shown.commands
+        if "asked" in front.builds:
+            return ASKED
         which = f"{front.builds[-1]} " if front.builds else ""
         return f"[{which}{min(front.begun(), total)}/{total}]" if total else ""
 
