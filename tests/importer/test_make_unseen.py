@@ -371,9 +371,9 @@ class ReadingTest(UnseenTestCase):
         self.mode(mode + "flag = $(if $(filter debug,$(mode)),-g)\n")
         self.stays_old("x", "mode")
         self.mode(mode + "flag = $(if $(filter debug,$(word 1,$(mode))),-g)\n")
-        self.refused("    Makefile:2: a condition depends on mode")
+        self.refused("    Makefile:2: a function, as $(if ..) or $(shell ..), depends on mode")
         self.mode(mode + "flag_debug := -g\nflag = $(flag_$(mode))\n")
-        self.refused("    Makefile:3: a condition depends on mode")
+        self.refused("    Makefile:3: a function, as $(if ..) or $(shell ..), depends on mode")
 
     def test_condition_of_a_macro_behind_it(self) -> None:
         self.mode(
@@ -539,7 +539,7 @@ class ReadingTest(UnseenTestCase):
 
     def test_contents_that_make_refuses(self) -> None:
         self.version("x: version\n$(if $(filter 1.0,$v),,$(error no))\n")
-        self.refused("    Makefile:9: a condition depends on version")
+        self.refused("    Makefile:9: a function, as $(if ..) or $(shell ..), depends on version")
         self.version("x: version\n$(if $(filter-out 1.0,$v)$(if $v,,no),$(error no))\n")
         self.refused(
             "make reads version beside its makefiles, and whether commands depend on it couldn't be"

@@ -260,9 +260,9 @@ class Readings:
                 " known, since make has the same macros and rules with all other contents that"
                 f" were tried; let all that is made need {name}, or let a recipe read it"
             )
-        elif place := trial.conditional(asked):
+        elif decided := trial.conditional(asked):
             self.hidden[name] = (
-                f"{place}: a condition depends on {name}, which make reads beside its makefiles,"
+                f"{decided} depends on {name}, which make reads beside its makefiles,"
                 " and whether it has a part in commands was tried for a few contents alone; let"
                 f" all that is made need {name}"
             )

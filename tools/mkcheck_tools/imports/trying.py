@@ -22,6 +22,7 @@ FUNCTION = re.compile(
     r"\$[({](?:if|or|and|filter|findstring|word|wordlist|words|suffix|realpath|wildcard|call|value"
     rf"|eval|shell|file)\s|{COMPUTED_NAME}"
 )
+A_FUNCTION = "a function, as $(if ..) or $(shell ..),"
 REFERENCE = re.compile(r"\$(?:[({]([\w.+-]+)[)}:]|(\w))")
 # The operands of a condition that compares something with an empty text.
 WITH_NOTHING = re.compile(r"\s*(?:\(,.*\)|\(.*,\s*\)|\"\"\s.*|''\s.*|.*\s(?:\"\"|''))\s*(?:#.*)?$")
@@ -156,8 +157,8 @@ class Trial:
         )
 
     def conditional(self, asked: list[Said]) -> str:
-        """The place in a makefile where a condition depends on a macro whose value varies with the
-        contents that were tried; empty if there is none.
+        """Which condition or function of a makefile depends on a macro whose value varies with the
+        contents that were tried, with its place; empty if there is none.
 
         A condition that only asks whether the macro is empty doesn't count, if it was empty once.
         """
@@ -189,7 +190,8 @@ class Trial:
                     or name not in emptied
                     or not is_with_nothing(*directive.groups())
                 ):
-                    return f"{makefile}:{number}"
+                    what = "a condition" if directive is not None else A_FUNCTION
+                    return f"{makefile}:{number}: {what}"
         return ""
 
 
