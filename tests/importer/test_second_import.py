@@ -107,6 +107,23 @@ class NothingChangedTest(SecondImportTestCase):
             os.utime(self.folder / name)
         self.assertEqual(self.taken(), "0 of 3")
 
+    def test_the_translation_is_the_same_with_and_without_replay(self) -> None:
+        self.first()
+        for replay in (True, False):
+            with self.subTest(replay=replay):
+                answer = self.imported(keep=True, replay=replay)
+                self.assertNotIn("translated anew", answer.errors)
+                self.assertEqual(self.count(answer), "3 of 3")
+                fresh = self.scratch / "fresh"
+                shutil.rmtree(fresh, ignore_errors=True)
+                other = self.imported("-o", str(fresh), keep=True, replay=replay)
+                self.assertEqual(
+                    (answer.status, answer.output), (other.status, self.named(other.output))
+                )
+                notes = (self.folder / ".mkcheck" / "footprint.json.notes").read_text()
+                self.assertEqual(notes, (fresh / "footprint.json.notes").read_text())
+                self.assertEqual("no recipe was run again" in notes, not replay)
+
     def test_results_that_are_gone_are_made_again(self) -> None:
         self.first()
         (self.folder / ".mkcheck" / "footprint.json").unlink()

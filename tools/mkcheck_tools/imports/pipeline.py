@@ -414,7 +414,7 @@ def record_build(request: Request, translated: Translated, desk: Desk) -> Record
         "" if came.unrecorded else f"{came.recipes - came.known} of {came.recipes} recipes",
         state,
         len(judge.read_book().records),
-        digest_of_value([desk.text(BOOK), found.unrecorded, str(found.noted)]),
+        digest_of_value([desk.text(BOOK), found.unrecorded, str(found.noted), request.replay]),
     )
 
 
@@ -565,7 +565,7 @@ def conditions_of(request: Request) -> Conditions:
         "words": json.dumps([request.makefile, *request.words]),
         "options": json.dumps(
             [
-                *(request.tool, request.keep, request.build, request.replay),
+                *(request.tool, request.keep, request.build),
                 *(request.fixed, request.configured, request.trusted),
             ]
         ),
