@@ -14,11 +14,11 @@ set -l judging graph check repair verify simulate
 complete -c mkcheck -n "__fish_seen_subcommand_from $judging" -s f -r -d 'The makefile'
 complete -c mkcheck -n "__fish_seen_subcommand_from $judging" -s r -d 'Leave out the default text'
 complete -c mkcheck -n "__fish_seen_subcommand_from $judging" -s b -r -d 'The recorded footprints'
+complete -c mkcheck -n "__fish_seen_subcommand_from $judging" -s w -d 'Print faults in words'
+complete -c mkcheck -n "__fish_seen_subcommand_from $judging" -l json -d 'Print one JSON value'
 complete -c mkcheck -n '__fish_seen_subcommand_from graph' -s c -d 'Print the commands'
 complete -c mkcheck -n '__fish_seen_subcommand_from check' -s c -d 'Print only the certificate'
-complete -c mkcheck -n '__fish_seen_subcommand_from check' -s w -d 'Print findings in words'
 complete -c mkcheck -n '__fish_seen_subcommand_from check' -s e -x -d 'Print the plan of a finding'
-complete -c mkcheck -n '__fish_seen_subcommand_from check' -l json -d 'Print one JSON value'
 complete -c mkcheck -n '__fish_seen_subcommand_from verify' -s k -r -d 'The certificate'
 complete -c mkcheck -n '__fish_seen_subcommand_from simulate' -s p -r -d 'The plan'
 complete -c mkcheck -n '__fish_seen_subcommand_from explain' -f \
