@@ -23,6 +23,8 @@ from mkcheck_tools.imports.views import Subject
 from mkcheck_tools.judge.refusals import started_make
 from mkcheck_tools.run.places import Place
 
+A_FUNCTION = "a function, as $(if ..) or $(shell ..), or a computed name"
+
 # As GNU make 4.3 prints it, shortened.
 BASE = """
 # Make data base, printed on Sat Nov 28 12:08:49 2026
@@ -213,21 +215,23 @@ class ConditionTest(unittest.TestCase):
             trial.__dict__["before"] = [said(value), said(value)]
             return trial.conditional([said(one) for one in others or ("V = 2\nW = x$(V)",)])
 
+    def decides(self, what: str, *lines: str) -> None:
+        """Each of these lines is told as what decides."""
+        for line in lines:
+            self.assertEqual(self.place(f"\n{line}\nx:\n"), f"Makefile:2: {what}", line)
+
     def test_conditions(self) -> None:
-        for line in (
-            "ifeq ($(V),1)",
-            "else ifneq (${V}, 2)",
+        self.decides("a condition", "ifeq ($(V),1)", "else ifneq (${V}, 2)", "ifdef W")
+        self.decides("an include line", "include $(V).mk", "-include a \\\n $(W).mk")
+        self.decides(
+            A_FUNCTION,
             "F = $(if $V,a)",
             "F = $(filter 1,$(W))",
             "F = $(words $(V)) $(G)",
             "F = $(suffix $(V))",
             "F = $(F_$(V))",
-            "include $(V).mk",
-            "-include a \\\n $(W).mk",
             "\techo $(shell test $(V) = 1)",
-            "ifdef W",
-        ):
-            self.assertEqual(self.place(f"\n{line}\nx:\n"), "Makefile:2", line)
+        )
 
     def test_plain_uses(self) -> None:
         for line in (
@@ -244,9 +248,9 @@ class ConditionTest(unittest.TestCase):
         tried = "V = 1\nW = 1", "V = \nW = 2"
         for line in ("ifeq ($(V),)", "ifneq (,$(V)) # it is there", 'ifeq "$(V)" ""', "ifdef V"):
             self.assertEqual(self.place(f"\n{line}\nx:\n", *tried), "", line)
-            self.assertEqual(self.place(f"\n{line}\nx:\n"), "Makefile:2", line)
-        self.assertEqual(self.place("ifeq ($(W),)\n", *tried), "Makefile:1")
-        self.assertEqual(self.place("ifeq ($(V),1)\n", *tried), "Makefile:1")
+            self.decides("a condition", line)
+        for line in ("ifeq ($(W),)\n", "ifeq ($(V),1)\n"):
+            self.assertEqual(self.place(line, *tried), "Makefile:1: a condition")
 
 
 class WordsTest(unittest.TestCase):

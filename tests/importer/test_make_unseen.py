@@ -12,6 +12,8 @@ from pathlib import Path
 
 from importer.make_folder import Answer, MakeFolderTest, can_judge
 
+A_FUNCTION = "a function, as $(if ..) or $(shell ..), or a computed name"
+
 
 class UnseenTestCase(MakeFolderTest):
     """What GNU make leaves after an edit, beside what a clean build leaves."""
@@ -371,9 +373,9 @@ class ReadingTest(UnseenTestCase):
         self.mode(mode + "flag = $(if $(filter debug,$(mode)),-g)\n")
         self.stays_old("x", "mode")
         self.mode(mode + "flag = $(if $(filter debug,$(word 1,$(mode))),-g)\n")
-        self.refused("    Makefile:2: a function, as $(if ..) or $(shell ..), depends on mode")
+        self.refused(f"    Makefile:2: {A_FUNCTION} depends on mode")
         self.mode(mode + "flag_debug := -g\nflag = $(flag_$(mode))\n")
-        self.refused("    Makefile:3: a function, as $(if ..) or $(shell ..), depends on mode")
+        self.refused(f"    Makefile:3: {A_FUNCTION} depends on mode")
 
     def test_condition_of_a_macro_behind_it(self) -> None:
         self.mode(
@@ -539,7 +541,7 @@ class ReadingTest(UnseenTestCase):
 
     def test_contents_that_make_refuses(self) -> None:
         self.version("x: version\n$(if $(filter 1.0,$v),,$(error no))\n")
-        self.refused("    Makefile:9: a function, as $(if ..) or $(shell ..), depends on version")
+        self.refused(f"    Makefile:9: {A_FUNCTION} depends on version")
         self.version("x: version\n$(if $(filter-out 1.0,$v)$(if $v,,no),$(error no))\n")
         self.refused(
             "make reads version beside its makefiles, and whether commands depend on it couldn't be"

@@ -153,7 +153,7 @@ fn refuses_before_it_reads(rt: HostRuntime) -> Result<(), Fail> {
 
 #[test]
 fn rejects_other_words(rt: HostRuntime) -> Result<(), Fail> {
-    for words in ["", "help", "check", "check -b B -e 0", "graph -x"] {
+    for words in ["", "check", "check -b B -e 0", "graph -x"] {
         let outcome = ran(rt.alloc(), words, 0)?;
         assert!(rt;
             outcome.out.is_empty() && !outcome.err.is_empty(),
@@ -172,7 +172,7 @@ fn prints_the_version(rt: HostRuntime) -> Result<(), Fail> {
 
 #[test]
 fn prints_help(rt: HostRuntime) -> Result<(), Fail> {
-    for words in ["--help", "graph --help", "repair --help"] {
+    for words in ["--help", "help", "graph --help", "repair --help"] {
         let outcome = ran(rt.alloc(), words, 0)?;
         assert!(rt; !outcome.out.is_empty() && outcome.err.is_empty() && outcome.status == 0);
     }

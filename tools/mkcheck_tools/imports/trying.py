@@ -22,7 +22,7 @@ FUNCTION = re.compile(
     r"\$[({](?:if|or|and|filter|findstring|word|wordlist|words|suffix|realpath|wildcard|call|value"
     rf"|eval|shell|file)\s|{COMPUTED_NAME}"
 )
-A_FUNCTION = "a function, as $(if ..) or $(shell ..),"
+A_FUNCTION = "a function, as $(if ..) or $(shell ..), or a computed name"
 REFERENCE = re.compile(r"\$(?:[({]([\w.+-]+)[)}:]|(\w))")
 # The operands of a condition that compares something with an empty text.
 WITH_NOTHING = re.compile(r"\s*(?:\(,.*\)|\(.*,\s*\)|\"\"\s.*|''\s.*|.*\s(?:\"\"|''))\s*(?:#.*)?$")
@@ -190,9 +190,15 @@ class Trial:
                     or name not in emptied
                     or not is_with_nothing(*directive.groups())
                 ):
-                    what = "a condition" if directive is not None else A_FUNCTION
-                    return f"{makefile}:{number}: {what}"
+                    return f"{makefile}:{number}: {what_decides(directive)}"
         return ""
+
+
+def what_decides(directive: re.Match[str] | None) -> str:
+    """What a line is that may compare the value of a macro, for people."""
+    if directive is None:
+        return A_FUNCTION
+    return "an include line" if directive.group(1).endswith("include") else "a condition"
 
 
 def is_with_nothing(word: str, rest: str) -> bool:
