@@ -106,10 +106,12 @@ class Surroundings:
                 )
 
     def touch_folders(self, folder: str) -> None:
-        """Gives all folders of a project the present time as their stamp."""
+        """Gives all folders of a project a stamp of two seconds from now: the clock may not have
+        gone on to another second since the recording."""
+        stamp = time.time() + 2.0
         for path, _, _ in os.walk(folder) if FOLDERS in self.others else ():
             with contextlib.suppress(OSError):
-                os.utime(path)
+                os.utime(path, (stamp, stamp))
 
 
 def beside(folder: str) -> str:
