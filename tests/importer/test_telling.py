@@ -1,4 +1,4 @@
-"""What is told of the step that is under way."""
+"""Tests of the lines that say how far an import is."""
 
 from __future__ import annotations
 
@@ -12,7 +12,7 @@ class TellingTest(unittest.TestCase):
     """Lines for texts with counts."""
 
     def told(self, word: str, text: str, seconds: float) -> str:
-        """The line for a step after so many seconds."""
+        """The line that a step prints when it has taken these seconds."""
         stream = io.StringIO()
         Telling(stream).progress(word, text, seconds)
         return stream.getvalue()

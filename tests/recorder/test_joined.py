@@ -266,7 +266,7 @@ class AlikeTest(ProjectTest):
             self.assertIn(f"doesn't write {name}.o anew", outcome.errors)
 
     def sized(self, **counts: int) -> dict[str, str]:
-        """Sources with so many variables."""
+        """Sources of objects that are alike, each with its own number of variables."""
         return {
             f"{name}.c": "".join(f"int {name}{i} = 1;\n" for i in range(count))
             for name, count in counts.items()

@@ -32,7 +32,7 @@ class Digests:
     thread: threading.Thread | None = None
 
     def take(self, call: Call) -> None:
-        """A call, as it comes: what it opens or starts is worked out."""
+        """Takes a call just traced, and works out the digests of what it opens or starts."""
         path = path_of_read(call)
         if path is None or path in self.asked or path.startswith(self.project + "/"):
             return
