@@ -19,6 +19,10 @@ PLACES = {
         "mk_infer_select/src/goals.rt",
         "Err(_) => Err(InferFault::Memory),",
     ): "a name has no third fault",
+    (
+        "mk_infer_select/src/needed.rt",
+        "Err(_) => InferFault::Memory,",
+    ): "the call has no other error",
     ("mk_infer/src/expanding.rt", "Err(_) => InferFault::Memory,"): "the call has no other error",
     (
         "mk_read_parse/src/including.rt",

@@ -93,9 +93,9 @@ def verdict_value(subject: Subject) -> Value:
 
 def place_of_fault(fault: Refused) -> Value | None:
     """The line of a file that has the fault, if there is one."""
-    if fault.where is None:
+    if fault.shown is None:
         return None
-    file, _, line = fault.where.rpartition(b":")
+    file, _, line = fault.shown.rpartition(b":")
     if file in PSEUDO:
         return None
     return {"file": file.decode("utf-8"), "line": int(line)}

@@ -76,6 +76,14 @@ class Rules:
         for rule in makefile.rules:
             self.take(rule)
 
+    def needing(self, name: bytes, target: bytes | None = None) -> bytes | None:
+        """The place of the first rule line, of the target if there is one, that has the name as a
+        prerequisite."""
+        for rule in self.makefile.rules:
+            if name in rule.words and (target is None or target in rule.targets):
+                return rule.where
+        return None
+
     def take(self, rule: Rule) -> None:
         for target in dict.fromkeys(rule.targets):
             inference = self.is_inference(target)
@@ -208,7 +216,7 @@ class Graph:
                 or self.rules.choice(name, self.there) is not None
             )
             if not made and not self.there.any_leaf and not self.there.is_given(name):
-                raise Refused(41, name)
+                raise Refused(41, name, near=self.rules.needing(name))
             self.nodes[name] = node
             waiting.extend(reversed(node.prerequisites))
 
@@ -225,7 +233,9 @@ class Graph:
                     if name in done:
                         continue
                     if name in on_path:
-                        raise Refused(42, *path[path.index(name) :], name)
+                        cycle = path[path.index(name) :]
+                        near = self.rules.needing(name, cycle[-1])
+                        raise Refused(42, *cycle, name, near=near)
                     path.append(name)
                     on_path.add(name)
                     rest = iter(self.nodes[name].prerequisites)

@@ -13,8 +13,8 @@ BAD_IN_NAMES = b"%*?[]:;=#$\\\"'`|&<>()"
 class Refused(Exception):
     """A refusal: its number, its place where it has one, and its other words as bytes.
 
-    A fault that isn't the first one with its number is named. The word `about` is told in sentences
-    alone."""
+    A fault that isn't the first one with its number is named. The word `about` and the place `near`
+    are told in sentences alone."""
 
     def __init__(
         self,
@@ -23,6 +23,7 @@ class Refused(Exception):
         where: bytes | None = None,
         name: str | None = None,
         about: bytes | None = None,
+        near: bytes | None = None,
     ) -> None:
         super().__init__(number, where, words, name)
         self.number = number
@@ -30,6 +31,7 @@ class Refused(Exception):
         self.words = list(words)
         self.name = name
         self.about = about
+        self.shown = where or near
 
     def line(self) -> bytes:
         begun = [b"refused", str(self.number).encode()]

@@ -410,7 +410,7 @@ def name_of(fault: Refused) -> bytes:
 def in_words(fault: Refused) -> bytes:
     """The text of a fault: its place, its name and number, its other words, its sentence."""
     name = name_of(fault)
-    head = b"" if fault.where is None else fault.where + b": "
+    head = b"" if fault.shown is None else fault.shown + b": "
     head += b"%s (%d): " % (name, fault.number)
     words = fault.words + ([] if fault.about is None else [fault.about])
     if words:
@@ -420,9 +420,9 @@ def in_words(fault: Refused) -> bytes:
 
 def line_of(fault: Refused, files: Files) -> bytes:
     """The line of the file that has the fault, as it is printed; nothing where there is none."""
-    if fault.where is None:
+    if fault.shown is None:
         return b""
-    name, _, number = fault.where.rpartition(b":")
+    name, _, number = fault.shown.rpartition(b":")
     if name in PSEUDO or name.startswith((b"/", b"../")):
         return b""
     found = files.read(name)

@@ -83,10 +83,10 @@ graph_name graph.Memory = no_name
 -- The number and the name of a fault of goals, of their graph, or of commands.
 abbrev pub infer_name : InferFault → ℕ × List ℕ
 infer_name (infer.Macro place fault) = macro_name fault
-infer_name (infer.Graph fault) = graph_name fault
+infer_name (infer.Graph fault place) = graph_name fault
 infer_name (infer.BadGoal place) = (27, codes "BadGoal")
 infer_name (infer.GoalIsMember place) = (28, codes "GoalIsMember")
-infer_name (infer.NoRule name) = (41, codes "NoRule")
+infer_name (infer.NoRule name place) = (41, codes "NoRule")
 infer_name infer.NoGoal = (44, codes "NoGoal")
 infer_name (infer.InferencePrerequisites place) = (45, codes "InferencePrerequisites")
 infer_name infer.Memory = no_name

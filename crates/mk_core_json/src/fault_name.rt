@@ -107,10 +107,10 @@ fn infer_name(fault: &InferFault) -> (u32, &'static str)
 {
     match fault {
         InferFault::Macro(_, fault) => macro_name(fault),
-        InferFault::Graph(fault) => graph_name(fault),
+        InferFault::Graph(fault, _) => graph_name(fault),
         InferFault::BadGoal(_) => (27, "BadGoal"),
         InferFault::GoalIsMember(_) => (28, "GoalIsMember"),
-        InferFault::NoRule(_) => (41, "NoRule"),
+        InferFault::NoRule(_, _) => (41, "NoRule"),
         InferFault::NoGoal => (44, "NoGoal"),
         InferFault::InferencePrerequisites(_) => (45, "InferencePrerequisites"),
         InferFault::Memory => NO_NAME,

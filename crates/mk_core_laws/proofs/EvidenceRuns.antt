@@ -73,7 +73,7 @@ module _ (m : Makefile) (e : Exists) where
   unfolding choice chosen_commands
   selected_too goals g (all, walk, built) = (all, walk, at (lacking m strict all) (lacking m e all) (none_lacks (take max_nodes all)) built)
     where
-      at : (o p : Option (List ℕ)) → (o ≡ None → p ≡ None) → BuiltUnless o (graph_of m strict goals all) (Ok g) → BuiltUnless p (graph_of m e goals all) (Ok g)
+      at : (o p : Option (List ℕ)) → (o ≡ None → p ≡ None) → BuiltUnless m o (graph_of m strict goals all) (Ok g) → BuiltUnless m p (graph_of m e goals all) (Ok g)
       at None None none b = b
       at None (Some name) none b = let e = none refl in absurd cc
       at (Some name) p none b = absurd cc

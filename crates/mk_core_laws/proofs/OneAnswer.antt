@@ -73,11 +73,11 @@ module _ (asked : Bool) (ready : Ready) where
   is_settled (Err infer.Memory) text (w, p) = absurd cc
   is_settled (Err (infer.BadGoal place)) text p = tt
   is_settled (Err (infer.GoalIsMember place)) text p = tt
-  is_settled (Err (infer.NoRule name)) text p = tt
+  is_settled (Err (infer.NoRule name place)) text p = tt
   is_settled (Err infer.NoGoal) text p = tt
   is_settled (Err (infer.InferencePrerequisites place)) text p = tt
   is_settled (Err (infer.Macro place fault)) text p = tt
-  is_settled (Err (infer.Graph fault)) text p = tt
+  is_settled (Err (infer.Graph fault place)) text p = tt
 
   printed_one : (selected : Result value.Graph InferFault) (one other : Result (List ℕ) InferFault) → Prints asked ready selected one → Prints asked ready selected other → one ≡ other
   printed_one (Ok g) one other p q = p ∙ sym q

@@ -85,11 +85,11 @@ is_settled answers (Ok g) answer d = tt
 is_settled answers (Err infer.Memory) answer (w, e) = absurd cc
 is_settled answers (Err (infer.BadGoal place)) answer d = tt
 is_settled answers (Err (infer.GoalIsMember place)) answer d = tt
-is_settled answers (Err (infer.NoRule name)) answer d = tt
+is_settled answers (Err (infer.NoRule name place)) answer d = tt
 is_settled answers (Err infer.NoGoal) answer d = tt
 is_settled answers (Err (infer.InferencePrerequisites place)) answer d = tt
 is_settled answers (Err (infer.Macro place fault)) answer d = tt
-is_settled answers (Err (infer.Graph fault)) answer d = tt
+is_settled answers (Err (infer.Graph fault place)) answer d = tt
 
 module _ {A : Type 0} (reaches : SerialReachesEachOnce) (one_selection : inferring.SelectionIsOne) (judges : Subject → Result A Fault → Type 0) (one other : Result A Fault) (same : (x : Subject) → judges x one → judges x other → one ≡ other) where
   graph_one : (ready : Ready) (selected : Result value.Graph InferFault) → DrawsGraph (λ g answer. AnswersTold judges (subject_over ready g) answer) selected one

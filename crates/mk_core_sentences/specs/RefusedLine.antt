@@ -50,6 +50,8 @@ place_of_infer (infer.BadGoal place) = Some place
 place_of_infer (infer.GoalIsMember place) = Some place
 place_of_infer (infer.InferencePrerequisites place) = Some place
 place_of_infer (infer.Macro place fault) = Some place
+place_of_infer (infer.NoRule name place) = place
+place_of_infer (infer.Graph fault place) = place
 place_of_infer fault = None
 
 -- The place that a fault names, if it names one.

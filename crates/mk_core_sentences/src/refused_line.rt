@@ -92,7 +92,9 @@ fn place_of_infer(fault: &InferFault) -> Option<FileLine<'_>>
         InferFault::BadGoal(place)
         | InferFault::GoalIsMember(place)
         | InferFault::InferencePrerequisites(place)
-        | InferFault::Macro(place, _) => Some(line_of(place)),
+        | InferFault::Macro(place, _)
+        | InferFault::NoRule(_, Some(place))
+        | InferFault::Graph(_, Some(place)) => Some(line_of(place)),
         _ => None,
     }
 }

@@ -100,6 +100,12 @@ refusal_in form number name file first =
 abbrev pub refusal_with : Form → ℕ → List ℕ → List (List ℕ) → List ℕ
 refusal_with form number name words = refusal form number name None words
 
+-- A refusal with these words and with a place, if any, that is printed only in words.
+abbrev pub refusal_near : Form → ℕ → List ℕ → Option Place → List (List ℕ) → List ℕ
+refusal_near Numbered number name place words = refusal_with Numbered number name words
+refusal_near InWords number name place words =
+    refusal InWords number name (option_map place_text place) words
+
 -- The text of a fault of a text's lines (1 to 3).
 abbrev pub line_fault_text : Form → List ℕ → LineFault → List ℕ
 line_fault_text form file (line.NulByte first) = refusal_in form 1 (codes "NulByte") file first
@@ -157,22 +163,24 @@ read_fault_text form (read.NoMakefile name) =
     refusal_with form 37 (codes "NoMakefile") (option_to_list name)
 read_fault_text form read.Memory = no_memory
 
--- The text of a fault of a graph (42, 43).
-abbrev pub graph_fault_text : Form → GraphFault → List ℕ
-graph_fault_text form (graph.Cycle names) = refusal_with form 42 (codes "Cycle") names
-graph_fault_text form graph.TooManyNodes = refusal_with form 43 (codes "TooManyNodes") []
-graph_fault_text form graph.Memory = no_memory
+-- The text of a fault of a graph (42, 43), which has this place, if any.
+abbrev pub graph_fault_text : Form → Option Place → GraphFault → List ℕ
+graph_fault_text form place (graph.Cycle names) =
+    refusal_near form 42 (codes "Cycle") place names
+graph_fault_text form place graph.TooManyNodes = refusal_with form 43 (codes "TooManyNodes") []
+graph_fault_text form place graph.Memory = no_memory
 
 -- The text of a fault of goals, of their graph, or of commands (11 to 17, 27, 28, 41 to 45).
 unfoldable pub infer_fault_text : Form → InferFault → List ℕ
 infer_fault_text form (infer.BadGoal place) = refusal_at form 27 (codes "BadGoal") place
 infer_fault_text form (infer.GoalIsMember place) = refusal_at form 28 (codes "GoalIsMember") place
-infer_fault_text form (infer.NoRule name) = refusal_with form 41 (codes "NoRule") (name ∷ [])
+infer_fault_text form (infer.NoRule name place) =
+    refusal_near form 41 (codes "NoRule") place (name ∷ [])
 infer_fault_text form infer.NoGoal = refusal_with form 44 (codes "NoGoal") []
 infer_fault_text form (infer.InferencePrerequisites place) =
     refusal_at form 45 (codes "InferencePrerequisites") place
 infer_fault_text form (infer.Macro place fault) = macro_fault_text form place fault
-infer_fault_text form (infer.Graph fault) = graph_fault_text form fault
+infer_fault_text form (infer.Graph fault place) = graph_fault_text form place fault
 infer_fault_text form infer.Memory = no_memory
 
 -- The text of a fault of footprints (51 to 58).

@@ -4,7 +4,7 @@ ghost use Rattle.std.specs.Prelude.{◌≡◌, ◌++◌, [], map, IfOk, OnOk};
 ghost use Rattle.std.specs.Option.{option_map, unwrap_or};
 ghost use Rattle.std.specs.String.{string_bytes};
 ghost use Rattle.mk_explain.specs.Explain.{named_sentence};
-ghost use Rattle.mk_core_text.specs.FaultText.{in_words, no_memory, numbered, place_part, place_text, refusal, refusal_about, refusal_at, refusal_in, refusal_of, refusal_of_line, refusal_with, words_part, words_text};
+ghost use Rattle.mk_core_text.specs.FaultText.{in_words, no_memory, numbered, place_part, place_text, refusal, refusal_about, refusal_at, refusal_in, refusal_near, refusal_of, refusal_of_line, refusal_with, words_part, words_text};
 
 use mk_explain::named_sentence;
 use mk_lines::Name;
@@ -181,6 +181,27 @@ pub fn refusal_about(
     match form {
         Form::Numbered => refusal_at(alloc, form, number, name, place),
         Form::InWords => refusal_of(alloc, form, number, name, place, word),
+    }
+}
+
+/// A refusal with these words and with a place, if any, that is printed only in words.
+pub fn refusal_near(
+    alloc: Global,
+    form: Form,
+    number: usize,
+    name: &str,
+    place: &Option<Place>,
+    words: &[&[u8]],
+) -> Result<Vec<u8>, AllocError>
+    ensures { IfOk result (λ text. text.items ≡
+        refusal_near form number name.now place.now (map (λ word. word.now) words.now)) }
+{
+    match (form, place) {
+        (Form::InWords, Some(place)) => {
+            let place = place_text(alloc, place)?;
+            refusal(alloc, form, number, name, Some(place.as_str()), words)
+        }
+        _ => refusal_with(alloc, form, number, name, words),
     }
 }
 

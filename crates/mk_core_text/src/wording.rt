@@ -6,8 +6,8 @@ ghost use Rattle.mk_core_text.specs.FaultText.{certificate_fault_text, fault_tex
 
 use crate::fault::Fault;
 use crate::refusal::{
-    Form, no_memory, refusal_about, refusal_at, refusal_in, refusal_of, refusal_of_line,
-    refusal_with,
+    Form, no_memory, refusal_about, refusal_at, refusal_in, refusal_near, refusal_of,
+    refusal_of_line, refusal_with,
 };
 use mk_cert::CertFault;
 use mk_cert_text::CertTextFault;
@@ -157,14 +157,19 @@ fn read_fault_text(alloc: Global, form: Form, fault: &ReadFault) -> Result<Vec<u
     }
 }
 
-/// The text of a fault of a graph.
-fn graph_fault_text(alloc: Global, form: Form, fault: &GraphFault) -> Result<Vec<u8>, AllocError>
-    ensures { IfOk result (λ text. text.items ≡ graph_fault_text form fault.now) }
+/// The text of a fault of a graph, which has this place, if any.
+fn graph_fault_text(
+    alloc: Global,
+    form: Form,
+    place: &Option<Place>,
+    fault: &GraphFault,
+) -> Result<Vec<u8>, AllocError>
+    ensures { IfOk result (λ text. text.items ≡ graph_fault_text form place.now fault.now) }
 {
     match fault {
         GraphFault::Cycle(names) => {
             let words = spellings(alloc, names.as_slice())?;
-            refusal_with(alloc, form, 42, "Cycle", &words)
+            refusal_near(alloc, form, 42, "Cycle", place, &words)
         }
         GraphFault::TooManyNodes => refusal_with(alloc, form, 43, "TooManyNodes", &[]),
         GraphFault::Memory => no_memory(alloc),
@@ -179,15 +184,22 @@ fn infer_fault_text(alloc: Global, form: Form, fault: &InferFault) -> Result<Vec
     match fault {
         InferFault::BadGoal(place) => refusal_at(alloc, form, 27, "BadGoal", place),
         InferFault::GoalIsMember(place) => refusal_at(alloc, form, 28, "GoalIsMember", place),
-        InferFault::NoRule(name) => {
-            refusal_with(alloc, form, 41, "NoRule", &[name.as_str().as_bytes()])
+        InferFault::NoRule(name, place) => {
+            refusal_near(
+                alloc,
+                form,
+                41,
+                "NoRule",
+                place,
+                &[name.as_str().as_bytes()],
+            )
         }
         InferFault::NoGoal => refusal_with(alloc, form, 44, "NoGoal", &[]),
         InferFault::InferencePrerequisites(place) => {
             refusal_at(alloc, form, 45, "InferencePrerequisites", place)
         }
         InferFault::Macro(place, fault) => macro_fault_text(alloc, form, place, fault),
-        InferFault::Graph(fault) => graph_fault_text(alloc, form, fault),
+        InferFault::Graph(fault, place) => graph_fault_text(alloc, form, place, fault),
         InferFault::Memory => no_memory(alloc),
     }
 }

@@ -8,7 +8,8 @@ ghost use Rattle.mk_explain.specs.Texts.{graph_text};
 pub const NO_RULE: &str = "\
 `refused 41 NAME`: nothing makes NAME, which is a goal or a prerequisite, and
 it isn't given: by the footprints it is no source and under no fixed prefix,
-and it is no text of the makefile.
+and it is no text of the makefile. With `-w` the first rule line is shown that
+has NAME as a prerequisite.
 
     p: a.o
     \tcc -o p a.o
@@ -21,7 +22,8 @@ perhaps a goal is misspelled.
 /// `Cycle` (42).
 pub const CYCLE: &str = "\
 `refused 42 NAME...`: prerequisites form a cycle. The words are the names
-along it, the first one repeated last.
+along it, the first one repeated last. With `-w` the first rule line is shown
+that closes it.
 
     a: b c
     c: d

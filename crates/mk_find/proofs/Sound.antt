@@ -49,7 +49,7 @@ module _ (x : Subject) (is : IsGraph x.graph) (reaches : SerialReachesEachOnce) 
 -- what was selected is the graph of the names that were met
 selected_graph : (x : Subject) → IsSubject x → (all : List (List ℕ)) × (x.graph ≡ graph_of x.makefile x.there (map (name_of x) x.graph.goals) all)
 selected_graph x is = (is.selected.0, from (lacking x.makefile x.there is.selected.0) is.selected.2) where
-  from : (o : Option (List ℕ)) → BuiltUnless o (graph_of x.makefile x.there (map (name_of x) x.graph.goals) is.selected.0) (Ok x.graph) → x.graph ≡ graph_of x.makefile x.there (map (name_of x) x.graph.goals) is.selected.0
+  from : (o : Option (List ℕ)) → BuiltUnless x.makefile o (graph_of x.makefile x.there (map (name_of x) x.graph.goals) is.selected.0) (Ok x.graph) → x.graph ≡ graph_of x.makefile x.there (map (name_of x) x.graph.goals) is.selected.0
   from None built = built.3
   from (Some name) answer = absurd (cc)
 

@@ -6,6 +6,7 @@ pub mod There
 pub mod Targets
 pub mod Inference
 pub mod Walk
+pub mod Needed
 pub mod Selection
 pub mod Commands
 pub mod Goals

@@ -14,6 +14,7 @@ use Rattle.mk_lines.specs.Names.{number_of}
 use Rattle.mk_infer.specs.Targets.{is_target, words_for, prerequisites_of, have_text}
 use Rattle.mk_infer.specs.There.{Exists, is_given}
 use Rattle.mk_infer.specs.Inference.{choice, chosen_commands}
+use Rattle.mk_infer.specs.Needed.{needing_place, place_of_graph}
 use Rattle.mk_infer.specs.Walk.{Meets}
 
 -- the prerequisites of a name, the inferred one first
@@ -63,16 +64,17 @@ abbrev pub lacking : Makefile → Exists → List (List ℕ) → Option (List �
 lacking m e all = find (is_lacking m e) (take max_nodes all)
 
 -- the graph is built, or refused with a fault other than `Memory`
-abbrev pub Built : Graph → Result Graph InferFault → Type 0
-Built handed (Ok g) = Builds handed (Ok g)
-Built handed (Err (Refused graph.Memory)) = ⊥
-Built handed (Err (Refused fault)) = Builds handed (Err fault)
-Built handed (Err fault) = ⊥
+abbrev pub Built : Makefile → Graph → Result Graph InferFault → Type 0
+Built m handed (Ok g) = Builds handed (Ok g)
+Built m handed (Err (Refused graph.Memory place)) = ⊥
+Built m handed (Err (Refused fault place)) =
+    Builds handed (Err fault) × (place ≡ place_of_graph m fault)
+Built m handed (Err fault) = ⊥
 
 -- `NoRule` (41) if nothing makes a name, else the graph is built or refused
-abbrev pub BuiltUnless : Option (List ℕ) → Graph → Result Graph InferFault → Type 0
-BuiltUnless (Some name) handed answer = answer ≡ Err (NoRule name)
-BuiltUnless None handed answer = Built handed answer
+abbrev pub BuiltUnless : Makefile → Option (List ℕ) → Graph → Result Graph InferFault → Type 0
+BuiltUnless m (Some name) handed answer = answer ≡ Err (NoRule name (needing_place m name))
+BuiltUnless m None handed answer = Built m handed answer
 
 -- The answer for the goals is the graph of the names that a walk from them visits, or its first
 -- fault; or it is `Memory`, of which nothing is said.
@@ -80,4 +82,4 @@ abbrev pub Selects : Makefile → Exists → List (List ℕ) → Result Graph In
 Selects m e goals (Err Memory) = Unit {0}
 Selects m e goals answer =
     (all : List (List ℕ)) × Meets (needs m e) [] goals all ×
-    BuiltUnless (lacking m e all) (graph_of m e goals all) answer
+    BuiltUnless m (lacking m e all) (graph_of m e goals all) answer

@@ -5,6 +5,8 @@ use Rattle.mk_graph.specs.declared.fault.GraphFault.TheVariants as graph
 use Rattle.mk_macros.specs.declared.fault.MacroFault.{MacroFault}
 use Rattle.mk_macros.specs.declared.fault.MacroFault.TheVariants as macro
 use Rattle.mk_read.specs.declared.fault.Place.{Place}
+use Rattle.mk_read.specs.Reading.{Makefile}
+use Rattle.mk_infer.specs.Needed.{place_of_graph}
 use Rattle.mk_infer.specs.declared.fault.InferFault.{InferFault}
 use Rattle.mk_infer.specs.declared.fault.InferFault.TheVariants.{Macro, Graph, Memory}
 pub use Rattle.mk_lines.specs.Results.{◌>>=◌}
@@ -14,7 +16,7 @@ use Rattle.mk_lines.specs.Results as results
 abbrev pub is_out_of_memory : InferFault → Bool
 is_out_of_memory Memory = true
 is_out_of_memory (Macro place macro.Memory) = true
-is_out_of_memory (Graph graph.Memory) = true
+is_out_of_memory (Graph graph.Memory place) = true
 is_out_of_memory fault = false
 
 -- a fault of a macro becomes one at this place
@@ -22,10 +24,10 @@ abbrev pub at_place : {A : Type 0} → Place → Result A MacroFault → Result 
 at_place place (Ok x) = Ok x
 at_place place (Err fault) = Err (Macro place fault)
 
--- a fault of a graph becomes one of goals; out of memory stays `Memory`
-abbrev pub of_graph : GraphFault → InferFault
-of_graph graph.Memory = Memory
-of_graph fault = Graph fault
+-- a fault of the graph of this makefile becomes one of goals; out of memory stays `Memory`
+abbrev pub of_graph : Makefile → GraphFault → InferFault
+of_graph m graph.Memory = Memory
+of_graph m fault = Graph fault (place_of_graph m fault)
 
 -- the fault is the defined one, or out of memory
 abbrev pub Fails : {Y : Type 0} → InferFault → Result Y InferFault → Type 0

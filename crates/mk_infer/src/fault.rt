@@ -1,7 +1,7 @@
 //! Faults of goals, of the graph, and of the commands of names.
 
 ghost use Rattle.std.specs.Prelude.{◌≡◌};
-ghost use Rattle.mk_infer.specs.Steps.{is_out_of_memory, of_graph};
+ghost use Rattle.mk_infer.specs.Steps.{is_out_of_memory};
 ghost use Rattle.mk_infer.specs.declared.fault.InferFault.TheVariants.{Memory};
 
 use mk_graph::GraphFault;
@@ -22,9 +22,9 @@ pub enum InferFault {
     #[error("a goal is an archive member")]
     GoalIsMember(Place),
     /// Nothing makes this name (41): it is no target, has no inference rule, isn't phony and isn't
-    /// given.
+    /// given. The place is that of the first rule line that has it as a prerequisite, if one has.
     #[error("no rule for a name that isn't given")]
-    NoRule(Name),
+    NoRule(Name, Option<Place>),
     /// No goal was given, and the makefile has no target that can be the default goal (44).
     #[error("no goal")]
     NoGoal,
@@ -34,9 +34,11 @@ pub enum InferFault {
     /// The command at this place can't be expanded (11 to 17). The inner fault is never `Memory`.
     #[error("a command can't be expanded")]
     Macro(Place, MacroFault),
-    /// The nodes are no graph (42, 43). The inner fault is never `Memory`.
-    #[error(transparent)]
-    Graph(GraphFault),
+    /// The nodes are no graph (42, 43). The inner fault is never `Memory`. Of a cycle the place is
+    /// that of the first rule line that closes it, if one does: its last name but one is a target
+    /// there, and its last name a prerequisite.
+    #[error("{0}")]
+    Graph(GraphFault, Option<Place>),
     /// Out of memory. Any call may return it.
     #[error("out of memory")]
     Memory,
@@ -51,19 +53,8 @@ impl InferFault {
             self,
             InferFault::Memory
                 | InferFault::Macro(_, MacroFault::Memory)
-                | InferFault::Graph(GraphFault::Memory)
+                | InferFault::Graph(GraphFault::Memory, _)
         )
-    }
-}
-
-impl From<GraphFault> for InferFault {
-    ghost from_gives = { λ g e. e ≡ of_graph g };
-
-    fn from(fault: GraphFault) -> InferFault {
-        match fault {
-            GraphFault::Memory => InferFault::Memory,
-            fault => InferFault::Graph(fault),
-        }
     }
 }
 

@@ -15,6 +15,7 @@ use Rattle.mk_infer.specs.declared.fault.InferFault.{InferFault}
 use Rattle.mk_infer.specs.declared.fault.InferFault.TheVariants.{NoRule, Graph as Refused}
 use Rattle.mk_infer.specs.Ends.{needing, weight}
 use Rattle.mk_infer.specs.Laws.{HandedGraphIsSound, IsSettled, NewNamesLeaveLess, SelectionExists, WalkExists, WalkGoesOn}
+use Rattle.mk_infer.specs.Needed.{closing_place, needing_place}
 use Rattle.mk_infer.specs.Selection.{BuiltUnless, Selects, graph_of, lacking, needs}
 use Rattle.mk_infer.specs.There.{Exists}
 use Rattle.mk_infer.specs.Walk.{Meets}
@@ -67,25 +68,25 @@ module _ (an_end : WalkHasAnEnd) (keeps : GroupsKeepTheirWords) (m : Makefile) (
   Answered = (answer : Result Graph InferFault) × IsSettled answer × Selects m e goals answer
 
   module _ (none : lacking m e all ≡ None) where
-    unless : (answer : Result Graph InferFault) → BuiltUnless None handed answer → BuiltUnless (lacking m e all) handed answer
-    unless answer b = subst (λ (first : Option Name). BuiltUnless first handed answer) (sym none) b
+    unless : (answer : Result Graph InferFault) → BuiltUnless m None handed answer → BuiltUnless m (lacking m e all) handed answer
+    unless answer b = subst (λ (first : Option Name). BuiltUnless m first handed answer) (sym none) b
 
     by_end : length handed.nodes ≤ 4096 → (end : WalkEnd) → WalksAll handed end → Answered
     by_end le (Through finished) walks = (Ok handed, tt, (all, walk, unless (Ok handed) (le, finished, walks, refl)))
     by_end le (Closes path) walks =
         let names : List Name = map (λ n. (node handed n).name) path in
-        (Err (Refused (graph.Cycle names)), tt, (all, walk, unless (Err (Refused (graph.Cycle names))) (le, path, walks, refl)))
+        (Err (Refused (graph.Cycle names) (closing_place m names)), tt, (all, walk, unless (Err (Refused (graph.Cycle names) (closing_place m names))) ((le, path, walks, refl), refl)))
 
     by_count : Answered
     by_count =
         elim (cases_lt 4096 (length handed.nodes)) [
-          | inl lt ↦ (Err (Refused graph.TooManyNodes), tt, (all, walk, unless (Err (Refused graph.TooManyNodes)) lt))
+          | inl lt ↦ (Err (Refused graph.TooManyNodes None), tt, (all, walk, unless (Err (Refused graph.TooManyNodes None)) (lt, refl)))
           | inr le ↦ (let end = an_end handed (is_sound keeps m e goals all walk) in by_end le end.0 end.1)
         ]
 
   by_lacking : (first : Option Name) → lacking m e all ≡ first → Answered
   by_lacking None none = by_count none
-  by_lacking (Some name) same = (Err (NoRule name), tt, (all, walk, subst (λ (o : Option Name). BuiltUnless o handed (Err (NoRule name))) (sym same) refl))
+  by_lacking (Some name) same = (Err (NoRule name (needing_place m name)), tt, (all, walk, subst (λ (o : Option Name). BuiltUnless m o handed (Err (NoRule name (needing_place m name)))) (sym same) refl))
 
   pub answered : Answered
   answered = by_lacking (lacking m e all) refl

@@ -186,6 +186,6 @@ nodes_have_plain_names m e goals g plain named selected =
     let each = goes_along (needs m e) IsPlain (λ n w h k needed. needs_plain m e plain n w needed) (of_tree selected.1) (λ n h. absurd h) (λ n h. list_all-Has is_plain_path goals n named h) in
     subst (λ (h : Graph). list_all (λ (n : Node). is_plain_path n.name) h.nodes ≡ true) (at (lacking m e all) selected.2) (all_plain m e plain all all each)
   where
-    at : (o : Option (List ℕ)) → BuiltUnless o (graph_of m e goals selected.0) (Ok g) → graph_of m e goals selected.0 ≡ g
+    at : (o : Option (List ℕ)) → BuiltUnless m o (graph_of m e goals selected.0) (Ok g) → graph_of m e goals selected.0 ≡ g
     at (Some name) b = absurd cc
     at None b = let same = b.3 in cc

@@ -76,7 +76,7 @@ record IsBuilt (m : Makefile) (e : Exists) (goals : List Name) (g : Graph) : Typ
 built : (m : Makefile) (e : Exists) (goals : List Name) (g : Graph) → Selects m e goals (Ok g) → IsBuilt m e goals g
 built m e goals g (names, w, b) = by (lacking m e names) refl b
   where
-    by : (first : Option Name) → lacking m e names ≡ first → BuiltUnless first (graph_of m e goals names) (Ok g) → IsBuilt m e goals g
+    by : (first : Option Name) → lacking m e names ≡ first → BuiltUnless m first (graph_of m e goals names) (Ok g) → IsBuilt m e goals g
     by (Some name) is k = absurd cc
     by None is (le, done, walks, its) = record { all = names; walk = w; none = is; few = le; finished = done; through = walks; same = its }
 
@@ -214,7 +214,7 @@ module _ (an_end : WalkHasAnEnd) (closes : ClosesOnlyCycles) (comes : ComesThrou
   small_selected =
       let end = an_end small (is_sound keeps m e some met going) in
       let done = comes_through end.0 end.1 in
-      (met, going, subst (λ (first : Option Name). BuiltUnless first small (Ok small)) (sym none_lacks) (few_nodes, done.0, done.1, refl))
+      (met, going, subst (λ (first : Option Name). BuiltUnless m first small (Ok small)) (sym none_lacks) (few_nodes, done.0, done.1, refl))
 
   -- a node of the small graph is one of the large one
   is_part : IsPartOf small large

@@ -193,23 +193,23 @@ module _ (m : Makefile) (e : Exists) (one other : List Name) where
     meets_same : Meets (needs m first) [] goals all → Meets (needs m second) [] goals all
     meets_same w = meets_by (needs m first) (needs m second) goals all (λ name h. same_needs name (same name h)) w
 
-    built_same : (answer : Result Graph InferFault) → BuiltUnless (lacking m first all) (graph_of m first goals all) answer → BuiltUnless (lacking m second all) (graph_of m second goals all) answer
-    built_same answer b = subst (λ (g : Graph). BuiltUnless (lacking m second all) g answer) graph_same (subst (λ (o : Option Name). BuiltUnless o (graph_of m first goals all) answer) lacking_same b)
+    built_same : (answer : Result Graph InferFault) → BuiltUnless m (lacking m first all) (graph_of m first goals all) answer → BuiltUnless m (lacking m second all) (graph_of m second goals all) answer
+    built_same answer b = subst (λ (g : Graph). BuiltUnless m (lacking m second all) g answer) graph_same (subst (λ (o : Option Name). BuiltUnless m o (graph_of m first goals all) answer) lacking_same b)
 
   module _ (goals : List Name) (same : (all : List Name) → Meets (needs m first) [] goals all → (name : Name) → Has all name → IsSame name) where
     -- what becomes of the goals by the one becomes of them by the other
     abbrev Walked : Exists → Result Graph InferFault → Type 0
-    Walked by answer = (all : List Name) × Meets (needs m by) [] goals all × BuiltUnless (lacking m by all) (graph_of m by goals all) answer
+    Walked by answer = (all : List Name) × Meets (needs m by) [] goals all × BuiltUnless m (lacking m by all) (graph_of m by goals all) answer
 
     moved : (answer : Result Graph InferFault) → Walked first answer → Walked second answer
     moved answer (all, w, b) = (all, meets_same goals all (same all w) w, built_same goals all (same all w) answer b)
 
     pub selects_same : (answer : Result Graph InferFault) → Selects m first goals answer → Selects m second goals answer
     selects_same (Ok g) s = moved (Ok g) s
-    selects_same (Err (Refused fault)) s = moved (Err (Refused fault)) s
+    selects_same (Err (Refused fault place)) s = moved (Err (Refused fault place)) s
     selects_same (Err (BadGoal place)) s = moved (Err (BadGoal place)) s
     selects_same (Err (GoalIsMember place)) s = moved (Err (GoalIsMember place)) s
-    selects_same (Err (NoRule name)) s = moved (Err (NoRule name)) s
+    selects_same (Err (NoRule name place)) s = moved (Err (NoRule name place)) s
     selects_same (Err NoGoal) s = moved (Err NoGoal) s
     selects_same (Err (InferencePrerequisites place)) s = moved (Err (InferencePrerequisites place)) s
     selects_same (Err (Macro place fault)) s = moved (Err (Macro place fault)) s

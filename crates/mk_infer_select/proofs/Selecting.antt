@@ -13,6 +13,7 @@ use Rattle.mk_infer.specs.declared.fault.InferFault.{InferFault}
 use Rattle.mk_infer.specs.declared.fault.InferFault.TheVariants.{Graph as Refused, NoRule}
 use Rattle.mk_lines.specs.Names.{number_of}
 use Rattle.mk_infer.specs.Laws.{HandedGraphIsSound}
+use Rattle.mk_infer.specs.Needed.{closing_place, needing_place}
 use Rattle.mk_infer.specs.Selection.{Built, BuiltUnless, Selects, graph_of, lacking, node_of}
 use Rattle.mk_infer.specs.Steps.{of_graph}
 use Rattle.mk_infer_select.specs.Walked.{IsWalked, VisitedName, Walked, lacks, node_with}
@@ -29,22 +30,22 @@ handed m goals walked = record { nodes = map (node_with m walked.names) walked.m
 
 module _ (m : Makefile) (e : Exists) (goals : List (List ℕ)) (walked : Walked) (w : IsWalked m e goals walked) where
   -- a name lacks a rule
-  pub one_lacks : (name : List ℕ) → first_of m e walked.met ≡ Some name → Selects m e goals (Err (NoRule name))
+  pub one_lacks : (name : List ℕ) → first_of m e walked.met ≡ Some name → Selects m e goals (Err (NoRule name (needing_place m name)))
   one_lacks name is =
       let first : lacking m e w.all ≡ Some name = sym (lacking_kept m e w.all walked.met w.made) ∙ is in
-      (w.all, w.walk, subst (λ (o : Option (List ℕ)). BuiltUnless o (graph_of m e goals w.all) (Err (NoRule name))) (sym first) refl)
+      (w.all, w.walk, subst (λ (o : Option (List ℕ)). BuiltUnless m o (graph_of m e goals w.all) (Err (NoRule name (needing_place m name)))) (sym first) refl)
 
   module _ (none : first_of m e walked.met ≡ None) where
-    pub unless : (answer : Result Graph InferFault) → Built (graph_of m e goals w.all) answer → BuiltUnless (lacking m e w.all) (graph_of m e goals w.all) answer
-    unless answer b = subst (λ (first : Option (List ℕ)). BuiltUnless first (graph_of m e goals w.all) answer) (sym (sym (lacking_kept m e w.all walked.met w.made) ∙ none)) b
+    pub unless : (answer : Result Graph InferFault) → Built m (graph_of m e goals w.all) answer → BuiltUnless m (lacking m e w.all) (graph_of m e goals w.all) answer
+    unless answer b = subst (λ (first : Option (List ℕ)). BuiltUnless m first (graph_of m e goals w.all) answer) (sym (sym (lacking_kept m e w.all walked.met w.made) ∙ none)) b
 
     -- more names than a graph may have nodes
-    pub too_many_met : 4096 < length walked.names → Selects m e goals (Err (Refused graph.TooManyNodes))
+    pub too_many_met : 4096 < length walked.names → Selects m e goals (Err (Refused graph.TooManyNodes None))
     too_many_met lt =
         let front : length walked.names ≡ length (take 4097 w.all) = ap length w.front in
         let counted = length-take 4097 w.all in
         let more : 4096 < length w.all = omega arith in
-        (w.all, w.walk, unless (Err (Refused graph.TooManyNodes)) (subst (λ n. 4096 < n) (sym (length-map w.all (node_of m e w.all))) more))
+        (w.all, w.walk, unless (Err (Refused graph.TooManyNodes None)) (subst (λ n. 4096 < n) (sym (length-map w.all (node_of m e w.all))) more, refl))
 
     module _ (few : length walked.names ≤ 4096) where
       -- what is handed in is the graph of all names
@@ -63,7 +64,7 @@ module _ (m : Makefile) (e : Exists) (goals : List (List ℕ)) (walked : Walked)
       built_ok g b = (w.all, w.walk, unless (Ok g) (subst (λ h. Builds h (Ok g)) same_graph b))
 
       -- why there is no graph
-      pub built_err : (fault : GraphFault) → Builds (handed m goals walked) (Err fault) → Selects m e goals (Err (of_graph fault))
+      pub built_err : (fault : GraphFault) → Builds (handed m goals walked) (Err fault) → Selects m e goals (Err (of_graph m fault))
       built_err graph.Memory b = tt
-      built_err graph.TooManyNodes b = (w.all, w.walk, unless (Err (Refused graph.TooManyNodes)) (subst (λ h. Builds h (Err graph.TooManyNodes)) same_graph b))
-      built_err (graph.Cycle names) b = (w.all, w.walk, unless (Err (Refused (graph.Cycle names))) (subst (λ h. Builds h (Err (graph.Cycle names))) same_graph b))
+      built_err graph.TooManyNodes b = (w.all, w.walk, unless (Err (Refused graph.TooManyNodes None)) (subst (λ h. Builds h (Err graph.TooManyNodes)) same_graph b, refl))
+      built_err (graph.Cycle names) b = (w.all, w.walk, unless (Err (Refused (graph.Cycle names) (closing_place m names))) (subst (λ h. Builds h (Err (graph.Cycle names))) same_graph b, refl))

@@ -3,6 +3,7 @@
 
 mod goals;
 mod groups;
+mod needed;
 mod selection;
 mod walk;
 

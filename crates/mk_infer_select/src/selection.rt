@@ -8,6 +8,7 @@ ghost use Rattle.mk_infer.specs.Targets.{have_text};
 
 use crate::goals::Goals;
 use crate::groups::{groups_with, numbers};
+use crate::needed::{no_rule, refused};
 use crate::walk::{VisitedName, Walked, walk_from};
 use mk_graph::{Graph, GraphFault, MAX_NODES, Node};
 use mk_infer::{Choices, InferFault};
@@ -108,14 +109,17 @@ fn of_walk<'m>(
 {
     handed_graph_is_sound();
     if let Some(name) = first_lacking(choices, &walked.met) {
-        return Err(InferFault::NoRule(Name::new(alloc, name)?));
+        return Err(no_rule(alloc, choices.table(), name)?);
     }
     if walked.names.as_slice().len() > MAX_NODES {
-        return Err(InferFault::Graph(GraphFault::TooManyNodes));
+        return Err(InferFault::Graph(GraphFault::TooManyNodes, None));
     }
     let nodes = nodes_of(alloc, choices, &walked.names, &walked.met)?;
     let goals = numbers(alloc, &walked.names, goals)?;
-    Ok(Graph::build(alloc, nodes, goals)?)
+    match Graph::build(alloc, nodes, goals) {
+        Ok(graph) => Ok(graph),
+        Err(fault) => Err(refused(alloc, choices.table(), fault)),
+    }
 }
 
 /// Returns the graph of the names that the goals reach, with the inference rules that are chosen,

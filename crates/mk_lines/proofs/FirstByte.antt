@@ -1,12 +1,14 @@
 -- What stands before and after the first byte that a search finds.
 use Rattle.std.proofs.Common.{◌≡◌, ℕ, ◌+◌, ◌-◌, ◌<◌, Bool, false, eqb, List, [], ◌∷◌, ◌++◌, length, get_or, take, drop, refl, sym, ap, ◌∙◌, arith, zero-le}
-use Rattle.std.specs.List.{slice_split, position_or_len, All}
+use Rattle.std.specs.Prelude.{Option, None, Some, is_some}
+use Rattle.std.specs.List.{list_any, slice_split, position_or_len, All}
 use Rattle.std.proofs.lemmas.Bool.{false_from_ne_true, eqb-true}
 use Rattle.std.proofs.lemmas.List.{take_rest, take-append-drop, at_drop_more, length-take, get_or-take}
 use Rattle.std.proofs.lemmas.List.Sums.{position_or_len_is}
 use Rattle.std.proofs.lemmas.List.Splits.{slice_split_first, slice_split_none}
 use Rattle.std.proofs.lemmas.List.Elements.{All-from_get_or}
-use Rattle.bstr.specs.Find.{Nowhere, NoneBefore, Passes}
+use Rattle.std.proofs.lemmas.List.Folds.{list_any_at, list_any_none}
+use Rattle.bstr.specs.Find.{IsFirstByte, Nowhere, NoneBefore, Passes}
 
 -- where a byte is found
 pub found_at : (p : ℕ → Bool) (xs : List ℕ) (i : ℕ) → NoneBefore (Passes p xs) 0 (length xs) i × Passes p xs i → position_or_len p xs ≡ i
@@ -43,3 +45,8 @@ round_byte c xs i h =
     let low : i < length xs = h.0.high in
     let here : get_or xs i 0 ≡ c = eqb-true (get_or xs i 0) c h.1 in
     sym (take-append-drop i xs) ∙ ap (λ rest. take i xs ++ rest) (at_drop_more (λ rest. rest) xs i 0 low ∙ (ap (λ b. b ∷ drop (i + 1) xs) here ∙ ap (λ rest. c ∷ rest) (sym (take_rest xs (i + 1)))))
+
+-- whether one is found is whether there is one
+pub found_some : (p : ℕ → Bool) (xs : List ℕ) (o : Option ℕ) → IsFirstByte p xs o → is_some o ≡ list_any p xs
+found_some p xs None h = sym (list_any_none p xs (clean_all p xs h))
+found_some p xs (Some i) h = sym (list_any_at p xs i 0 h.0.high h.1)

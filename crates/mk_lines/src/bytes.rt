@@ -2,7 +2,7 @@
 
 ghost use Rattle.std.specs.Prelude.{◌≡◌, ◌∷◌, ◌<◌, ◌++◌, false, length, drop, IfSome, MatchOption};
 ghost use Rattle.std.specs.Option.{option_map};
-ghost use Rattle.std.specs.List.{slice_split, prefix_len, All};
+ghost use Rattle.std.specs.List.{slice_split, list_any, prefix_len, All};
 ghost use Rattle.mk_lines.specs.Bytes.{is_byte, is_blank, is_blank_alone, trimmed, parts_left};
 
 use bstr::ByteSlice;
@@ -20,6 +20,13 @@ pub fn cut(text: &[u8], separator: u8) -> (&[u8], Option<&[u8]>)
         Some(at) => (&text[..at], Some(&text[at + 1..])),
         None => (text, None),
     }
+}
+
+/// Whether a text has this byte.
+pub fn has_byte(text: &[u8], byte: u8) -> bool
+    ensures { result ≡ list_any (is_byte byte) text.now }
+{
+    text.find_byte(byte).is_some()
 }
 
 /// Whether a byte is a blank: a space or a tab (the standard's `make`, "Makefile Syntax").

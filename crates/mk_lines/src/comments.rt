@@ -5,6 +5,7 @@ ghost use Rattle.std.specs.Cow.{cow_slice_items};
 ghost use Rattle.mk_lines.specs.Borrowed.{is_borrowed};
 ghost use Rattle.mk_lines.specs.Comments.{begins_with_hash, unchanged_from, comment_at, unescaped, has_escaped_hash, before_comment, uncomment};
 
+use crate::bytes::has_byte;
 use crate::references::first_outside;
 use crate::rule_lines::is_rule_line;
 use std::alloc::{AllocError, Global};
@@ -83,7 +84,7 @@ pub fn uncomment<'a>(alloc: Global, text: &'a [u8]) -> Result<CowSlice<'a, u8>, 
         is_borrowed line ≡ true) }
 {
     // Most lines hold no `#`, so their references needn't be parsed.
-    if !text.contains(&b'#') {
+    if !has_byte(text, b'#') {
         return Ok(CowSlice::Borrowed(text));
     }
     let (read, spared) = text.split_at(unchanged_from(alloc, text)?);

@@ -9,7 +9,7 @@ ghost use Rattle.mk_lines.specs.Lines.{is_command, joined, line_fault, unless, l
 ghost use Rattle.mk_lines.specs.Results.{Gives};
 ghost use Rattle.mk_lines.specs.Views.{borrows_text, is_single_line, line_view};
 
-use crate::bytes::is_blank_alone;
+use crate::bytes::{has_byte, is_blank_alone};
 use crate::fault::LineFault;
 use crate::joins::{joined, without_tab};
 use crate::runs::take_run;
@@ -60,7 +60,7 @@ fn line_from(alloc: Global, first: usize, run: &[u8]) -> Result<Line<'_>, AllocE
 fn check_line(before: usize, line: &Line) -> Result<(), LineFault>
     ensures exact { result ≡ unless (line_fault before (line_view line.now)) tt }
 {
-    if line.text.contains(&0) {
+    if has_byte(&line.text, 0) {
         return Err(LineFault::NulByte(line.first));
     }
     if line.text.len() > MAX_LINE {

@@ -4,6 +4,7 @@ ghost use Rattle.std.specs.Prelude.{◌≡◌, ◌<◌, ◌==◌, length, IfOk, 
 ghost use Rattle.mk_lines.specs.References.{closed, next_place, first_outside, is_one_of};
 ghost use Rattle.mk_lines.specs.Views.{reference_state_view};
 
+use crate::bytes::has_byte;
 use bstr::ByteSlice;
 use std::alloc::{AllocError, Global};
 
@@ -62,7 +63,7 @@ pub fn first_outside(alloc: Global, wanted: &[u8], text: &[u8]) -> Result<Option
     ensures within { IfOk result (λ at. IfSome at (λ k. k < length text.now)) }
 {
     // Most texts have no reference.
-    if !text.contains(&b'$') {
+    if !has_byte(text, b'$') {
         return Ok(text.find_byteset(wanted));
     }
     let mut place = ReferenceState {

@@ -1,3 +1,4 @@
+mod WordByWord
 pub mod Cuts
 pub mod FormLists
 pub mod InOrder

@@ -1,8 +1,10 @@
 -- Where bytes stand, and what texts begin and end with.
-use Rattle.std.proofs.Common.{◌≡◌, ℕ, suc, ◌+◌, ◌-◌, ◌<◌, Bool, true, false, not, ◌&&◌, ◌||◌, cond, ltb, leb, List, [], ◌∷◌, length, take, drop, Option, Some, None, refl, sym, ap, ◌∙◌, subst, arith}
+use Rattle.std.proofs.Common.{◌≡◌, ℕ, suc, ◌+◌, ◌-◌, ◌<◌, Bool, true, false, not, ◌&&◌, ◌||◌, cond, ltb, leb, List, [], ◌∷◌, length, take, drop, Option, Some, None, refl, sym, ap, ◌∙◌, subst, arith, zero-le}
 use Rattle.std.specs.List.{position_or_len, before_first, after_first, list_any}
 use Rattle.std.proofs.lemmas.List.{take_all, drop_all, length-drop}
+use Rattle.std.proofs.lemmas.List.Sums.{position_or_len_is}
 use Rattle.std.specs.Str.{bytes_eq}
+use Rattle.memchr.specs.Find.{IsFirstByte}
 use Rattle.std.proofs.lemmas.Bool.{ltb-false, leb-false, false_from_ne_true}
 use Rattle.std.proofs.lemmas.Option.{cond_some}
 use Rattle.std.proofs.lemmas.Slice.Eq.{bytes_eq-Decides}
@@ -10,17 +12,13 @@ use Rattle.mk_lemmas.proofs.Texts.{bytes_eq-sym}
 use Rattle.mk_lemmas.proofs.Lists.{position_or_len-within}
 use Rattle.mk_macros.specs.Substitution.{ends_with}
 
--- what a search answers, where it finds a place
-pub place_found : {A : Type 0} (p : A → Bool) (xs : List A) (r : Option ℕ) (at : ℕ) → r ≡ cond (ltb (position_or_len p xs) (length xs)) (Some (position_or_len p xs)) None → r ≡ Some at → at ≡ position_or_len p xs
-place_found p xs r at e is = sym (cond_some (ltb (position_or_len p xs) (length xs)) (position_or_len p xs) at (sym e ∙ is)).1
+-- the first byte that passes, as a search finds it
+pub found_at : (p : ℕ → Bool) (text : List ℕ) (at : ℕ) → IsFirstByte p text (Some at) → at ≡ position_or_len p text
+found_at p text at h = sym (position_or_len_is p text at 0 (omega (arith, h.0.high)) (λ k lt. false_from_ne_true _ (h.0.before k zero-le lt)) (λ lt. h.1))
 
 -- and where it finds none
-pub place_missing : {A : Type 0} (p : A → Bool) (xs : List A) (r : Option ℕ) → r ≡ cond (ltb (position_or_len p xs) (length xs)) (Some (position_or_len p xs)) None → r ≡ None → length xs ≡ position_or_len p xs
-place_missing p xs r e is = not_below (ltb (position_or_len p xs) (length xs)) refl (sym e ∙ is)
-  where
-    not_below : (b : Bool) → ltb (position_or_len p xs) (length xs) ≡ b → cond b (Some (position_or_len p xs)) None ≡ None → length xs ≡ position_or_len p xs
-    not_below true t h = absurd cc
-    not_below false t h = omega (arith, ltb-false _ _ t, position_or_len-within p xs)
+pub found_nowhere : (p : ℕ → Bool) (text : List ℕ) → IsFirstByte p text None → length text ≡ position_or_len p text
+found_nowhere p text h = sym (position_or_len_is p text (length text) 0 (omega arith) (λ k lt. false_from_ne_true _ (h k zero-le lt)) (λ lt. absurd (omega arith)))
 
 -- a text of std's test ends so
 pub ends_as : (back text : List ℕ) → bytes_eq back (drop (length text - length back) text) ≡ ends_with back text

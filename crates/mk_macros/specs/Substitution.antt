@@ -1,10 +1,10 @@
 -- `$(N:s1=s2)`: the words of a value, each with its end replaced, or replaced by a pattern with
 -- `%`.
-use Rattle.std.specs.Prelude.{ℕ, ◌+◌, ◌-◌, Bool, ◌&&◌, List, ◌++◌, length, map, take, drop, nat_le, if◌then◌else◌}
+use Rattle.std.specs.Prelude.{ℕ, ◌+◌, ◌-◌, Bool, ◌&&◌, List, [], ◌∷◌, ◌++◌, length, map, take, drop, nat_le, if◌then◌else◌}
 use Rattle.std.specs.List.{list_any, before_first, after_first, join_with_byte}
 use Rattle.std.specs.Str.{bytes_eq}
 use Rattle.mk_lines.specs.Bytes.{is_byte, begins_with}
-use Rattle.mk_lines.specs.Words.{words}
+use Rattle.mk_lines.specs.Words.{is_word, words}
 
 -- The byte is `%`.
 abbrev pub is_percent : ℕ → Bool
@@ -53,3 +53,9 @@ replaced old new word =
 -- The words of a value, each replaced or unchanged, separated by one space.
 unfoldable pub substituted : List ℕ → List ℕ → List ℕ → List ℕ
 substituted old new value = join_with_byte 32 (map (replaced old new) (words value))
+
+-- What a part of a value between blanks becomes: nothing where it is empty, else its word, after a
+-- space where it isn't the first.
+abbrev pub part_text : (is_first : Bool) → (List ℕ → List ℕ) → List ℕ → List ℕ
+part_text is_first replaced part =
+    if is_word part then (if is_first then replaced part else 32 ∷ replaced part) else []

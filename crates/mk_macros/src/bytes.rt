@@ -2,16 +2,28 @@
 
 ghost use Rattle.std.specs.Prelude.{◌≡◌, ◌≤◌, length};
 ghost use Rattle.std.specs.List.{position_or_len};
-ghost use Rattle.mk_lines.specs.Bytes.{is_byte};
-ghost use Rattle.mk_lines.specs.Bytes.{begins_with};
+ghost use Rattle.mk_lines.specs.Bytes.{begins_with, is_blank, is_byte};
 ghost use Rattle.mk_macros.specs.Substitution.{ends_with};
+
+use memchr::{memchr, memchr2};
 
 /// The position of the first such byte, or the text's length where it has none.
 pub fn first_place(byte: u8, text: &[u8]) -> usize
     ensures within { result ≤ length text.now }
     ensures place { result ≡ position_or_len (is_byte byte) text.now }
 {
-    match text.iter().position(|b| *b == byte) {
+    match memchr(byte, text) {
+        Some(at) => at,
+        None => text.len(),
+    }
+}
+
+/// The position of the first blank, or the text's length where it has none.
+pub fn first_blank(text: &[u8]) -> usize
+    ensures within { result ≤ length text.now }
+    ensures place { result ≡ position_or_len is_blank text.now }
+{
+    match memchr2(b' ', b'\t', text) {
         Some(at) => at,
         None => text.len(),
     }

@@ -1,11 +1,13 @@
 //! Replaces the words of a value: `$(N:old=new)`.
 
-ghost use Rattle.std.specs.Prelude.{◌≡◌, ◌⊎◌, ◌<◌, ◌≤◌, ◌∷◌, ◌++◌, length, OnOk, IfErr, if◌then◌else◌};
+ghost use Rattle.std.specs.Prelude.{◌≡◌, ◌⊎◌, ◌<◌, ◌≤◌, ◌&&◌, not, [], ◌∷◌, ◌++◌, filter, length, unwrap_or, IfErr, IfOk, IfSome, OnOk, if◌then◌else◌};
 ghost use Rattle.std.specs.List.{list_any, before_first, after_first};
+ghost use Rattle.std.specs.Option.{option_map};
+ghost use Rattle.mk_lines.specs.Words.{is_word, words};
 ghost use Rattle.mk_macros.specs.declared.fault.MacroFault.TheVariants.{ValueTooLong, Memory};
-ghost use Rattle.mk_macros.specs.Substitution.{is_percent, is_between, with_stem, with_pattern_replaced, with_end_replaced, replaced, substituted};
+ghost use Rattle.mk_macros.specs.Substitution.{is_percent, is_between, part_text, with_stem, with_pattern_replaced, with_end_replaced, replaced, substituted};
 
-use crate::bytes::{begins_with, ends_with, first_place};
+use crate::bytes::{begins_with, ends_with, first_blank, first_place};
 use crate::fault::MacroFault;
 use std::alloc::AllocError;
 use std::marker::Model;
@@ -176,6 +178,40 @@ fn push_next(
     Ok(())
 }
 
+/// Appends what a part of a value between blanks becomes: nothing where it is empty, else its word.
+/// Returns whether no word was appended so far.
+fn push_part(
+    into: &mut Vec<u8>,
+    is_first: bool,
+    old: &PatternText,
+    new: &PatternText,
+    part: &[u8],
+) -> Result<bool, AllocError>
+    ensures { IfOk result (λ none. (none ≡ is_first && not (is_word part.now)) ×
+        (into.new.items ≡ into.old.items ++
+        part_text is_first (replaced old.now new.now) part.now)) }
+{
+    if part.is_empty() {
+        return Ok(is_first);
+    }
+    push_next(into, is_first, old, new, part)?;
+    Ok(false)
+}
+
+/// The part of a text before its first blank, and the text behind that blank: `None` where there is
+/// no blank.
+fn cut_at_blank(text: &[u8]) -> (&[u8], Option<&[u8]>)
+    ensures words { words text.now ≡ filter is_word (result.0.now ∷ []) ++
+        unwrap_or (option_map (λ behind. words behind.now) result.1) [] }
+    ensures shorter { IfSome result.1 (λ behind. length behind.now < length text.now) }
+{
+    let at = first_blank(text);
+    if at == text.len() {
+        return (text, None);
+    }
+    (&text[..at], Some(&text[at + 1..]))
+}
+
 /// Appends the words of a value, separated by one space, each replaced as `$(N:old=new)` says:
 /// where a word ends with `old`, that end is replaced by `new`; where `old` has a `%`, as a
 /// pattern. Other words are unchanged.
@@ -200,15 +236,16 @@ pub fn push_substituted(
     let new_cut = PatternText::new(new);
     let start = into.len();
     let mut is_first = true;
-    for word in value.split(|b| *b == b' ' || *b == b'\t') {
-        if word.is_empty() {
-            continue;
-        }
-        push_next(into, is_first, &old_cut, &new_cut, word)?;
-        is_first = false;
+    let mut rest = value;
+    'parts: loop {
+        let (part, behind) = cut_at_blank(rest);
+        is_first = push_part(into, is_first, &old_cut, &new_cut, part)?;
         if into.len() - start > room {
             return Err(MacroFault::ValueTooLong);
         }
+        let Some(behind) = behind else {
+            return Ok(());
+        };
+        rest = behind;
     }
-    Ok(())
 }

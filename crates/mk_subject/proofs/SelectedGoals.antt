@@ -43,7 +43,7 @@ module _ (m : Makefile) (e : Exists) (goals all : List (List ℕ)) where
 pub goals_named : MeetsWhatIsReached → (m : Makefile) (e : Exists) (goals : List (List ℕ)) (g : Graph) → Selects m e goals (Ok g) → map (build.name g) g.goals ≡ goals
 goals_named meets m e goals g (all, met, unless) = from (lacking m e all) unless
   where
-    from : (o : Option (List ℕ)) → BuiltUnless o (graph_of m e goals all) (Ok g) → map (build.name g) g.goals ≡ goals
+    from : (o : Option (List ℕ)) → BuiltUnless m o (graph_of m e goals all) (Ok g) → map (build.name g) g.goals ≡ goals
     from None built =
         let same : g ≡ graph_of m e goals all = built.3 in
         ap (λ (h : Graph). map (build.name h) h.goals) same ∙ named_all m e goals all goals (λ name h. ((meets (needs m e) goals all met).1 name).1 (goal h))

@@ -22,7 +22,7 @@ fn writes_want_of_memory(rt: HostRuntime) -> Result<(), Fail> {
 #[test]
 fn writes_names_with_blanks(rt: HostRuntime) -> Result<(), Fail> {
     let name = Name::new(rt.alloc(), "a b")?;
-    let line = line_of(rt.alloc(), Fault::Infer(InferFault::NoRule(name)))?;
+    let line = line_of(rt.alloc(), Fault::Infer(InferFault::NoRule(name, None)))?;
     same(line.as_str(), "refused 41 a b")
 }
 

@@ -23,7 +23,7 @@ fn cycle(alloc: Global) -> Result<Fault, AllocError> {
     for word in ["a", "b", "a"] {
         names.push(Name::new(alloc, word)?)?;
     }
-    Ok(Fault::Infer(InferFault::Graph(GraphFault::Cycle(Names::new(names)))))
+    Ok(Fault::Infer(InferFault::Graph(GraphFault::Cycle(Names::new(names)), None)))
 }
 
 /// Returns the text of a fault in words. Drops the fault.
@@ -58,7 +58,7 @@ fn says_a_place_and_a_word(rt: HostRuntime) -> Result<(), Fail> {
 #[test]
 fn says_a_word(rt: HostRuntime) -> Result<(), Fail> {
     let alloc = rt.alloc();
-    let fault = Fault::Infer(InferFault::NoRule(Name::new(alloc, "x.c")?));
+    let fault = Fault::Infer(InferFault::NoRule(Name::new(alloc, "x.c")?, None));
     let wanted = "NoRule (41): x.c: no rule makes it and it is no source; mend it, or record again";
     assert_eq!(rt; said(alloc, fault)?.as_str(), wanted);
     Ok(())

@@ -156,11 +156,11 @@ fn fault_text(alloc: Global, fault: &InferFault) -> Result<String, AllocError> {
     match fault {
         InferFault::BadGoal(place) => format!(in alloc; "27 {}", place.line),
         InferFault::GoalIsMember(place) => format!(in alloc; "28 {}", place.line),
-        InferFault::NoRule(name) => format!(in alloc; "41 {}", name.as_str()),
+        InferFault::NoRule(name, _) => format!(in alloc; "41 {}", name.as_str()),
         InferFault::NoGoal => format!(in alloc; "44"),
         InferFault::InferencePrerequisites(place) => format!(in alloc; "45 {}", place.line),
         InferFault::Macro(place, _) => format!(in alloc; "macro {}", place.line),
-        InferFault::Graph(_) => format!(in alloc; "graph"),
+        InferFault::Graph(_, _) => format!(in alloc; "graph"),
         InferFault::Memory => format!(in alloc; "memory"),
     }
 }

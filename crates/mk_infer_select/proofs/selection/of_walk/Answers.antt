@@ -1,12 +1,17 @@
-use Rattle.std.proofs.Common.{◌≡◌, ◌≤◌, List, ℕ, Ok, Err, Some, length, map, sym, ap, subst, ◌∙◌, arith}
+use Rattle.std.proofs.Common.{◌≡◌, ◌≤◌, List, ℕ, Ok, Err, Some, inl, inr, length, map, sym, ap, subst, ◌∙◌, arith}
 use Rattle.std.specs.Option.{option_map}
 use Rattle.std.proofs.lemmas.List.{length-map}
-use Rattle.std.proofs.lemmas.Result.{err_from_is_err_and}
 use Rattle.mk_lemmas.proofs.Texts.{texts}
 use Rattle.mk_graph.specs.declared.node.Node.{Node}
 use Rattle.mk_graph.specs.Build.{Builds}
 use Rattle.mk_graph.specs.Graph.{Graph, IsSound}
 use Rattle.mk_lines.specs.Names.{number_of}
+use Rattle.mk_read.specs.Reading.{Makefile}
+use Rattle.mk_infer.specs.Needed.{needing_place}
+use Rattle.mk_infer.specs.Selection.{Selects}
+use Rattle.mk_infer.specs.Steps.{of_graph}
+use Rattle.mk_infer.specs.declared.fault.InferFault.{InferFault}
+use Rattle.mk_infer.specs.declared.fault.InferFault.TheVariants.{NoRule}
 use Rattle.mk_infer_select.specs.Walked.{Walked, node_with}
 use Rattle.mk_infer_select.proofs.Selecting.{built_err, built_ok, first_of, handed, one_lacks, sound_handed, too_many_met}
 use Rattle.mk_infer_select.proofs.selection.of_walk.Goals as goal
@@ -18,8 +23,10 @@ returns-in-Some c =
     let walked = c.args.walked.now in
     let w = c.requires in
     let met : c.deref.result.now ≡ walked.met = c.deref.ensures.value ∙ ap (λ (x : Walked). x.met) c.walked.view_is in
-    let name : Some c.in-Some.name.now ≡ Some c.in_ok-new.field-0 = ap (λ (n : List ℕ). Some n) (sym c.in_ok-new.ensures) in
-    one_lacks m e (texts c.args.goals.now) walked w c.in_ok-new.field-0 (ap (first_of m e) (sym met) ∙ (sym c.first_lacking.ensures ∙ (ap (option_map (λ n. n.now)) c.in-Some.is ∙ name)))
+    let name = c.in-Some.name.now in
+    let is : c.in_ok-no_rule.field-0 ≡ NoRule name (needing_place m name) = c.in_ok-no_rule.ensures ∙ ap (λ (t : Makefile). NoRule name (needing_place t name)) c.table.ensures in
+    let lacks : first_of m e walked.met ≡ Some name = ap (first_of m e) (sym met) ∙ (sym c.first_lacking.ensures ∙ ap (option_map (λ n. n.now)) c.in-Some.is) in
+    subst (λ (f : InferFault). Selects m e (texts c.args.goals.now) (Err f)) (sym is) (one_lacks m e (texts c.args.goals.now) walked w name lacks)
 
 pub returns-then-as_slice-gt-MAX_NODES : goal.returns-then-as_slice-gt-MAX_NODES
 returns-then-as_slice-gt-MAX_NODES c =
@@ -53,8 +60,8 @@ build-requires c =
     let few : length walked.names ≤ 4096 = omega arith in
     subst IsSound (sym same) (sound_handed m e goals walked w none few c.handed_graph_is_sound.ensures)
 
-pub returns-in_err-build : goal.returns-in_err-build
-returns-in_err-build c =
+pub returns-in-Err : goal.returns-in-Err
+returns-in-Err c =
     let m = c.args.choices.now.makefile in
     let e = c.args.choices.now.exists in
     let goals = (texts c.args.goals.now) in
@@ -72,12 +79,15 @@ returns-in_err-build c =
     let with_goals : List ℕ → Graph = λ ns. record { nodes = map (node_with m walked.names) walked.met; goals = ns } in
     let same : with_nodes c.in_ok-nodes.nodes.items ≡ handed m goals walked = ap with_nodes nodes ∙ ap with_goals numbers in
     let few : length walked.names ≤ 4096 = omega arith in
-    let fault = c.in_err-build.field-0.0 in
-    let p = err_from_is_err_and c.from_residual-in_err-build.result c.from_residual-in_err-build.ensures.1 in
-    rw (p.1, p.2) (built_err m e goals walked w none few fault (subst (λ (h : Graph). Builds h (Err fault)) same c.in_err-build.ensures))
+    let fault = c.in-Err.fault in
+    let is_refused : Selects m e goals (Err (of_graph m fault)) = built_err m e goals walked w none few fault (subst (λ (h : Graph). Builds h (Err fault)) same c.in-Err.ensures) in
+    elim c.refused.ensures [
+      | inl memory ↦ rw memory tt
+      | inr is ↦ subst (λ (f : InferFault). Selects m e goals (Err f)) (sym (is ∙ ap (λ (t : Makefile). of_graph t fault) c.table-in-Err.ensures)) is_refused
+    ]
 
-pub returns : goal.returns
-returns c =
+pub returns-in-Ok : goal.returns-in-Ok
+returns-in-Ok c =
     let m = c.args.choices.now.makefile in
     let e = c.args.choices.now.exists in
     let goals = (texts c.args.goals.now) in
@@ -95,4 +105,4 @@ returns c =
     let with_goals : List ℕ → Graph = λ ns. record { nodes = map (node_with m walked.names) walked.met; goals = ns } in
     let same : with_nodes c.in_ok-nodes.nodes.items ≡ handed m goals walked = ap with_nodes nodes ∙ ap with_goals numbers in
     let few : length walked.names ≤ 4096 = omega arith in
-    built_ok m e goals walked w none few c.in_ok-build.field-0 (subst (λ (h : Graph). Builds h (Ok c.in_ok-build.field-0)) same c.in_ok-build.ensures)
+    built_ok m e goals walked w none few c.in-Ok.graph (subst (λ (h : Graph). Builds h (Ok c.in-Ok.graph)) same c.in-Ok.ensures)

@@ -11,8 +11,8 @@ slice_bounds-kept-end c =
     let le : c.unwrap_or.result ≤ length c.split_at.result.0.now = rw (c.unwrap_or.ensures) (unwrapped_within (length c.split_at.result.0.now) c.comment_at-comment.result c.comment_at-comment.ensures.within) in
     omega (arith, length-take c.unwrap_or.result c.split_at.result.0.now)
 
-pub returns-then-not-contains-clause-exact : goal.returns-then-not-contains-clause-exact
-returns-then-not-contains-clause-exact c = sym (nothing_to_uncomment c.args.text.now (sym c.if-not-contains.ensures.value))
+pub returns-then-not-has_byte-clause-exact : goal.returns-then-not-has_byte-clause-exact
+returns-then-not-has_byte-clause-exact c = sym (nothing_to_uncomment c.args.text.now (sym c.if-not-has_byte.ensures))
 
 pub returns-then-not-has_escaped_hash-clause-exact : goal.returns-then-not-has_escaped_hash-clause-exact
 returns-then-not-has_escaped_hash-clause-exact c =

@@ -6,8 +6,8 @@ use Rattle.mk_lines.proofs.NoReference.{found_without_references}
 use Rattle.mk_lines.proofs.references.first_outside.Goals as goal
 use Rattle.mk_lines.proofs.references.first_outside.Goals.{else-is_outside-via-then-is_outside+else-contains, else-is_outside-via-else-is_outside}
 
-pub returns-then-not-contains-clause-exact : goal.returns-then-not-contains-clause-exact
-returns-then-not-contains-clause-exact c = found_without_references c.args.wanted.now c.args.text.now c.find_byteset.result (sym c.if-not-contains.ensures.value) c.find_byteset.ensures
+pub returns-then-not-has_byte-clause-exact : goal.returns-then-not-has_byte-clause-exact
+returns-then-not-has_byte-clause-exact c = found_without_references c.args.wanted.now c.args.text.now c.find_byteset.result (sym c.if-not-has_byte.ensures) c.find_byteset.ensures
 
 pub loop-at-init : goal.loop-at-init
 loop-at-init c =

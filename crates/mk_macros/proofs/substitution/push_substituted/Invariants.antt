@@ -1,18 +1,18 @@
-use Rattle.std.proofs.Common.{◌≡◌, ◌≤◌, ◌++◌, length}
-use Rattle.std.specs.List.{slice_split}
-use Rattle.mk_lines.specs.Bytes.{is_blank}
+use Rattle.std.proofs.Common.{◌≡◌, ◌≤◌, ◌++◌, map, length}
+use Rattle.std.specs.List.{join_with_byte}
+use Rattle.mk_lines.specs.Words.{words}
 use Rattle.mk_macros.specs.Substitution.{replaced}
-use Rattle.mk_macros.proofs.Joined.{so_far, none_so_far}
+use Rattle.mk_macros.proofs.WordByWord.{Goes}
 use Rattle.mk_macros.proofs.substitution.push_substituted.Given as goal
 
--- the words of the parts so far
-abbrev pub invariant-loop-word : goal.invariant-loop-word
-invariant-loop-word l =
+-- the words so far, and what the rest gives behind them
+abbrev pub invariant-parts : goal.invariant-parts
+invariant-parts l =
     record {
-      next : (goal.iterator-loop-word).can_next l.word-iterator;
-      finite : (goal.iterator-loop-word).is_finite l.word-iterator;
-      starts : l.start ≡ length l.initial.into.items;
-      made : l.into.items ≡ l.initial.into.items ++ so_far (replaced l.old_cut l.new_cut) (slice_split is_blank l.value) (length l.yielded);
-      first : l.is_first ≡ none_so_far (slice_split is_blank l.value) (length l.yielded);
-      fits : length (so_far (replaced l.old_cut l.new_cut) (slice_split is_blank l.value) (length l.yielded)) ≤ l.room;
+      starts : l.start ≡ length l.fn.into.items;
+      above : l.start ≤ length l.into.items;
+      goes : Goes (replaced l.old_cut l.new_cut) (l.fn.into.items ++ join_with_byte 32 (map (replaced l.old_cut l.new_cut) (words l.value))) l.into.items l.is_first (words l.rest);
     }
+
+abbrev pub decreases-parts : goal.decreases-parts
+decreases-parts l = length l.rest
