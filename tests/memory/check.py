@@ -53,6 +53,7 @@ PLACES = {
         "return Err(Fault::Memory);",
     ): "behind the test that the fault is out of memory",
     ("mkcheck_run/src/starting.rt", "Err(_) => Err(Stop::Memory),"): "the call has no other error",
+    ("mk_core_since/src/words.rt", "Err(_) => Fault::Memory,"): "the call has no other error",
     (
         "mk_core_sentences/src/refused_line.rt",
         "return Err(AllocError);",

@@ -32,7 +32,7 @@ HELP = [
     (["check", "-h"], "check"),
     (["help"], "mkcheck"),
     (["help", "check"], "check"),
-    *(([name, "--help"], name) for name in "graph check repair verify simulate explain".split()),
+    *(([name, "--help"], name) for name in "graph check repair verify since simulate explain".split()),
 ]
 REJECTED = [
     Run(["explain", "-b", "B"], 2, err=UNEXPECTED.format("-b") + EXPLAIN_USAGE),

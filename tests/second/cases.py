@@ -19,6 +19,7 @@ from makefiles import FOLDER, Contents, Project, WithoutFolders, mutated, struct
 from plans import WRONG, plan_of
 from request import Request, Usage
 from shapes import inferences, jungle, orders
+from versions import put_below, two_versions
 
 OPERANDS = [
     b"X=x.o",
@@ -233,6 +234,8 @@ def case_of(rng: Random, command: str) -> Case:
         return case_in_words(rng)
     if command == "json":
         return case_in_json(rng)
+    if command == "since":
+        return since_case(rng)
     case = case_in_lines(rng, command)
     if command != "check" and rng.random() < 0.15:
         case.words[1:1] = [rng.choice(["-w", "--json"])]
@@ -283,6 +286,42 @@ def lacking_case(rng: Random, wrong: float = 0.2) -> Case:
     if rng.random() < 0.01:
         broken_word(rng, project.files, words)
     return Case(project.files, mixed(rng, words, others))
+
+
+def since_case(rng: Random) -> Case:
+    """A case of `since`: two versions of a build, or a build for `check` and one like it."""
+    if rng.random() < 0.2:
+        return loosely_compared(rng)
+    name = b"rules.mk" if rng.random() < 0.05 else b"makefile"
+    folder, files, new = two_versions(rng, name)
+    options = ["-b", "B"] + ["-r"] * rng.choice([0, 0, 0, 1, 2])
+    if name != b"makefile":
+        options += ["-f", name.decode()]
+    goals = rng.sample(list(new.recipes), 1) if rng.random() < 0.15 else []
+    if rng.random() < 0.01:
+        options += rng.choice([["-c"], ["-w"], ["-e", "1"], ["-b", "B"]])
+    words = [folder, *goals] if rng.random() < 0.99 else []
+    draw = rng.random()
+    if draw < 0.5:
+        return Case(files, ["since", *words, *options])
+    return Case(files, ["since", *options, *(["--"] if draw > 0.97 else []), *words])
+
+
+def loosely_compared(rng: Random) -> Case:
+    """A build for `check`, and as the old one the same, often with some damage."""
+    case = case_of(rng, "check")
+    kept = [word for word in case.words[1:] if word not in ("-c", "-w")]
+    old = dict(case.files)
+    if b"B" in old:
+        old[b"footprint.json"] = old.pop(b"B")
+    if rng.random() < 0.5:
+        name = rng.choice(sorted(old) or [b"makefile"])
+        data = old.get(name, b"")
+        if data is not FOLDER:
+            lines = data.split(b"\n")
+            lines[rng.randrange(len(lines))] = rng.choice([b"", b"\tx", b"x", b"a: b", b"include q"])
+            old[name] = b"\n".join(lines)
+    return Case({**put_below("old", old), **case.files}, ["since", "old", *kept])
 
 
 def case_in_words(rng: Random) -> Case:

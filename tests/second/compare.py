@@ -34,7 +34,17 @@ from request import Answer, Disk, Request
 from second import answered
 from sentences import THEN
 
-COMMANDS = ["graph", "check", "verify", "simulate", "evidence", "repair", "words", "json"]
+COMMANDS = [
+    "graph",
+    "check",
+    "verify",
+    "simulate",
+    "evidence",
+    "repair",
+    "words",
+    "json",
+    "since",
+]
 GATE_CASES = {
     "graph": 300,
     "check": 300,
@@ -44,6 +54,7 @@ GATE_CASES = {
     "repair": 250,
     "words": 300,
     "json": 250,
+    "since": 400,
 }
 IN_WORDS = re.compile(rb" \[(\w+)\]\n  (\w+): ")
 FAULT = re.compile(rb"(?:\S+:\d+: )?([\w:]+ \(\d+\)): ")
@@ -90,8 +101,8 @@ def given_up(_signal: int, _frame: FrameType | None) -> NoReturn:
 
 
 def asked(program: str, words: list[str], folder: str) -> Answer:
-    """Standard output and status of the program, of a `repair` that mends nothing standard error;
-    no status where it gives no answer.
+    """Standard output and status of the program, of a `repair` that mends nothing and of `since`
+    standard error; no status where it gives no answer.
 
     An alarm takes less time than a timeout of `run`, and most of a case is the start of the
     program.
@@ -113,6 +124,8 @@ def asked(program: str, words: list[str], folder: str) -> Answer:
         signal.alarm(0)
     if "repair" in words and done.returncode == 1:
         return done.stdout + done.stderr, 1
+    if words[:1] == ["since"] and not done.stderr.startswith(b"error: "):
+        return done.stdout + done.stderr, done.returncode
     return done.stdout, done.returncode
 
 

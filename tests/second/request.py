@@ -44,9 +44,30 @@ class Usage(Exception):
 class Request:
     """The words of a command line, told apart."""
 
-    VALUES = {"graph": "fb", "check": "fbe", "repair": "fb", "verify": "fbk", "simulate": "fbp"}
-    FLAGS = {"graph": "rcw", "check": "rcw", "repair": "rw", "verify": "rw", "simulate": "rw"}
-    NEEDED = {"graph": "", "check": "b", "repair": "b", "verify": "bk", "simulate": "bp"}
+    VALUES = {
+        "graph": "fb",
+        "check": "fbe",
+        "repair": "fb",
+        "verify": "fbk",
+        "since": "fb",
+        "simulate": "fbp",
+    }
+    FLAGS = {
+        "graph": "rcw",
+        "check": "rcw",
+        "repair": "rw",
+        "verify": "rw",
+        "since": "r",
+        "simulate": "rw",
+    }
+    NEEDED = {
+        "graph": "",
+        "check": "b",
+        "repair": "b",
+        "verify": "bk",
+        "since": "b",
+        "simulate": "bp",
+    }
 
     def __init__(self, arguments: list[str]) -> None:
         if not arguments or arguments[0] not in self.VALUES:
@@ -71,8 +92,18 @@ class Request:
         if "f" in self.values:
             name = self.values["f"].removeprefix(b"./")
             self.values["f"] = self.values["f"] if name[:1] in (b"", b"/") else name
-        self.operands = [word for word in self.words if b"=" in word]
-        self.goals = [word for word in self.words if b"=" not in word]
+        self.folder = b""
+        if self.command == "since":
+            if not self.words:
+                raise Usage
+            self.folder = self.words[0]
+        self.take(self.words[1:] if self.command == "since" else self.words)
+
+    def take(self, words: list[bytes]) -> None:
+        """Takes these words as operands and goals."""
+        self.words = words
+        self.operands = [word for word in words if b"=" in word]
+        self.goals = [word for word in words if b"=" not in word]
 
     def tell(self, rest: list[str]) -> None:
         while rest:

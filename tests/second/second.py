@@ -21,6 +21,7 @@ from reading import Files
 from repair import printed, repaired
 from request import Disk, Request, Usage, file_of, prepared
 from sentences import in_sentences, in_words, line_of
+from since import compared
 from world import Run, World, read_plan, run_plan
 
 sys.setrecursionlimit(20000)
@@ -33,6 +34,9 @@ def answer(request: Request, files: Files) -> tuple[bytes, int]:
     if request.command == "repair":
         text, status = repaired(request, files)
         return (shown(repair_value(text, status)) if request.in_json else text), status
+    if request.command == "since":
+        out, err, status = compared(request, files)
+        return out + err, status
     graph, book, passed_over = prepared(request, files)
     if request.command == "graph":
         return printed_text(request, graph.text("c" in request.flags)), 0

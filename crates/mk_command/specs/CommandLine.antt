@@ -51,6 +51,10 @@ abbrev pub in_json_option : Rule
 in_json_option =
     record (new_rule (codes "json")) { long = Some (codes "json"); action = Some Count }
 
+-- `DIR` of `since`, exactly once.
+abbrev pub folder_argument : Rule
+folder_argument = record (new_rule (codes "folder")) { value_names = 1; required = true }
+
 -- `-k CERT`, exactly once.
 abbrev pub certificate_option : Rule
 certificate_option =
@@ -101,6 +105,13 @@ repair_command =
     (makefile_option ∷ no_defaults_option ∷ needed_book_option ∷ in_words_option ∷
     in_json_option ∷ words_argument ∷ [])
 
+-- `since DIR [-f F] [-r] -b BOOK [WORD..]`
+abbrev pub since_command : App
+since_command =
+    subcommand (codes "since")
+    (makefile_option ∷ no_defaults_option ∷ needed_book_option ∷ folder_argument ∷
+    words_argument ∷ [])
+
 -- `simulate [-f F] [-r] -b BOOK -p PLAN [-w] [--json] [WORD..]`
 abbrev pub simulate_command : App
 simulate_command =
@@ -132,12 +143,12 @@ program =
 abbrev pub with_subcommands : App → List App → App
 with_subcommands app commands = fold (λ app command. with_subcommand app command.top) app commands
 
--- `mkcheck` with its six subcommands.
+-- `mkcheck` with its seven subcommands.
 abbrev pub command_line : App
 command_line =
     with_subcommands program
-    (graph_command ∷ check_command ∷ repair_command ∷ verify_command ∷ simulate_command ∷
-    explain_command ∷ [])
+    (graph_command ∷ check_command ∷ repair_command ∷ verify_command ∷ since_command ∷
+    simulate_command ∷ explain_command ∷ [])
 
 -- The word is read as an option or as `--`: it is a `-` and at least one more byte.
 abbrev pub is_option : List ℕ → Bool

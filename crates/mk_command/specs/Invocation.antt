@@ -12,7 +12,7 @@ use Rattle.mk_core.specs.Words.{goals_of, operands_of}
 use Rattle.mk_command.specs.declared.invocation.Form.{Form}
 use Rattle.mk_command.specs.declared.invocation.Form.TheVariants.{Lines, Words, Json}
 use Rattle.mk_command.specs.declared.invocation.Invocation.{Invocation}
-use Rattle.mk_command.specs.declared.invocation.Invocation.TheVariants.{Graph, Check, CheckInWords, CheckInJson, Repair, Explain, Verify, Simulate}
+use Rattle.mk_command.specs.declared.invocation.Invocation.TheVariants.{Graph, Check, CheckInWords, CheckInJson, Repair, Explain, Since, Verify, Simulate}
 use Rattle.mk_command.specs.CommandLine.{command_line}
 
 -- The kinds of fault that the command line finds in the words; none where it accepts them.
@@ -104,9 +104,11 @@ invocation_by name rows =
     (if bytes_eq name (codes "explain") then Explain (requested rows).goals else
     (if bytes_eq name (codes "verify")
     then Verify (requested rows) (needed (codes "certificate") rows) (form_by rows) else
+    (if bytes_eq name (codes "since")
+    then Since (requested rows) (needed (codes "folder") rows) else
     (if bytes_eq name (codes "simulate")
     then Simulate (requested rows) (needed (codes "plan") rows) (form_by rows)
-    else Graph (requested rows) (form_by rows)))))
+    else Graph (requested rows) (form_by rows))))))
 
 -- The command for the subcommand that the words name. Words without a subcommand are never
 -- accepted, so that case is arbitrary.
@@ -127,6 +129,7 @@ request_in (CheckInJson request) = request
 request_in (Repair request form) = request
 request_in (Explain what) = requested []
 request_in (Verify request certificate form) = request
+request_in (Since request folder) = request
 request_in (Simulate request plan form) = request
 
 -- How the answer of a command is printed.
@@ -138,6 +141,7 @@ form_of (CheckInJson request) = Json
 form_of (Repair request form) = form
 form_of (Explain what) = Lines
 form_of (Verify request certificate form) = form
+form_of (Since request folder) = Lines
 form_of (Simulate request plan form) = form
 
 -- The request of a command; `explain` has none.

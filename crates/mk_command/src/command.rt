@@ -3,7 +3,7 @@
 ghost use Rattle.std.specs.Prelude.{◌≡◌, ◌∷◌, [], IfOk, codes, false, fold};
 ghost use Rattle.clap.specs.Words.{app_of, new_app, rule_of, with_rule};
 ghost use Rattle.clap.specs.declared.builder.command.Command.TheViews.{out-Command as fields_of};
-ghost use Rattle.mk_command.specs.CommandLine.{book_option, certificate_option, check_command, command_line, commands_option, evidence_option, explain_command, graph_command, in_json_option, in_words_option, makefile_option, named_program, needed_book_option, no_defaults_option, only_certificate_option, plan_option, program, repair_command, simulate_command, verify_command, with_subcommands, words_argument};
+ghost use Rattle.mk_command.specs.CommandLine.{book_option, certificate_option, check_command, command_line, commands_option, evidence_option, explain_command, folder_argument, graph_command, in_json_option, in_words_option, makefile_option, named_program, needed_book_option, no_defaults_option, only_certificate_option, plan_option, program, repair_command, simulate_command, since_command, verify_command, with_subcommands, words_argument};
 
 use clap::{Arg, ArgAction, Command, value_parser};
 use std::alloc::{AllocError, Global};
@@ -37,6 +37,10 @@ const BEHIND_REPAIR: &str = with_statuses!(
 
 const BEHIND_VERIFY: &str = with_statuses!(
     "Example: mkcheck verify -b footprints.json -k certificate.json prog\n\n"
+);
+
+const BEHIND_SINCE: &str = with_statuses!(
+    "Example: mkcheck since built -b footprints.json > old && xargs -d '\\n' rm -f -- < old\n\n"
 );
 
 const BEHIND_EXPLAIN: &str = with_statuses!("Example: mkcheck explain stale\n\n");
@@ -149,6 +153,16 @@ fn certificate_option<'a>(alloc: Global) -> Arg<'a>
         .help("The certificate: what check -c printed")
 }
 
+fn folder_argument<'a>(alloc: Global) -> Arg<'a>
+    ensures rule { rule_of result ≡ folder_argument }
+    ensures local { result.global ≡ false }
+{
+    Arg::new(alloc, "folder")
+        .value_name("DIR")
+        .required(true)
+        .help("The folder with the makefile's texts, footprint.json and words of the old build")
+}
+
 fn plan_option<'a>(alloc: Global) -> Arg<'a>
     ensures rule { rule_of result ≡ plan_option }
     ensures local { result.global ≡ false }
@@ -158,8 +172,8 @@ fn plan_option<'a>(alloc: Global) -> Arg<'a>
         .value_name("PLAN")
         .required(true)
         .help(
-            "The plan: a line each of make, stop, begin, look, put, done, finish, run, pass, end, \
-            edit",
+            "The plan: a line each of make, stop, begin, look, put, done, finish, run, break, \
+            pass, end, edit",
         )
 }
 
@@ -239,6 +253,16 @@ fn named_verify<'a>(alloc: Global) -> Command<'a>
         .about("Says yes where a certificate shows that makes build right, else refuses it")
         .override_usage("mkcheck verify [-f F] [-r] -b BOOK -k CERT [-w] [--json] [WORD]...")
         .after_help(BEHIND_VERIFY)
+}
+
+fn named_since<'a>(alloc: Global) -> Command<'a>
+    ensures app { app_of result ≡ new_app (codes "since") }
+    ensures local { (fields_of result).has_globals ≡ false }
+{
+    Command::new(alloc, "since")
+        .about("Prints the files of an old build to remove before the new one is made")
+        .override_usage("mkcheck since DIR [-f F] [-r] -b BOOK [WORD]...")
+        .after_help(BEHIND_SINCE)
 }
 
 fn named_simulate<'a>(alloc: Global) -> Command<'a>
@@ -324,6 +348,16 @@ fn verify_command<'a>(alloc: Global) -> Result<Command<'a>, AllocError>
     with_form(alloc, verifying)?.arg(words_argument(alloc))
 }
 
+fn since_command<'a>(alloc: Global) -> Result<Command<'a>, AllocError>
+    ensures app { IfOk result (λ c. app_of c ≡ since_command) }
+    ensures local { IfOk result (λ c. (fields_of c).has_globals ≡ false) }
+{
+    with_reading(alloc, named_since(alloc))?
+        .arg(needed_book_option(alloc))?
+        .arg(folder_argument(alloc))?
+        .arg(words_argument(alloc))
+}
+
 fn simulate_command<'a>(alloc: Global) -> Result<Command<'a>, AllocError>
     ensures app { IfOk result (λ c. app_of c ≡ simulate_command) }
     ensures local { IfOk result (λ c. (fields_of c).has_globals ≡ false) }
@@ -373,14 +407,15 @@ fn with_judging<'a>(alloc: Global, command: Command<'a>) -> Result<Command<'a>, 
         .subcommand(verify_command(alloc)?)
 }
 
-// Adds the subcommands `simulate` and `explain`.
+// Adds the subcommands `since`, `simulate` and `explain`.
 fn with_telling<'a>(alloc: Global, command: Command<'a>) -> Result<Command<'a>, AllocError>
     requires { (fields_of command).has_globals ≡ false }
     ensures app { IfOk result (λ c. app_of c ≡ with_subcommands (app_of command.entry)
-        (simulate_command ∷ explain_command ∷ [])) }
+        (since_command ∷ simulate_command ∷ explain_command ∷ [])) }
     ensures local { IfOk result (λ c. (fields_of c).has_globals ≡ false) }
 {
     command
+        .subcommand(since_command(alloc)?)?
         .subcommand(simulate_command(alloc)?)?
         .subcommand(explain_command(alloc)?)
 }
@@ -388,8 +423,9 @@ fn with_telling<'a>(alloc: Global, command: Command<'a>) -> Result<Command<'a>, 
 /// The command line of the program, which reads the words after the program's name: `graph [-f F]
 /// [-r] [-b BOOK] [-c] [-w] [--json] [WORD..]`, `check [-f F] [-r] -b BOOK [-c] [-w] [-e N] [--json]
 /// [WORD..]`, `repair [-f F] [-r] -b BOOK [-w] [--json] [WORD..]`, `verify [-f F] [-r] -b BOOK -k
-/// CERT [-w] [--json] [WORD..]`, `simulate [-f F] [-r] -b BOOK -p PLAN [-w] [--json] [WORD..]`,
-/// `explain [WORD..]`, `--help` and `--version`. The only error is out of memory.
+/// CERT [-w] [--json] [WORD..]`, `since DIR [-f F] [-r] -b BOOK [WORD..]`, `simulate [-f F] [-r] -b
+/// BOOK -p PLAN [-w] [--json] [WORD..]`, `explain [WORD..]`, `--help` and `--version`. The only
+/// error is out of memory.
 pub fn command_line<'a>(alloc: Global) -> Result<Command<'a>, AllocError>
     ensures app { IfOk result (λ c. app_of c ≡ command_line) }
     ensures local { IfOk result (λ c. (fields_of c).has_globals ≡ false) }

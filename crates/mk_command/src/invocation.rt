@@ -66,6 +66,13 @@ pub enum Invocation {
         /// How the answer is printed.
         form: Form,
     },
+    /// `since`: names the files of an old build to remove before the new one.
+    Since {
+        /// The makefile, the goals and the footprints of the new build.
+        request: Request,
+        /// The folder that holds what the old build was made from.
+        folder: Name,
+    },
     /// `explain`: says what the first of the words that is explained means; without words it lists
     /// all.
     Explain(Names),
@@ -87,7 +94,7 @@ pub fn form_of(asked: &Invocation) -> Form
     match asked {
         Invocation::CheckInWords { .. } => Form::Words,
         Invocation::CheckInJson(_) => Form::Json,
-        Invocation::Check { .. } | Invocation::Explain(_) => Form::Lines,
+        Invocation::Check { .. } | Invocation::Explain(_) | Invocation::Since { .. } => Form::Lines,
         Invocation::Graph { form, .. }
         | Invocation::Repair { form, .. }
         | Invocation::Verify { form, .. }
@@ -106,6 +113,7 @@ pub fn request_of(asked: &Invocation) -> Option<&Request>
         | Invocation::CheckInJson(request)
         | Invocation::Repair { request, .. }
         | Invocation::Verify { request, .. }
+        | Invocation::Since { request, .. }
         | Invocation::Simulate { request, .. } => Some(request),
         Invocation::Explain(_) => None,
     }
@@ -294,6 +302,10 @@ pub fn invocation_by(
             request,
             certificate: needed(alloc, matches, "certificate")?,
             form,
+        }),
+        "since" => Ok(Invocation::Since {
+            request,
+            folder: needed(alloc, matches, "folder")?,
         }),
         "simulate" => Ok(Invocation::Simulate {
             request,

@@ -146,4 +146,5 @@ term_text word =
     (if bytes_eq word (codes "yes") then Some terms.YES.now else
     (if bytes_eq word (codes "way") then Some terms.WAY.now else
     (if bytes_eq word (codes "cycle") then Some terms.CYCLE.now else
-    (if bytes_eq word (codes "tried") then Some terms.TRIED.now else None))))
+    (if bytes_eq word (codes "tried") then Some terms.TRIED.now else
+    (if bytes_eq word (codes "since") then Some terms.SINCE.now else None)))))

@@ -67,8 +67,8 @@ fn explain_as_spelled(alloc: Global, what: &str) -> Result<Option<String>, Alloc
 
 /// Explains a finding or a fault: when it comes, with an example, and what to do. `what` is the
 /// first word of a finding, or a fault's number or name, whatever the case of their letters; or
-/// `yes`, `way`, `cycle` or `tried`. Anything else gives `None`. The text ends with a newline. The
-/// only error is out of memory.
+/// `yes`, `way`, `cycle`, `tried` or `since`. Anything else gives `None`. The text ends with a
+/// newline. The only error is out of memory.
 pub fn explain(alloc: Global, what: &str) -> Result<Option<String>, AllocError>
     ensures { IfOk result (λ told. option_map string_bytes told ≡ explained what.now) }
 {

@@ -52,6 +52,24 @@ or refuses the makefile. What it says then follows. Nothing else is known
 that could mend the makefile.
 ";
 
+/// What `since` prints.
+pub const SINCE: &str = "\
+since: the files of an old build to remove before the new one
+
+After a change of the makefile a file may be newer than all that it is made
+from, and yet be made by other commands. `mkcheck since DIR -b BOOK` prints
+the files to remove: what dropped recipes wrote, and what a recipe writes that
+is new, has other commands or writes other files, or that read a file which is
+gone, or the makefile. DIR holds what the build in this folder was made from,
+as `mkcheck-record --keep DIR` writes it.
+
+    mkcheck since DIR -b BOOK > old && xargs -d '\\n' rm -f -- < old && make
+
+Where a build has findings or is refused, that is said on standard error, and
+nothing is named. Makes are right after the removal if the last make of the
+old build made all its goals, and nobody changed what recipes wrote.
+";
+
 /// The text of the word, if it is one of these.
 #[tactic(auto, unfolding(crate::specs::Texts::term_text))]
 pub fn term_text(word: &str) -> Option<&'static str>
@@ -62,6 +80,7 @@ pub fn term_text(word: &str) -> Option<&'static str>
         "way" => Some(WAY),
         "cycle" => Some(CYCLE),
         "tried" => Some(TRIED),
+        "since" => Some(SINCE),
         _ => None,
     }
 }

@@ -1,6 +1,7 @@
 //! The program `mkcheck`: runs the command that its command line gives.
 #![tactic(auto)]
 
+use mk_core_since::Below;
 use mkcheck_host::{Disk, HostFiles, Sink, conclude, keep_pages};
 use mkcheck_run::run_arguments;
 use std::env::Env;
@@ -17,7 +18,8 @@ fn words<R: Env + AllocGlobal>(rt: &R) -> io::Result<Vec<String>> {
 fn main(rt: HostRuntime) -> ExitCode {
     keep_pages(rt.alloc());
     let mut disk = Disk::new(HostFiles::new(rt.alloc(), &rt));
-    let ran = run_arguments(rt.alloc(), &mut disk, words(&rt));
+    let mut below = Below::new(rt.alloc(), Disk::new(HostFiles::new(rt.alloc(), &rt)));
+    let ran = run_arguments(rt.alloc(), &mut disk, &mut below, words(&rt));
     conclude(
         &mut Sink::new(rt.stdout()),
         &mut Sink::new(rt.stderr()),

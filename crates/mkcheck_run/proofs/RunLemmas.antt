@@ -24,10 +24,10 @@ use Rattle.mk_core_evidence.specs.declared.showing.Evidence.TheVariants.{Plan, N
 use Rattle.mk_command.specs.declared.invocation.Form.{Form}
 use Rattle.mk_command.specs.declared.invocation.Form.TheVariants.{Lines, Words, Json}
 use Rattle.mk_command.specs.declared.invocation.Invocation.{Invocation}
-use Rattle.mk_command.specs.declared.invocation.Invocation.TheVariants.{Check, CheckInWords, Graph, Repair, Simulate, Verify}
+use Rattle.mk_command.specs.declared.invocation.Invocation.TheVariants.{Check, CheckInJson, CheckInWords, Explain, Graph, Repair, Simulate, Since, Verify}
 use Rattle.mk_command.specs.Invocation.{AreRefusedUnread, faults_of, invocation_of, request_in}
 use Rattle.mkcheck_host.specs.Outcome.{Written}
-use Rattle.mkcheck_run.specs.Run.{AnswersInvocation, Explains, MendsIn, Promises, Response, Shows, evidence_response, repair_response, repair_status}
+use Rattle.mkcheck_run.specs.Run.{AnswersInvocation, AnswersOver, Explains, MendsIn, Promises, Response, Shows, evidence_response, refusal_written, repair_response, repair_status}
 
 -- what is explained is one of the kinds, and not out of memory
 pub explained_kind : (kind : ErrorKind) (kinds : Kinds) (w : Written) → Explains kind w → (kind ≡ OutOfMemory) ⊎ IsAmong kind kinds → IsAmong kind kinds
@@ -77,6 +77,10 @@ no_memory_runs told request plan form = (Err Memory, tt, refl)
 pub no_memory_mends : (told : Told) (request : Request) (form : Form) → AnswersInvocation told (Repair request form) (Err Memory)
 no_memory_mends told request form = (Err Memory, tt, refl)
 
+-- and to one to compare two builds
+pub no_memory_compares : (was told : Told) (request : Request) (folder : List ℕ) → AnswersOver was told (Since request folder) (Err Memory)
+no_memory_compares was told request folder = (Err Memory, inl refl, refl)
+
 module _ (told : Told) (request : Request) where
   text_mends : (found : Repaired) → Suffices told request (Ok found) → repair_status (outcome_of found) ≡ 0 → Mends told request (outcome_text (outcome_of found))
   text_mends repairs.Right s e = s
@@ -112,13 +116,25 @@ unread_by words same none h (inr is) = at (macros_for (request_in (invocation_of
     at (Ok x) k is = absurd cc
     at (Err fault) k is = k
 
+-- a refusal has status 2, wherever it is written
+refusal_status : (asked : Invocation) (text : List ℕ) → (refusal_written asked text).status ≡ 2
+refusal_status (Graph request form) text = refl
+refusal_status (Check request only_certificate evidence) text = refl
+refusal_status (CheckInWords request only_certificate) text = refl
+refusal_status (CheckInJson request) text = refl
+refusal_status (Repair request form) text = refl
+refusal_status (Explain what) text = refl
+refusal_status (Verify request certificate form) text = refl
+refusal_status (Since request folder) text = refl
+refusal_status (Simulate request plan form) text = refl
+
 -- what status 0 of an answer promises, it promises where it is written
 pub promised : (told : Told) (asked : Invocation) (fits : Told → Type 0) (old new : List (List ℕ)) (answer : Result Response Fault) (w : Written)
     → IfOk answer (λ shown. shown.status ≡ 0 → Promises told asked shown.text) → Shows fits old new asked answer w → w.status ≡ 0 → Promises told asked w.out
 promised told asked fits old new (Ok shown) w h (same, shows) e =
     subst (λ (x : Written). Promises told asked x.out) (sym shows) (h (sym (ap (λ (x : Written). x.status) shows) ∙ e))
 promised told asked fits old new (Err fault) w h (known, line, finds, shows) e =
-    let bad : 2 ≡ 0 = sym (ap (λ (x : Written). x.status) shows) ∙ e in absurd (true≢false (ap (λ (n : ℕ). nat_eq n 2) bad))
+    let bad : 2 ≡ 0 = sym (refusal_status asked _) ∙ (sym (ap (λ (x : Written). x.status) shows) ∙ e) in absurd (true≢false (ap (λ (n : ℕ). nat_eq n 2) bad))
 
 -- what two steps leave as it was stays
 pub unread_twice : {A E X : Type 0} (r : Result A E) (x y z : X) → OnErr r (y ≡ x) → OnErr r (z ≡ y) → OnErr r (z ≡ x)

@@ -35,6 +35,10 @@ use Rattle.mk_core_repair.specs.declared.outcome.Repair.{Repair as Repaired}
 use Rattle.mk_core_repair.specs.Outcome.{Outcome, right, mended, unmended, outcome_of}
 use Rattle.mk_core_repair.specs.RepairAnswer.{AnswersRepair, Mends}
 use Rattle.mk_core_repair.specs.RepairText.{outcome_message, outcome_text}
+use Rattle.mk_core_since.specs.declared.outcome.Since.{Since as Found}
+use Rattle.mk_core_since.specs.declared.outcome.Since.TheVariants as since
+use Rattle.mk_core_since.specs.SinceAnswer.{AnswersSince}
+use Rattle.mk_core_since.specs.SinceText.{since_message, since_output}
 use Rattle.mk_core_evidence.specs.declared.showing.Evidence.{Evidence}
 use Rattle.mk_core_evidence.specs.declared.showing.Evidence.TheVariants.{Plan, NoPlan}
 use Rattle.mk_core_text.specs.declared.verdict.Verdict.{Verdict}
@@ -46,7 +50,7 @@ use Rattle.mk_command.specs.Invocation.{form_of, request_of}
 use Rattle.mk_command.specs.declared.invocation.Form.{Form}
 use Rattle.mk_command.specs.declared.invocation.Form.TheVariants.{Lines, Words, Json}
 use Rattle.mk_command.specs.declared.invocation.Invocation.{Invocation}
-use Rattle.mk_command.specs.declared.invocation.Invocation.TheVariants.{Graph, Check, CheckInWords, CheckInJson, Repair, Explain, Verify, Simulate}
+use Rattle.mk_command.specs.declared.invocation.Invocation.TheVariants.{Graph, Check, CheckInWords, CheckInJson, Repair, Explain, Since, Verify, Simulate}
 use Rattle.mkcheck_host.specs.Outcome.{Written}
 
 -- The response to a command: a text for standard output, one for standard error, and the exit
@@ -153,6 +157,23 @@ run_printed Json run = answer_text (run_value run.printed run.refused run.left)
 abbrev pub run_status : Simulation → ℕ
 run_status run = if is_some run.refused then 2 else 0
 
+-- The status of what comes of `since`: 1 for findings, 2 for a refusal of the old build.
+abbrev pub since_status : Found → ℕ
+since_status (since.Named names) = 0
+since_status (since.No found) = 1
+since_status (since.Unsure found) = 1
+since_status (since.Refused fault) = 2
+
+-- The response with what comes of `since`, from this folder: named files alone go to standard
+-- output.
+abbrev pub since_response : List ℕ → Found → Response
+since_response folder found =
+    record {
+      text = since_output found;
+      err = since_message folder found;
+      status = since_status found;
+    }
+
 -- The response with the run of a plan: status 2 where a line was refused, else 0.
 abbrev pub run_response : Form → Simulation → Response
 run_response form run =
@@ -217,7 +238,7 @@ ShowsPlan files request only_certificate (Ok None) answer =
     ShowsVerdict files request (response_without_plan only_certificate) answer
 ShowsPlan files request only_certificate (Err fault) answer = answer ≡ Err fault
 
--- Over files with this map, the response to the command, or its fault.
+-- Over files with this map, the response to a command other than `since`, or its fault.
 abbrev pub AnswersInvocation : Told → Invocation → Result Response Fault → Type 0
 AnswersInvocation files (Graph request form) answer =
     (text : Result (List ℕ) Fault) ×
@@ -249,6 +270,16 @@ AnswersInvocation files (Simulate request plan form) answer =
     (run : Result Simulation Fault) ×
     Answers files request (AnswersSimulation files plan) run ×
     (answer ≡ seen (run_response form) run)
+AnswersInvocation files (Since request folder) answer = ⊥
+
+-- The same, where the folder of `since` has the first contents, by names in it. Other commands read
+-- no folder.
+abbrev pub AnswersOver : Told → Told → Invocation → Result Response Fault → Type 0
+AnswersOver was files (Since request folder) answer =
+    (found : Result Found Fault) ×
+    AnswersSince was files folder request found ×
+    (answer ≡ seen (since_response folder) found)
+AnswersOver was files asked answer = AnswersInvocation files asked answer
 
 -- The text that `repair` prints in this form mends the makefile, or has the lines that do.
 abbrev pub MendsIn : Form → Told → Request → List ℕ → Type 0
@@ -284,10 +315,16 @@ line_in Json request fault = option_and_then (λ asked. line_place asked fault) 
 abbrev pub line_shown : Invocation → Fault → Option Place
 line_shown asked fault = line_in (form_of asked) (request_of asked) fault
 
+-- A refusal of the command with this text is written to standard output, that of `since` to
+-- standard error, with status 2.
+abbrev pub refusal_written : Invocation → List ℕ → Written
+refusal_written (Since request folder) text = record { out = []; err = text; status = 2 }
+refusal_written asked text = record { out = text; err = []; status = 2 }
+
 -- The response to the command is written to both streams, with its status; a fault as a refusal on
--- standard output, with status 2, in words or as JSON with its line of a file, which is read for
--- that. Out of memory isn't written here. The names whose reads failed grew by at most
--- that file, where it can't be read again.
+-- standard output, or on standard error for `since`, with status 2, in words or as JSON with its
+-- line of a file, which is read for that. Out of memory isn't written here. The names whose reads
+-- failed grew by at most that file, where it can't be read again.
 abbrev pub Shows : (Told → Type 0) → (old new : List (List ℕ)) → Invocation →
     Result Response Fault → Written → Type 0
 Shows fits old new asked (Ok shown) w =
@@ -295,16 +332,18 @@ Shows fits old new asked (Ok shown) w =
 Shows fits old new asked (Err fault) w =
     (is_out_of_memory fault ≡ false) ×
     (line : List ℕ) × FindsLine fits old new (line_shown asked fault) line ×
-    (w ≡ record { out = refusal_text (form_of asked) fault line; err = []; status = 2 })
+    (w ≡ refusal_written asked (refusal_text (form_of asked) fault line))
 
--- The outcome is that of some response or fault. It is the defined one over each map that fits what
--- the reader has answered. The names whose reads failed grew by the name that the fault says, if it
--- is a failed read, and else they stayed; and then as the printed line says.
-pub record IsAnswered (fits : Told → Type 0) (old new : List (List ℕ)) (asked : Invocation)
-    (w : Written) : Type 0
+-- The outcome is that of some response or fault. It is the defined one over each two maps that fit
+-- what the reader of the folder and the reader of files have answered. The names whose reads
+-- failed grew by the name that the fault says, if it is a failed read, and else they stayed; and
+-- then as the printed line says.
+pub record IsAnswered (fits_below fits : Told → Type 0) (old new : List (List ℕ))
+    (asked : Invocation) (w : Written) : Type 0
   where
     pub answer : Result Response Fault
-    pub answers : IfFits fits (λ files. AnswersInvocation files asked answer)
+    pub answers : IfFits fits_below (λ was.
+        IfFits fits (λ files. AnswersOver was files asked answer))
     pub between : List (List ℕ)
     pub noted : NotesFailure old between answer
     pub shows : Shows fits between new asked answer w

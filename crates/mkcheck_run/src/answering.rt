@@ -12,8 +12,8 @@ ghost use Rattle.mk_cert_text.specs.Writing.{value_of};
 ghost use Rattle.serde_json.specs.Written.{compact_text};
 ghost use Rattle.mk_command.specs.Invocation.{request_in};
 ghost use Rattle.mk_core_repair.specs.Outcome.{outcome_of};
-ghost use Rattle.mkcheck_run.specs.Run.{AnswersInvocation, Promises, evidence_response, form_response, plan_response, lines_response, repair_in_json, repair_response, repair_status, explain_response, explained_response, first_explained, first_near, instead_text, near, printed_response, json_response, noted_response, run_printed, run_response, run_status, text_response, unknown_text, verdict_response, words_response, response_without_plan, yes_note};
-ghost use Rattle.mk_command.specs.declared.invocation.Invocation.TheVariants.{Check, CheckInJson, CheckInWords, Explain, Graph, Repair as Mend, Simulate, Verify};
+ghost use Rattle.mkcheck_run.specs.Run.{AnswersInvocation, AnswersOver, Promises, evidence_response, form_response, plan_response, lines_response, repair_in_json, repair_response, repair_status, explain_response, explained_response, first_explained, first_near, instead_text, near, printed_response, json_response, noted_response, run_printed, run_response, run_status, since_response, text_response, unknown_text, verdict_response, words_response, response_without_plan, yes_note};
+ghost use Rattle.mk_command.specs.declared.invocation.Invocation.TheVariants.{Check, CheckInJson, CheckInWords, Explain, Graph, Repair as Mend, Simulate, Since as Compare, Verify};
 
 use crate::running::{DONE, NO, REFUSED};
 use mk_cert_text::{Certificate, certificate_text};
@@ -28,6 +28,7 @@ use mk_core_json::{
 };
 use mk_core_repair::{Repair, repair, repair_message, repair_text};
 use mk_core_sentences::{InWords, check_in_words};
+use mk_core_since::{Change, Folder, Since, since, since_message, since_output};
 use mk_explain::{explain, near_words, overview};
 use std::alloc::{AllocError, Global};
 use std::marker::Model;
@@ -533,12 +534,55 @@ fn answer_plan_run<F: Files>(
     Ok(shown)
 }
 
-/// Carries out a command, and returns the response. On an error nothing is returned; the error is
-/// the first fault, or `Memory`, out of memory. Status 0 for `check` and `verify` says that the
-/// build is right, and for `repair` that it is with the text appended to the makefile.
-pub fn answer<F: Files>(alloc: Global, files: &mut F, asked: &Invocation) -> Result<Response, Fault>
+// The response with what comes of `since`: status 1 for findings, 2 where the old build is refused.
+fn since_response(alloc: Global, found: &Since, folder: &str) -> Result<Response, AllocError>
+    ensures { IfOk result (λ shown. shown ≡ since_response folder.now found.now) }
+{
+    let text = since_output(alloc, found)?;
+    let err = since_message(alloc, found, folder)?;
+    let status = match found {
+        Since::Named(_) => DONE,
+        Since::No(_) | Since::Unsure(_) => NO,
+        Since::Refused(_) => REFUSED,
+    };
+    Ok(Response { text, err, status })
+}
+
+// Carries out `since`.
+fn answer_since<F: Files, B: Folder>(
+    alloc: Global,
+    files: &mut F,
+    below: &mut B,
+    change: &Change<'_>,
+) -> Result<Response, Fault>
     ensures keeps { Keeps (F.fits files.old) (F.fits files.new) }
-    ensures answer { IfFits (F.fits files.new) (λ told. AnswersInvocation told asked.now result) }
+    ensures answer { IfFits (B.fits below.new)
+        (λ was. IfFits (F.fits files.new)
+        (λ told. AnswersOver was told
+        (Compare change.now.request.now change.now.folder.now) result)) }
+    ensures noted { NotesFailure (F.failed files.old) (F.failed files.new) result }
+    ensures untouched { OnErr (macros_for change.now.request.now) (files.new ≡ files.old) }
+{
+    below.enter(alloc, change.folder)?;
+    let found = since(alloc, below, files, change)?;
+    let shown = since_response(alloc, &found, change.folder)?;
+    drop_or_leak(found, change.request.leaves_memory);
+    Ok(shown)
+}
+
+/// Carries out a command, and returns the response. Only `since` reads by `below`. On an error
+/// nothing is returned; the error is the first fault, or `Memory`, out of memory. Status 0 for
+/// `check` and `verify` says that the build is right, and for `repair` that it is with the text
+/// appended to the makefile.
+pub fn answer<F: Files, B: Folder>(
+    alloc: Global,
+    files: &mut F,
+    below: &mut B,
+    asked: &Invocation,
+) -> Result<Response, Fault>
+    ensures keeps { Keeps (F.fits files.old) (F.fits files.new) }
+    ensures answer { IfFits (B.fits below.new)
+        (λ was. IfFits (F.fits files.new) (λ told. AnswersOver was told asked.now result)) }
     ensures right { IfFits (F.fits files.new)
         (λ told. IfOk result (λ shown.
         shown.status ≡ 0 → Promises told asked.now shown.text)) }
@@ -569,6 +613,13 @@ pub fn answer<F: Files>(alloc: Global, files: &mut F, asked: &Invocation) -> Res
             certificate,
             form,
         } => answer_verify(alloc, files, request, certificate, *form),
+        Invocation::Since { request, folder } => {
+            let change = Change {
+                request,
+                folder: folder.as_str(),
+            };
+            answer_since(alloc, files, below, &change)
+        }
         Invocation::Simulate {
             request,
             plan,

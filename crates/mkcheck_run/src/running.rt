@@ -8,7 +8,7 @@ ghost use Rattle.mk_core_sentences.specs.RefusedLine.{FindsLine};
 ghost use Rattle.mk_command.specs.Invocation.{AreRefusedUnread, invocation_of, asked_with, asking, faults_of, form_of, request_in};
 ghost use Rattle.mk_command.specs.CommandLine.{HasNoOption, graph_words};
 ghost use Rattle.mkcheck_host.specs.Outcome.{written};
-ghost use Rattle.mkcheck_run.specs.Run.{Explains, IsAnswered, IsRefused, Promises, Shows, line_shown, refusal_text};
+ghost use Rattle.mkcheck_run.specs.Run.{Explains, IsAnswered, IsRefused, Promises, Shows, line_shown, refusal_text, refusal_written};
 ghost use Rattle.mk_command.specs.declared.invocation.Form.TheVariants.{Lines};
 ghost use Rattle.mk_command.specs.declared.invocation.Invocation.TheVariants.{Graph};
 
@@ -18,6 +18,7 @@ use clap::{ArgMatches, Error};
 use mk_command::{Form, Invocation, command_line, form_of, invocation_by, request_of};
 use mk_core::{Fault, Files, fault_text};
 use mk_core_sentences::line_of_fault;
+use mk_core_since::Folder;
 use mk_core_text::fault_words;
 use mkcheck_host::{FAULT, Outcome};
 use std::alloc::{AllocError, Global};
@@ -71,6 +72,24 @@ fn line_after<F: Files>(
     }
 }
 
+// The outcome of a refusal with this text.
+fn refusal_outcome(alloc: Global, asked: &Invocation, text: Vec<u8>) -> Outcome
+    ensures { written result ≡ refusal_written asked.now text.items }
+{
+    match asked {
+        Invocation::Since { .. } => Outcome {
+            out: Vec::new(alloc),
+            err: text,
+            status: REFUSED,
+        },
+        _ => Outcome {
+            out: text,
+            err: Vec::new(alloc),
+            status: REFUSED,
+        },
+    }
+}
+
 // The outcome of a refusal. Out of memory is an error.
 fn refused<F: Files>(
     alloc: Global,
@@ -87,12 +106,8 @@ fn refused<F: Files>(
         return Err(AllocError);
     }
     let line = line_after(alloc, files, asked, fault)?;
-    let out = refusal_text(alloc, form_of(asked), fault, &line)?;
-    Ok(Outcome {
-        out,
-        err: Vec::new(alloc),
-        status: REFUSED,
-    })
+    let text = refusal_text(alloc, form_of(asked), fault, &line)?;
+    Ok(refusal_outcome(alloc, asked, text))
 }
 
 // The outcome of a response, or of the fault in its place.
@@ -171,15 +186,16 @@ fn explained(alloc: Global, error: &Error) -> Result<Outcome, AllocError>
 }
 
 // The outcome of the command that the matches give.
-fn answered<F: Files>(
+fn answered<F: Files, B: Folder>(
     alloc: Global,
     files: &mut F,
+    below: &mut B,
     matches: &ArgMatches<'_>,
 ) -> Result<Outcome, AllocError>
     requires met { has_subcommand matches.now ≡ true }
     ensures keeps { Keeps (F.fits files.old) (F.fits files.new) }
-    ensures answered { IfOk result (λ outcome. IsAnswered (F.fits files.new) (F.failed files.old)
-        (F.failed files.new) (asked_with (subcommand_rows_of matches.now)) (written outcome)) }
+    ensures answered { IfOk result (λ outcome. IsAnswered (B.fits below.new) (F.fits files.new)
+        (F.failed files.old) (F.failed files.new) (asked_with (subcommand_rows_of matches.now)) (written outcome)) }
     ensures right { IfOk result (λ outcome. outcome.status ≡ 0 → IfFits (F.fits files.new)
         (λ told. Promises told (asked_with (subcommand_rows_of matches.now)) outcome.out.items)) }
     ensures untouched { OnErr
@@ -188,25 +204,26 @@ fn answered<F: Files>(
 {
     let (name, met) = matches.subcommand().unwrap();
     let asked = invocation_by(alloc, name, met)?;
-    let found = answer(alloc, files, &asked);
+    let found = answer(alloc, files, below, &asked);
     shown(alloc, files, &asked, found)
 }
 
 /// Parses the words after the program's name, and carries out the command that they give (the
 /// standard's `make`, "Options", "Operands" and "Exit Status"). The outcome has status 0 for a yes
 /// or any other success, and for help and the version; 1 for a no; 2 for a refusal, for the run of
-/// a plan in which a line was refused, and for a fault of the words. The only error is out of
-/// memory.
-pub fn run<F: Files, S: AsStr>(
+/// a plan in which a line was refused, and for a fault of the words. Only `since` reads by `below`.
+/// The only error is out of memory.
+pub fn run<F: Files, B: Folder, S: AsStr>(
     alloc: Global,
     files: &mut F,
+    below: &mut B,
     words: &[S],
 ) -> Result<Outcome, AllocError>
     ensures keeps { Keeps (F.fits files.old) (F.fits files.new) }
 
     // Words without a fault give a command, which is carried out.
     ensures taken { IfOk result (λ outcome. faults_of (map S.text words.now) ≡ [] →
-        IsAnswered (F.fits files.new) (F.failed files.old) (F.failed files.new)
+        IsAnswered (B.fits below.new) (F.fits files.new) (F.failed files.old) (F.failed files.new)
         (invocation_of (map S.text words.now)) (written outcome)) }
 
     // Where the command judges a build, status 0 says that the build is right; where it mends one,
@@ -220,7 +237,7 @@ pub fn run<F: Files, S: AsStr>(
     ensures plain { IfOk result (λ outcome. (makefile : Option (List ℕ)) (asked : List (List ℕ)) →
         map S.text words.now ≡ graph_words makefile asked → HasNoOption makefile asked →
         length asked < 2 ^ 64 →
-        IsAnswered (F.fits files.new) (F.failed files.old) (F.failed files.new)
+        IsAnswered (B.fits below.new) (F.fits files.new) (F.failed files.old) (F.failed files.new)
         (Graph (asking makefile asked) Lines) (written outcome)) }
 
     // Words with a fault are refused.
@@ -233,7 +250,7 @@ pub fn run<F: Files, S: AsStr>(
 {
     let command = command_line(alloc)?;
     match command.try_get_matches_from(words) {
-        Ok(matches) => answered(alloc, files, &matches),
+        Ok(matches) => answered(alloc, files, below, &matches),
         Err(error) => explained(alloc, &error),
     }
 }

@@ -9,6 +9,7 @@ ghost use Rattle.mkcheck_run.specs.Run.{IsAnswered, Promises};
 
 use crate::running::run;
 use mk_core::Files;
+use mk_core_since::Folder;
 use mkcheck_host::{Outcome, Stop};
 use std::alloc::Global;
 use std::convert::AsStr;
@@ -16,10 +17,11 @@ use std::io;
 use std::io::ErrorKind;
 
 /// The outcome for the words after the program's name. Fails with `Stop::Words` where a word isn't
-/// UTF-8, and with `Stop::Memory` where memory ran out.
-pub fn run_arguments<F: Files>(
+/// UTF-8, and with `Stop::Memory` where memory ran out. Only `since` reads by `below`.
+pub fn run_arguments<F: Files, B: Folder>(
     alloc: Global,
     files: &mut F,
+    below: &mut B,
     words: io::Result<Vec<String>>,
 ) -> Result<Outcome, Stop>
     ensures memory { IfErr words (λ error. error_kind error ≡ ErrorKind.OutOfMemory
@@ -33,7 +35,7 @@ pub fn run_arguments<F: Files>(
     // that the build is right, of `repair` that it is with the printed text appended.
     ensures taken { IfOk words (λ given. IfOk result (λ outcome.
         faults_of (map ⟦<String as AsStr>⟧.text given.items) ≡ [] →
-        IsAnswered (F.fits files.new) (F.failed files.old) (F.failed files.new)
+        IsAnswered (B.fits below.new) (F.fits files.new) (F.failed files.old) (F.failed files.new)
         (invocation_of (map ⟦<String as AsStr>⟧.text given.items)) (written outcome))) }
     ensures right { IfOk words (λ given. IfOk result (λ outcome.
         faults_of (map ⟦<String as AsStr>⟧.text given.items) ≡ [] → outcome.status ≡ 0 →
@@ -51,7 +53,7 @@ pub fn run_arguments<F: Files>(
     ensures want { OnOk words (IfErr result (λ stop. stop ≡ Stop.Memory)) }
 {
     match words {
-        Ok(words) => match run(alloc, files, words.as_slice()) {
+        Ok(words) => match run(alloc, files, below, words.as_slice()) {
             Ok(outcome) => Ok(outcome),
             Err(_) => Err(Stop::Memory),
         },

@@ -1,8 +1,10 @@
-//! Tests of the public calls of mk_core and mk_core_evidence, over files in memory.
+//! Tests of the public calls of mk_core, mk_core_evidence and mk_core_since, over files in memory.
 #![tactic(auto)]
 
 #[cfg(test)]
 mod answers;
+#[cfg(test)]
+mod changes;
 #[cfg(test)]
 mod failing;
 #[cfg(test)]

@@ -59,7 +59,7 @@ fn explains(rt: HostRuntime) -> Result<(), Fail> {
 
 #[test]
 fn explains_other_words(rt: HostRuntime) -> Result<(), Fail> {
-    for what in ["yes", "way", "cycle", "tried"] {
+    for what in ["yes", "way", "cycle", "tried", "since"] {
         let told = explain(rt.alloc(), what)?;
         assert!(rt;
             told.is_some_and(|told| told.as_str().starts_with(what)),

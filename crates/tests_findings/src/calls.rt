@@ -1,5 +1,5 @@
-//! The public calls of mk_cert, mk_find, mk_repair and mk_sentences over a subject, with their
-//! results as texts.
+//! The public calls of mk_cert, mk_find, mk_repair, mk_sentences and mk_since over a subject, with
+//! their results as texts.
 
 use mk_cert::{CertFault, verify};
 use mk_cert_text::{certificate_text, read_certificate};
@@ -7,6 +7,7 @@ use mk_find::finding_laws::no_findings;
 use mk_find::{Finding, certify, findings, hidden_findings, judge, races, static_findings};
 use mk_repair::{Obstacle, lines_text, obstacle_of, words_of};
 use mk_sentences::sentences;
+use mk_since::{named_files, past_of};
 use mk_subject::{Subject, counts};
 use std::alloc::Global;
 use std::test::Fail;
@@ -32,6 +33,10 @@ pub(crate) enum Call<'a> {
     Obstacle,
     /// `sentences` for the findings of `findings`.
     Sentences,
+    /// `past_of`, and whether that owns this file.
+    Owns(&'a str),
+    /// `past_of`, then `named_files` for the same build.
+    Named,
     /// `verify`, with the text of a certificate.
     Verify(&'a str),
 }
@@ -130,6 +135,29 @@ fn verified(alloc: Global, subject: &Subject<'_>, text: &str) -> Result<String, 
     }
 }
 
+/// Whether the build has this file itself, by what `past_of` keeps.
+fn owned(alloc: Global, subject: &Subject<'_>, file: &str) -> Result<String, Fail> {
+    let past = past_of(alloc, subject)?;
+    let text = if past.owns(file) {
+        "owned"
+    } else {
+        "not owned"
+    };
+    Ok(String::from_str(alloc, text)?)
+}
+
+/// The files to remove between two makes of the same build, each on a line.
+fn named(alloc: Global, subject: &Subject<'_>) -> Result<String, Fail> {
+    let past = past_of(alloc, subject)?;
+    let names = named_files(alloc, &past, subject)?;
+    let mut out = String::new(alloc);
+    for name in names.as_slice() {
+        out.push_str(name.as_str())?;
+        out.push_str("\n")?;
+    }
+    Ok(out)
+}
+
 /// The result of a call.
 pub(crate) fn answer(
     alloc: Global,
@@ -146,6 +174,8 @@ pub(crate) fn answer(
         Call::Lines => repaired(alloc, subject),
         Call::Obstacle => stopped(alloc, subject),
         Call::Sentences => told(alloc, subject),
+        Call::Owns(file) => owned(alloc, subject, file),
+        Call::Named => named(alloc, subject),
         Call::Verify(text) => verified(alloc, subject, text),
     }
 }

@@ -62,6 +62,15 @@ const UNWRITABLE: Build<'static> = Build {
 {"target":"a.o","commands":["cc -c a.c"],"reads":["a.c","h.h","h$.h"],"writes":["a.o"]}]}"#,
 };
 
+/// A recipe that reads the makefile.
+const READS_MAKEFILE: Build<'static> = Build {
+    makefile: "all: a b\na:\n\tmk a\nb:\n\tmk b\n",
+    goals: "all",
+    footprints: r#"{"format":1,"fixed":[],"sources":[],"records":[
+{"target":"a","commands":["mk a"],"reads":["makefile"],"writes":["a","log"]},
+{"target":"b","commands":["mk b"],"reads":[],"writes":["b"]}]}"#,
+};
+
 #[test]
 fn static_findings_need_no_order(rt: HostRuntime) -> Result<(), Fail> {
     let alloc = rt.alloc();
@@ -145,4 +154,18 @@ makefile:3: a.o reads h.h, but doesn't depend on it: when it changes, a.o stays 
 #[test]
 fn sentences_tell_findings(rt: HostRuntime) -> Result<(), Fail> {
     expect_answer(rt.alloc(), &HIDDEN, &Call::Sentences, SENTENCES)
+}
+
+#[test]
+fn an_old_build_owns_what_it_writes(rt: HostRuntime) -> Result<(), Fail> {
+    expect_answer(rt.alloc(), &RIGHT, &Call::Owns("a.o"), "owned")?;
+    expect_answer(rt.alloc(), &RIGHT, &Call::Owns("a.c"), "owned")?;
+    expect_answer(rt.alloc(), &RIGHT, &Call::Owns("makefile"), "owned")?;
+    expect_answer(rt.alloc(), &RIGHT, &Call::Owns("h.h"), "not owned")
+}
+
+#[test]
+fn names_what_read_the_makefile(rt: HostRuntime) -> Result<(), Fail> {
+    expect_answer(rt.alloc(), &RIGHT, &Call::Named, "")?;
+    expect_answer(rt.alloc(), &READS_MAKEFILE, &Call::Named, "a\nlog\n")
 }

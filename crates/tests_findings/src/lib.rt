@@ -1,4 +1,4 @@
-//! Tests of what mk_cert, mk_find, mk_repair and mk_sentences return for a judged build.
+//! Tests of what mk_cert, mk_find, mk_repair, mk_sentences and mk_since return for a judged build.
 #![tactic(auto)]
 
 #[cfg(test)]

@@ -2,6 +2,7 @@
 //! elsewhere.
 
 use mk_core::{Files, FilesError, MemFiles};
+use mk_core_since::Below;
 use mkcheck_host::{
     Disk, Ending, HostFiles, Outcome, Sink, Source, Stop, conclude, emit, end, slurp,
 };
@@ -280,7 +281,9 @@ fn says_why_there_is_no_outcome(rt: HostRuntime) {
 }
 
 fn stopped(alloc: Global, kind: ErrorKind) -> Result<Outcome, Stop> {
-    run_arguments(alloc, &mut MemFiles::new(alloc), Err(io::Error::from(kind)))
+    let mut below = Below::new(alloc, MemFiles::new(alloc));
+    let words = Err(io::Error::from(kind));
+    run_arguments(alloc, &mut MemFiles::new(alloc), &mut below, words)
 }
 
 #[test]
@@ -304,7 +307,8 @@ fn answers_the_words(rt: HostRuntime) -> Result<(), Fail> {
     let mut words = Vec::new(alloc);
     words.push(String::from_str(alloc, "graph")?)?;
     let (mut out, mut err) = (to_memory(alloc), to_memory(alloc));
-    let ran = run_arguments(alloc, &mut files, Ok(words));
+    let mut below = Below::new(alloc, MemFiles::new(alloc));
+    let ran = run_arguments(alloc, &mut files, &mut below, Ok(words));
     assert!(rt; conclude(&mut out, &mut err, &ran) == ExitCode::from(2));
     assert_eq!(rt; shown(out.into_writer().as_slice()), "refused 37\n");
     assert!(rt; err.into_writer().is_empty());

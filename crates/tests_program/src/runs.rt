@@ -1,6 +1,7 @@
 //! Each command of `run`, over files in memory.
 
 use mk_core::MemFiles;
+use mk_core_since::Below;
 use mkcheck_host::Outcome;
 use mkcheck_run::run;
 use std::alloc::{AllocError, Global};
@@ -45,7 +46,8 @@ fn ran(alloc: Global, words: &str, failing: u64) -> Result<Outcome, AllocError> 
         files.add(name, text.as_bytes())?;
     }
     files.fail_at(failing);
-    run(alloc, &mut files, &words)
+    let mut below = Below::new(alloc, MemFiles::new(alloc));
+    run(alloc, &mut files, &mut below, &words)
 }
 
 /// Checks the text that a command line prints, and its status. Another text is an error that shows

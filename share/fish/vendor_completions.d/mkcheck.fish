@@ -1,6 +1,6 @@
 # Completes the words of mkcheck and of its tools in fish.
 
-set -l commands graph check repair verify simulate explain
+set -l commands graph check repair verify since simulate explain
 complete -c mkcheck -n "not __fish_seen_subcommand_from $commands" -f
 complete -c mkcheck -n "not __fish_seen_subcommand_from $commands" -l version -d 'Print the version'
 complete -c mkcheck -l help -d 'Print help'
@@ -8,14 +8,16 @@ complete -c mkcheck -n __fish_use_subcommand -a graph -d 'Print the targets in s
 complete -c mkcheck -n __fish_use_subcommand -a check -d 'Say yes, or no and why'
 complete -c mkcheck -n __fish_use_subcommand -a repair -d 'Print the lines that are missing'
 complete -c mkcheck -n __fish_use_subcommand -a verify -d 'Test a certificate'
+complete -c mkcheck -n __fish_use_subcommand -a since -d 'Print the files of an old build to remove'
 complete -c mkcheck -n __fish_use_subcommand -a simulate -d 'Run a plan'
 complete -c mkcheck -n __fish_use_subcommand -a explain -d 'Say what a finding or a fault means'
-set -l judging graph check repair verify simulate
+set -l judging graph check repair verify since simulate
 complete -c mkcheck -n "__fish_seen_subcommand_from $judging" -s f -r -d 'The makefile'
 complete -c mkcheck -n "__fish_seen_subcommand_from $judging" -s r -d 'Leave out the default text'
 complete -c mkcheck -n "__fish_seen_subcommand_from $judging" -s b -r -d 'The recorded footprints'
-complete -c mkcheck -n "__fish_seen_subcommand_from $judging" -s w -d 'Print faults in words'
-complete -c mkcheck -n "__fish_seen_subcommand_from $judging" -l json -d 'Print one JSON value'
+set -l telling graph check repair verify simulate
+complete -c mkcheck -n "__fish_seen_subcommand_from $telling" -s w -d 'Print faults in words'
+complete -c mkcheck -n "__fish_seen_subcommand_from $telling" -l json -d 'Print one JSON value'
 complete -c mkcheck -n '__fish_seen_subcommand_from graph' -s c -d 'Print the commands'
 complete -c mkcheck -n '__fish_seen_subcommand_from check' -s c -d 'Print only the certificate'
 complete -c mkcheck -n '__fish_seen_subcommand_from check' -s e -x -d 'Print the plan of a finding'
@@ -57,6 +59,7 @@ complete -c mkcheck-audit -l no-fresh-only -d 'An answer where a source changed'
 
 complete -c mkcheck-record -l update -r -d 'Record only what changed'
 complete -c mkcheck-record -s o -r -d 'Where the footprints go'
+complete -c mkcheck-record -l keep -x -a '(__fish_complete_directories)' -d 'Keep the build for since'
 complete -c mkcheck-record -l in-place -d 'Run in the folder itself'
 complete -c mkcheck-record -l again -d 'Run all twice'
 complete -c mkcheck-record -l make -d 'Let make run all too'

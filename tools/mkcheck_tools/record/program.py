@@ -57,6 +57,11 @@ def words_of(arguments: list[str]) -> argparse.Namespace:
         "-o", metavar="FILE", help="where the footprints go; without it standard output"
     )
     parser.add_argument(
+        "--keep",
+        metavar="DIR",
+        help="keep the makefile's texts, the footprints and the words in DIR, for mkcheck since",
+    )
+    parser.add_argument(
         "--in-place", action="store_true", help="run in the folder itself and not on a fresh copy"
     )
     parser.add_argument(
@@ -118,6 +123,10 @@ def request_of(asked: argparse.Namespace, before: Premises | None) -> Request:
     )
     output = asked.update or asked.o
     refuse_other_file(output, asked.update is not None)
+    if asked.keep is not None:
+        from mkcheck_tools.record.keeping import refuse_other_folder
+
+        refuse_other_folder(asked.keep)
     choice = given.over(choice_of(os.path.realpath(output), before)) if asked.update else given
     taken = [word for word in choice.given() if word not in given.given()]
     if taken:
@@ -133,6 +142,7 @@ def request_of(asked: argparse.Namespace, before: Premises | None) -> Request:
         asked.make,
         asked.strict,
         asked.answer,
+        asked.keep,
     )
 
 
@@ -181,6 +191,8 @@ def record(asked: argparse.Namespace) -> int:
     if before is not None:
         status = unchanged(request, before)
         if status is not None:
+            if status == 0:
+                keep_as_before(request)
             return status
         before.know()
     from mkcheck_tools.run import places
@@ -196,6 +208,19 @@ def record(asked: argparse.Namespace) -> int:
     finally:
         probing.join()
         places.end_all()
+
+
+def keep_as_before(request: Request) -> None:
+    """Keeps a build of which nothing has changed, where that is asked for."""
+    if request.keep is None or request.book is None:
+        return
+    from mkcheck_tools.gnu.texts import plainly_included
+    from mkcheck_tools.record.building import makefile_of
+    from mkcheck_tools.record.keeping import keep_build
+
+    names = plainly_included(request.folder, makefile_of(request))
+    text = Path(request.book).read_text(encoding="utf-8")
+    keep_build(request.folder, request.keep, names, text, request.choice.words)
 
 
 def answered(asked: argparse.Namespace) -> int:

@@ -32,6 +32,8 @@ class Request:
     strict: bool = False
     answer: str | None = None
     """Where what it came to is written for another program."""
+    keep: str | None = None
+    """The folder in which what the build is made from is kept."""
 
     @property
     def book(self) -> str | None:
@@ -49,11 +51,20 @@ class Request:
     @property
     def hidden_paths(self) -> frozenset[str]:
         """The paths of files of the recorder."""
+        kept = files_in(os.path.realpath(self.keep)) if self.keep is not None else []
         if self.book is None:
-            return frozenset()
+            return frozenset(kept)
         store = path_of_store(self.book)
         inside = os.listdir(store) if os.path.isdir(store) else []
         paths = [path_of_state(self.book), path_of_notes(self.book), path_of_stamps(self.book)]
         paths += [store, *(os.path.join(store, name) for name in inside)]
         paths += [os.path.realpath(self.answer)] if self.answer else []
-        return frozenset(paths)
+        return frozenset([*paths, *kept])
+
+
+def files_in(folder: str) -> list[str]:
+    """The paths of a folder and of all in it."""
+    found = [folder]
+    for path, folders, files in os.walk(folder):
+        found += [os.path.join(path, name) for name in [*folders, *files]]
+    return found

@@ -6,7 +6,7 @@ use Rattle.mk_core.specs.Ready.{macros_for}
 use Rattle.mk_command.specs.declared.invocation.Invocation.{Invocation}
 use Rattle.mk_command.specs.Invocation.{asked_with, request_in}
 use Rattle.mkcheck_host.specs.Outcome.{written}
-use Rattle.mkcheck_run.specs.Run.{AnswersInvocation, Promises, Shows}
+use Rattle.mkcheck_run.specs.Run.{AnswersOver, Promises, Shows}
 use Rattle.mkcheck_run.proofs.RunLemmas.{met_found, promised, unread_twice}
 use Rattle.mkcheck_run.proofs.running.answered.Goals as goal
 
@@ -17,9 +17,9 @@ returns-clause-answered g c =
     let asks = c.in_ok-asked.ensures ∙ sym (ap asked_with met) in
     IfOk-weaker c.shown.result _ _ (λ outcome h. record {
       answer = found;
-      answers = λ told fits.
-          subst (λ (a : Invocation). AnswersInvocation told a found) asks
-          (c.answer-found.ensures.answer told (c.shown.ensures.keeps told fits));
+      answers = λ was below told fits.
+          subst (λ (a : Invocation). AnswersOver was told a found) asks
+          (c.answer-found.ensures.answer was below told (c.shown.ensures.keeps told fits));
       between = g.F.Files.failed c.answer-found.new.files;
       noted = c.answer-found.ensures.noted;
       shows = subst (λ (a : Invocation). Shows (g.F.Files.fits c.shown.new.files)

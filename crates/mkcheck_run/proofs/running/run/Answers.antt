@@ -41,7 +41,7 @@ returns-in-Ok-clause-plain g c =
     let met = (c.in-Ok.ensures.matches (ap is_simple app ∙ is_simple_command)).1 ∙ ap (λ (a : App). subcommand_of a words) app in
     let asks = ap asked_with met in
     IfOk-weaker c.answered.result _ _ (λ outcome h makefile asked is plain few.
-    subst (λ (a : Invocation). IsAnswered (g.F.Files.fits c.answered.new.files) (g.F.Files.failed c.args.files.now) (g.F.Files.failed c.answered.new.files) a (written outcome))
+    subst (λ (a : Invocation). IsAnswered (g.B.Files.fits c.answered.new.below) (g.F.Files.fits c.answered.new.files) (g.F.Files.failed c.args.files.now) (g.F.Files.failed c.answered.new.files) a (written outcome))
     (asks ∙ (ap invocation_of is ∙ plain_asked makefile asked plain)) h) c.answered.ensures.answered
 
 pub returns-in-Err-clause-plain : goal.returns-in-Err-clause-plain
@@ -58,7 +58,7 @@ returns-in-Ok-clause-taken g c =
     let words = map g.S.AsStr.text c.args.words.now in
     let met = (c.in-Ok.ensures.matches (ap is_simple app ∙ is_simple_command)).1 ∙ ap (λ (a : App). subcommand_of a words) app in
     IfOk-weaker c.answered.result _ _ (λ outcome h taken.
-    subst (λ (a : Invocation). IsAnswered (g.F.Files.fits c.answered.new.files) (g.F.Files.failed c.args.files.now) (g.F.Files.failed c.answered.new.files) a (written outcome))
+    subst (λ (a : Invocation). IsAnswered (g.B.Files.fits c.answered.new.below) (g.F.Files.fits c.answered.new.files) (g.F.Files.failed c.args.files.now) (g.F.Files.failed c.answered.new.files) a (written outcome))
     (ap asked_with met) h) c.answered.ensures.answered
 
 pub returns-in-Ok-clause-right : goal.returns-in-Ok-clause-right

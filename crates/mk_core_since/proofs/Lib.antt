@@ -1,0 +1,4 @@
+mod Right
+mod Promised
+mod BothBuilds
+mod Lines

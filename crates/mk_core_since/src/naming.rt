@@ -1,0 +1,50 @@
+//! Names files, once the old build is known.
+
+ghost use Rattle.std.specs.Prelude.{IfOk};
+ghost use Rattle.mk_core_since.specs.SinceAnswer.{GivesSince, IsSince};
+ghost use Rattle.mk_core_since.specs.NotRead.{since_not_read};
+
+use crate::outcome::Since;
+use mk_core::{Fault, Files, Judge, Verdict, verdict_of};
+use mk_since::{Past, named_files};
+use mk_subject::Subject;
+use std::alloc::{AllocError, Global};
+
+/// The files that are named if the new build has no findings, else the findings.
+fn named(alloc: Global, past: &Past, subject: &Subject<'_>) -> Result<Since, AllocError>
+    ensures { IfOk result (λ since. IsSince past.now subject.now since) }
+{
+    match verdict_of(alloc, subject)? {
+        Verdict::Yes { .. } => Ok(Since::Named(named_files(alloc, past, subject)?)),
+        Verdict::No(found) => Ok(Since::No(found)),
+    }
+}
+
+/// Names files, from this old build.
+#[derive(Drop)]
+pub struct NameFiles<'a> {
+    /// The old build.
+    pub past: &'a Past,
+}
+
+impl Judge for NameFiles<'_> {
+    type Answer = Since;
+
+    ghost judges = { λ c _ y answer. GivesSince c.past.now y answer };
+
+    fn is_brief(&self) -> bool {
+        false
+    }
+
+    fn judge<F: Files>(
+        &self,
+        alloc: Global,
+        _files: &mut F,
+        subject: &Subject<'_>,
+    ) -> Result<Since, Fault> {
+        let found = named(alloc, self.past, subject)?;
+        Ok(found)
+    }
+
+    ghost not_read = { λ c _ y fault. since_not_read c.past.now y fault };
+}

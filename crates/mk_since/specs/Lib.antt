@@ -1,0 +1,4 @@
+pub mod Past
+pub mod Named
+pub mod Parts
+pub mod Laws

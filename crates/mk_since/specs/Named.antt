@@ -1,0 +1,38 @@
+-- The files to remove.
+use Rattle.std.specs.Prelude.{◌≡◌, ◌↔◌, ◌⊎◌, ℕ, true, false, Bool, List, slice_index_or}
+use Rattle.mk_graph.specs.Membership.{Has}
+use Rattle.mk_infer.specs.Commands.{commands}
+use Rattle.mk_build.specs.Setting.{FileName, IsAlwaysMade}
+use Rattle.mk_build_behaviours.specs.Behaviours.{Behaviours}
+use Rattle.mk_build_since.specs.Named.{Build, IsNamed, all_rules}
+use Rattle.mk_subject.specs.NodeRow.{NodeRow, AreEntries}
+use Rattle.mk_subject.specs.Subject.{Subject, footprints}
+use Rattle.mk_since.specs.Parts.{Among, Leaves, Renews}
+use Rattle.mk_since.specs.Past.{Past, lines_in}
+
+-- The build of a subject, with the commands as its makefile has them, whose recipes behave so.
+abbrev pub build_of : Subject → Behaviours → Build
+build_of x b = record {
+  graph = x.graph;
+  setting = footprints x.setting;
+  commands = λ name. lines_in (commands x.makefile x.there name);
+  behaviours = b;
+}
+
+-- These are the files to remove from the old build x before makes of the new build y, however their
+-- recipes behave.
+abbrev pub AreNamed : Subject → Subject → List FileName → Type 0
+AreNamed x y names =
+    (b c : Behaviours) (f : FileName) →
+    Has names f ↔ IsNamed all_rules (build_of x b) (build_of y c) f
+
+-- The names are those that an old recipe leaves, and those of the old build that a row of the new
+-- build y renews.
+pub record AreNamedBy (past : Past) (y : Subject) (names : List FileName) : Type 0 where
+  pub always : List Bool
+  pub always_made : (t : ℕ) → (slice_index_or always t false ≡ true) ↔ IsAlwaysMade y.graph t
+  pub entries : List NodeRow
+  pub are_entries : AreEntries y entries
+  pub all : (f : FileName) →
+      Has names f ↔
+      (Among (Leaves y) past.recipes f ⊎ Among (Renews past y always) entries f)

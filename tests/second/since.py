@@ -1,0 +1,123 @@
+"""`since`: the files of an old build to remove before the new one is made."""
+
+from __future__ import annotations
+
+from judge import Subject
+from lines import Refused
+from reading import Files, Found
+from repair import printed
+from request import Request, prepared
+
+WORDS = b"words"
+BOOK = b"footprint.json"
+
+
+class Below:
+    """The files of a folder, by their names in it."""
+
+    def __init__(self, files: Files, folder: bytes) -> None:
+        self.files = files
+        self.folder = folder
+
+    def read(self, name: bytes) -> Found:
+        return self.files.read(below(self.folder, name))
+
+
+def below(folder: bytes, name: bytes) -> bytes:
+    """The name of a file of a folder, as seen from outside."""
+    return folder + (b"" if folder.endswith(b"/") else b"/") + name
+
+
+def old_words(files: Files, request: Request) -> list[bytes]:
+    """The words of the old build: the lines of its file, or those of now."""
+    found = files.read(WORDS)
+    if found is None:
+        return request.words
+    if found == "failed":
+        raise Refused(35, WORDS, name="FileReadFailed")
+    for number, line in enumerate(found.split(b"\n"), 1):
+        try:
+            line.decode("utf-8")
+        except UnicodeDecodeError:
+            raise Refused(27, where=b"words:%d" % number, name="BadGoal")
+    return [line for line in found.split(b"\n") if line]
+
+
+def old_subject(files: Files, request: Request) -> Subject:
+    """The old build, which these files hold."""
+    old = Request([request.command, "DIR", "-b", "B"])
+    old.flags = request.flags
+    old.values = {**request.values, "b": BOOK}
+    old.take(old_words(files, request))
+    graph, book, passed_over = prepared(old, files)
+    return Subject(graph, book, passed_over)
+
+
+def seen_from_outside(fault: Refused, folder: bytes) -> bytes:
+    """The line of a refusal of the old build. What is a file there has its folder before it."""
+    if fault.name == "BadMakefileName":
+        return fault.line()
+    where = None if fault.where is None else below(folder, fault.where)
+    words = list(fault.words)
+    if fault.number in (32, 35, 37, 38):
+        words = [below(folder, name) for name in words]
+    return Refused(fault.number, *words, where=where).line()
+
+
+def is_file(subject: Subject, file: bytes) -> bool:
+    """Whether a file is one of a build: it is given, or a recipe writes it."""
+    return subject.there.is_given(file) or file in subject.writers
+
+
+def was_file(old: Subject, file: bytes) -> bool:
+    """Whether a file is one of the old build."""
+    makefile = old.rules.makefile
+    return file in old.there.sources or file in makefile.texts or file in old.writers
+
+
+def cant_stay(old: Subject, new: Subject, recipe: bytes) -> bool:
+    """Whether what a recipe of the new build wrote before can't stay."""
+    return (
+        recipe not in old.recipes
+        or old.commands[recipe].texts != new.commands[recipe].texts
+        or set(old.writes(recipe)) != set(new.writes(recipe))
+        or any(not is_file(new, file) for file in old.reads(recipe))
+        or any(file in new.rules.makefile.texts for file in old.reads(recipe))
+    )
+
+
+def is_always_made(subject: Subject, recipe: bytes) -> bool:
+    node = subject.node(recipe)
+    return node.phony or any(subject.node(name).phony for name in node.prerequisites)
+
+
+def named(old: Subject, new: Subject) -> list[bytes]:
+    """The files to remove."""
+    found = [file for file in old.writers if not is_file(new, file)]
+    for recipe in new.recipes:
+        if not is_always_made(new, recipe) and cant_stay(old, new, recipe):
+            found += [file for file in new.writes(recipe) if was_file(old, file)]
+    return sorted(set(found))
+
+
+def compared(request: Request, files: Files) -> tuple[bytes, bytes, int]:
+    """Standard output, standard error, and the status."""
+    folder = request.folder
+    tail = b"this is the old build, in %b: begin with a clean build\n" % folder
+    try:
+        old = old_subject(Below(files, folder), request)
+    except Refused as fault:
+        return b"", seen_from_outside(fault, folder) + b"\n" + tail, 2
+    found = old.findings()
+    if found:
+        return b"", printed(found) + tail, 1
+    try:
+        graph, book, passed_over = prepared(request, files)
+        new = Subject(graph, book, passed_over)
+    except Refused as fault:
+        return b"", fault.line() + b"\n", 2
+    findings = new.findings()
+    if findings:
+        return b"", printed(findings), 1
+    lines = [file + b"\n" for file in named(old, new)]
+    return b"".join(lines), b"", 0
