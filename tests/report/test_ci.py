@@ -1,4 +1,4 @@
-"""The script of docs/CI.md, run on a small project."""
+"""The scripts of docs/CI.md, run on small projects."""
 
 from __future__ import annotations
 
@@ -27,7 +27,7 @@ def traces() -> bool:
 @unittest.skipUnless(traces(), "no strace that may trace")
 @unittest.skipUnless(shutil.which("git"), "no git")
 class ScriptTest(ReportTest):
-    """A project whose makefile forgets b.txt."""
+    """A project of git, the tools on its PATH, and the scripts of the page."""
 
     def setUp(self) -> None:
         super().setUp()
@@ -38,8 +38,9 @@ class ScriptTest(ReportTest):
             (tools / name).symlink_to(ROOT / "bin" / name)
         self.tools, self.folder = tools, self.folder / "project"
         self.folder.mkdir()
-        (script,) = SCRIPT.findall(PAGE.read_text(encoding="utf-8"))
-        self.write("mkcheck-ci.sh", script)
+        judges, keeps = SCRIPT.findall(PAGE.read_text(encoding="utf-8"))
+        self.write("mkcheck-ci.sh", judges)
+        self.write("mkcheck-kept.sh", keeps)
         self.write("makefile", MAKEFILE)
         self.write("a.in", "a\n")
         self.write("b.txt", "b\n")
@@ -57,6 +58,10 @@ class ScriptTest(ReportTest):
         return subprocess.run(
             words, cwd=self.folder, env=environment, capture_output=True, text=True, check=False
         )
+
+
+class JudgingTest(ScriptTest):
+    """A project whose makefile forgets b.txt."""
 
     def run_script(self, status: int) -> str:
         """What the script prints; it has to end with this status and leave both reports."""
@@ -85,3 +90,50 @@ class ScriptTest(ReportTest):
         done = self.command("sh", "mkcheck-ci.sh")
         self.assertEqual(done.returncode, 2, done.stdout)
         self.assertIn("broken", done.stderr)
+
+
+class KeepingTest(ScriptTest):
+    """A folder that is kept over commits."""
+
+    def made(self, status: int = 0) -> str:
+        """What the script prints. The makefile is tracked, all else isn't."""
+        self.command("git", "add", "makefile")
+        done = self.command("sh", "mkcheck-kept.sh")
+        self.assertEqual(done.returncode, status, done.stdout + done.stderr)
+        return done.stdout
+
+    def text(self, name: str) -> str:
+        """The text of a file."""
+        return (self.folder / name).read_text()
+
+    def test_other_commands(self) -> None:
+        """What other commands made is removed, and made again."""
+        self.write("makefile", "a.txt: a.in b.txt\n\tcat a.in b.txt > a.txt\n")
+        self.write("old.o", "of another build")
+        self.made()
+        self.assertEqual(self.text("a.txt"), "a\nb\n")
+        self.assertFalse((self.folder / "old.o").exists())
+        self.write("mine", "not tracked")
+        self.write("makefile", "a.txt: a.in b.txt\n\tcat b.txt a.in > a.txt\n")
+        self.assertIn("cat b.txt a.in > a.txt", self.made())
+        self.assertEqual(self.text("a.txt"), "b\na\n")
+        self.assertEqual(self.text("mine"), "not tracked")
+        self.assertNotIn("cat", self.made())
+
+    def test_a_finding(self) -> None:
+        """Nothing is made where the answer is no."""
+        self.assertIn("b.txt", self.made(1))
+        self.assertFalse((self.folder / "all.txt").exists())
+
+    def test_a_make_that_fails(self) -> None:
+        """Nothing is known after it, so the next one begins from nothing."""
+        self.write("makefile", "a.txt: a.in\n\tcat a.in > a.txt\n")
+        self.made()
+        (self.tools / "make").symlink_to("/bin/false")
+        self.write("makefile", "a.txt: a.in\n\tcat a.in a.in > a.txt\n")
+        self.made(1)
+        (self.tools / "make").unlink()
+        self.write("old.o", "of another build")
+        self.made()
+        self.assertEqual(self.text("a.txt"), "a\na\n")
+        self.assertFalse((self.folder / "old.o").exists())
