@@ -131,6 +131,7 @@ bench: proved
 	@python3 bench/judging.py
 	@python3 bench/evidence.py
 	@python3 bench/repairs.py
+	@python3 bench/since.py
 	@python3 bench/sentences.py
 	@python3 bench/plans.py
 	@python3 bench/hostile.py

@@ -37,8 +37,8 @@ record Kept (was : Told) (request : Request) (past : Past) : Type 0 where
 
 module _ (was : Told) (old_request : Request) (past : Past) where
   old_judged : (ready : Ready) → ready_for was None old_request ≡ Ok ready → AnswersJudged GivesOld ready (Ok (old.Kept past)) → Kept was old_request past
-  old_judged ready is (Ok g, s, inl (is_graph, is_subject, (old.Kept kept, (yes, same), e))) = record {
-    judged = record { ready = ready; graph = g; is_ready = is; is_selected = s; is_graph = is_graph; is_subject = is_subject; has_yes = yes };
+  old_judged ready is (Ok g, s, inl (is_graph, is_subject, (old.Kept kept, (has, same), e))) = record {
+    judged = record { ready = ready; graph = g; is_ready = is; is_selected = s; is_graph = is_graph; is_subject = is_subject; has_yes = has };
     is_past = let here : past ≡ kept = cc in subst (λ (p : Past). p ≡ past_of (subject_over ready g)) (sym here) same;
   }
   old_judged ready is (Ok g, s, inl (is_graph, is_subject, (old.Unsure found, found_is, e))) = absurd cc
@@ -62,12 +62,12 @@ module _ (was : Told) (request : Request) (past : Past) where
 module _ (right : NamedIsRight) (was files : Told) (request : Request) (names : List (List ℕ)) where
   module _ (past : Past) (q : Request) (is_old : before was request ≡ Ok q) (kept : Kept was q past) where
     new_judged : (ready : Ready) → ready_for files None request ≡ Ok ready → AnswersJudged (GivesSince past) ready (Ok (Named names)) → IsNextFor was files request names
-    new_judged ready is (Ok g, s, inl (is_graph, is_subject, (Named found, (yes, by), e))) =
+    new_judged ready is (Ok g, s, inl (is_graph, is_subject, (Named found, (has, by), e))) =
         let x = subject_over kept.judged.ready kept.judged.graph in
         let y = subject_over ready g in
         let here : names ≡ found = cc in
         let those = subst (λ (p : Past). AreNamedBy p y names) kept.is_past (subst (λ (l : List (List ℕ)). AreNamedBy past y l) (sym here) by) in
-        let both = right x y kept.judged.is_graph kept.judged.is_subject kept.judged.has_yes is_graph is_subject yes names those in
+        let both = right x y kept.judged.is_graph kept.judged.is_subject kept.judged.has_yes is_graph is_subject has names those in
         record {
           old_request = q;
           old_ready = kept.judged.ready;
