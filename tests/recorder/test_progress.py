@@ -7,9 +7,12 @@ import os
 import pty
 import subprocess
 import sys
+import time
 import unittest
+from concurrent.futures import ThreadPoolExecutor
 from unittest import mock
 
+from mkcheck_tools.replay import halves
 from mkcheck_tools.run.progress import CLEAR, SECONDS_APART, Progress, duration
 from recorder.project import MKCHECK, RECORDER, ProjectTest, traced
 
@@ -99,6 +102,29 @@ class LinesTest(unittest.TestCase):
             stream.flush()
         self.assertEqual(read_all(reader), f"{CLEAR}[1/1] a.o: cc -c {CLEAR}")
         self.assertEqual(len("[1/1] a.o: cc -c "), 17)
+
+
+class FailingWritesTest(unittest.TestCase):
+    """The runs where writes fail, behind a count of replays that was shown just before."""
+
+    def told(self, seconds: list[float]) -> str:
+        """What is written of runs that end by themselves after these seconds."""
+        stream = io.StringIO()
+        with ThreadPoolExecutor() as pool, mock.patch.object(halves, "SECONDS_SHOWN", 0.1):
+            runs = {number: pool.submit(time.sleep, one) for number, one in enumerate(seconds)}
+            names = {number: f"{number}.o" for number in runs}
+            halves.watch(runs, names, Progress(len(runs), stream, title="failing"))
+        return stream.getvalue()
+
+    def test_a_long_run_is_told_at_once(self) -> None:
+        self.assertEqual(self.told([0.6, 0.6]), "[failing 0/2] 0.o goes on\n")
+
+    def test_short_runs_are_not_told(self) -> None:
+        self.assertEqual(self.told([0.0, 0.0]), "")
+        self.assertEqual(self.told([]), "")
+
+    def test_a_run_that_has_ended_is_told_where_another_goes_on(self) -> None:
+        self.assertRegex(self.told([1.5, 0.0]), r"^\[failing 1/2 0:0\d left\] 1\.o\n$")
 
 
 @traced

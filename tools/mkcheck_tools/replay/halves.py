@@ -4,8 +4,10 @@ from __future__ import annotations
 
 import threading
 from collections.abc import Callable, Iterator, Mapping
+from concurrent import futures
 from concurrent.futures import Future, ThreadPoolExecutor
 from dataclasses import dataclass, replace
+from typing import Any
 
 from mkcheck_tools.faults import FULL, mistake_of
 from mkcheck_tools.replay.alike import groups_of, way_of
@@ -19,7 +21,7 @@ from mkcheck_tools.run.folders import remove
 from mkcheck_tools.run.memory import is_full
 from mkcheck_tools.run.paths import Name
 from mkcheck_tools.run.places import Place
-from mkcheck_tools.run.progress import Progress
+from mkcheck_tools.run.progress import SECONDS_SHOWN, Progress
 
 
 @dataclass(frozen=True)
@@ -82,12 +84,9 @@ class Halves:
                 for number in wanted
                 if wanted == group[:2] or any(found[one].half is not False for one in group[:2])
             }
-            progress = Progress(len(tried), title="failing")
-            for number, one in tried.items():
-                found[number] = one.result()
-                progress.ended(found[number].trial.recipe.target)
-            if tried:
-                progress.clear()
+            names = {number: found[number].trial.recipe.target for number in tried}
+            watch(tried, names, Progress(len(tried), title="failing"))
+            found.update((number, one.result()) for number, one in tried.items())
         return [replace(outcome, half=bool(outcome.half)) for outcome in found.values()]
 
     def with_half(self, outcome: Outcome, number: int, ahead: Future[bool] | None) -> Outcome:
@@ -129,6 +128,25 @@ class Halves:
             raise
         finally:
             remove(place.folder)
+
+
+def watch(
+    tried: Mapping[int, Future[Any]], names: Mapping[int, str], progress: Progress
+) -> None:
+    """Waits for runs, and tells those that have ended, or after a while which one goes on, at once
+    where all together take longer. One that raises an error ends this."""
+    left = dict(tried)
+    if futures.wait(left.values(), SECONDS_SHOWN).not_done:
+        progress.at_once()
+    while left:
+        done, _ = futures.wait(left.values(), SECONDS_SHOWN, futures.FIRST_COMPLETED)
+        for number in [number for number, one in left.items() if one in done]:
+            left.pop(number).result()
+            progress.ended(names[number])
+        if left and not done:
+            progress.goes_on(names[next(iter(left))])
+    if tried:
+        progress.clear()
 
 
 def size_of_target(world: World, trial: Trial) -> int:

@@ -69,14 +69,12 @@ from mkcheck_tools.run.folders import remove
 from mkcheck_tools.run.memory import LACKS, NO_ROOM, Memory, is_full, memory
 from mkcheck_tools.run.paths import Name, RealPath, SeenPath, real_in, seen_in, unbound
 from mkcheck_tools.run.places import Place
-from mkcheck_tools.run.progress import Progress
+from mkcheck_tools.run.progress import SECONDS_SHOWN, Progress
 from mkcheck_tools.trace.accesses import Accesses, Follower
 from mkcheck_tools.trace.trees import Tree
 
 # What most recipes go by that do something else amid other surroundings.
 LIKELY = (FLAGS, CLOCK, FOLDERS)
-# How long a replay goes on before that is told.
-SECONDS_SHOWN = 1.0
 # How many replays there are for each processor. Most wait for the clock, which takes none.
 WAITING = 4
 

@@ -2,12 +2,15 @@
 
 from __future__ import annotations
 
+import math
 import shutil
 import sys
 import time
 from typing import TextIO
 
 SECONDS_APART = 10.0
+# How long a replay goes on before that is told.
+SECONDS_SHOWN = 1.0
 CLEAR = "\r\033[K"
 
 
@@ -29,6 +32,10 @@ class Progress:
         self.terminal = self.stream.isatty()
         self.apart = apart
         self.begun = self.told = time.monotonic()
+
+    def at_once(self) -> None:
+        """Has the next line shown at once: what was shown last counts something else."""
+        self.told = -math.inf
 
     def begin(self, name: str) -> None:
         """The next recipe begins."""
