@@ -82,6 +82,21 @@ class EarlyTest(ProjectTest):
         self.assertLess(events.index("replay of a"), events.index("recorded b"))
         self.assertLess(events.index("replay of b"), events.index("recorded c"))
 
+    def test_recipes_whose_folder_is_a_target_are_replayed_once(self) -> None:
+        """A folder is no file that its recipe writes."""
+        self.write(
+            {
+                "makefile": (
+                    "c: o/b\n\tsleep 5; cp o/b c\no/b: s o\n\tcp s o/b\n"
+                    "o: s\n\tmkdir -p o; sleep 2\n"
+                ),
+                "s": "1\n",
+            }
+        )
+        events = self.events()
+        replayed = [one for one in events if one.startswith("replay of ")]
+        self.assertEqual(sorted(replayed), ["replay of c", "replay of o", "replay of o/b"])
+
     def test_a_recipe_that_looks_through_processes(self) -> None:
         """It may have seen a replay, so all is recorded once more, and then replayed."""
         self.write(

@@ -68,6 +68,9 @@ class Early:
     writers: dict[Name, list[str]] = field(default_factory=dict)
     """The targets whose recipes wrote a file so far, by its name."""
 
+    recorded: set[Name] = field(default_factory=set)
+    """The targets of these recipes, and of those that wrote nothing."""
+
     failing: dict[int, Future[Ahead]] = field(default_factory=dict)
     """Runs of recipes where writes fail that began, of those whose target is the largest so far of
     all that are made alike; by the place of the recipe."""
@@ -101,10 +104,12 @@ class Early:
         self.largest.clear()
         self.alike.clear()
         self.writers.clear()
+        self.recorded.clear()
         self.used.clear()
 
     def wrote(self, target: str, writes: Iterable[Name]) -> None:
         """A recipe is recorded, or kept, that writes these files."""
+        self.recorded.add(Name(target))
         for name in writes:
             self.writers.setdefault(name, []).append(target)
 
@@ -166,7 +171,9 @@ class Early:
         """What replays a recipe in the world as it is now."""
         with self.changing:
             now = world.as_now()
-            writers: dict[Name, list[str]] = {target: [target] for target in self.targets}
+            # One that is recorded wrote another file, or none, as where it makes a folder.
+            waiting = self.targets - self.recorded
+            writers: dict[Name, list[str]] = {target: [target] for target in waiting}
             writers.update((name, [*targets]) for name, targets in self.writers.items())
         return self.replay(now, writers, self)
 
