@@ -7,7 +7,7 @@ import hashlib
 import os
 import stat
 import time
-from collections.abc import Iterable, Iterator, Mapping
+from collections.abc import Iterable, Iterator, Mapping, Sequence
 from dataclasses import dataclass, field, replace
 
 from mkcheck_tools.answers.graphs import Recipe
@@ -166,6 +166,9 @@ class World:
     given_files: frozenset[Name] = frozenset()
     """The files that were there before any recipe."""
 
+    given_in: Mapping[str, Sequence[Name]] = field(default_factory=dict)
+    """The same by their folders."""
+
     given_links: dict[Name, str] = field(default_factory=dict)
     """The links that were there before any recipe, each with its text."""
 
@@ -226,7 +229,7 @@ class World:
                 files.add(name)
                 world.stamps[name] = file_stamp(entry.stat(follow_symlinks=False))
         world.given_folders, world.modes = frozenset(folders), folders
-        world.given_files = frozenset(files)
+        world.given_files, world.given_in = frozenset(files), by_folder(files)
         return world
 
     def as_now(self) -> World:
@@ -415,9 +418,8 @@ class World:
         kept = self.current if self.place == self.folder else {}
         return {
             name: GIVEN
-            for name in sorted(self.given_files)
-            if os.path.dirname(name) in folders
-            and name not in trial.after
+            for name in sorted(name for folder in folders for name in self.given_in.get(folder, ()))
+            if name not in trial.after
             and name not in kept
             and not (name in self.history and self.made_before(name, trial.number) is not None)
         }
@@ -538,6 +540,14 @@ class World:
 def above(name: Name) -> Name:
     """The name of the folder in which a file lies; nothing for the project's own."""
     return Name(os.path.dirname(name))
+
+
+def by_folder(names: Iterable[Name]) -> dict[str, list[Name]]:
+    """Names by the folders in which they lie."""
+    found: dict[str, list[Name]] = {}
+    for name in names:
+        found.setdefault(os.path.dirname(name), []).append(name)
+    return found
 
 
 def mode_of(path: RealPath) -> int:
