@@ -35,6 +35,10 @@ def told(own, trial, place, run, *more, **others):
 Runner.one = told
 sys.exit(program.main(sys.argv[1:]))
 """
+# The same where no run over outputs comes before the clock has gone on.
+TOLD_LATE = TOLD.replace(
+    "Runner.one = told", "Runner.one = told\nRunner.passes_ahead = lambda *_: False"
+)
 
 
 @traced
@@ -44,12 +48,12 @@ class JoinedTest(ProjectTest):
 
     replays = True
 
-    def runs(self, makefile: str, files: dict[str, str]) -> list[str]:
+    def runs(self, makefile: str, files: dict[str, str], told: str = TOLD) -> list[str]:
         """The target and the kind of each run, in their order."""
         self.write({"makefile": makefile, **files})
         words = ["-C", str(self.folder), "-o", str(self.book)]
         done = subprocess.run(
-            [sys.executable, "-c", TOLD, *words],
+            [sys.executable, "-c", told, *words],
             env={**os.environ, "MKCHECK": MKCHECK, "PYTHONPATH": str(ROOT / "tools")},
             capture_output=True,
             text=True,
@@ -82,6 +86,13 @@ class JoinedTest(ProjectTest):
             # It needn't wait for the clock.
             del runs[0]
         self.assertEqual(runs, ["out damaged", "out bare", "out again", "out damaged"])
+
+    def test_an_output_that_is_a_hard_link_to_what_it_reads(self) -> None:
+        """As the commands of git are to `git`. The stamp of the one is that of the other."""
+        makefile = "out: a\n\trm -f out && ln a out\na: s\n\tcp s a\n"
+        runs = self.runs(makefile, {"s": "1\n"}, TOLD_LATE)
+        of_out = [one for one in runs if one.startswith("out ")]
+        self.assertEqual(of_out, ["out damaged", "out again"])
 
     def test_a_source_that_it_looks_at_only_without_its_output(self) -> None:
         makefile = "out: a\n\ttest -e out || test -e flag || exit 1; cat a > out\n"

@@ -8,7 +8,7 @@ import hashlib
 import os
 import stat
 import time
-from collections.abc import Container, Iterator, Mapping
+from collections.abc import Container, Iterable, Iterator, Mapping
 from dataclasses import dataclass, field, replace
 
 from mkcheck_tools.answers.graphs import Ancestors
@@ -208,6 +208,17 @@ class Layout:
         assert version is not None
         source = self.world.store.path(version)
         lay(source, real_in(folder, name), replace(version, stamp=time.time_ns()))
+
+    def part(self, trial: Trial, outputs: Iterable[Name], folder: RealPath) -> None:
+        """Gives outputs that are hard links to what the recipe reads files of their own: else a new
+        stamp of the output would be one of that file too."""
+        paths = (real_in(folder, name) for name in trial.before)
+        reads = {os.lstat(path).st_ino for path in paths if os.path.lexists(path)}
+        for name in outputs:
+            path = real_in(folder, name)
+            if os.path.lexists(path) and os.lstat(path).st_ino in reads:
+                os.unlink(path)
+                self.lay_output(trial, name, folder)
 
     def restore(self, trial: Trial, folder: RealPath) -> dict[Name, tuple[int, ...]]:
         """Lays those reads anew that the recipe wrote or took away itself.

@@ -241,6 +241,7 @@ class Runner:
         amid: Surroundings,
     ) -> Outcome:
         """A run where the outputs of one before are there, amid other surroundings."""
+        self.layout.part(trial, outputs, place.folder)
         paths = {name: real_in(place.folder, name) for name in outputs}
         old = {name: aged(path) for name, path in paths.items()}
         found = self.one_amid(trial, place, AGAIN, laid, amid)
