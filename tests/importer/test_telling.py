@@ -33,6 +33,11 @@ class TellingTest(unittest.TestCase):
         line = "mkcheck-import: replaying where writes fail, 0:10, 1 of 2, 0:10 left\n"
         self.assertEqual(self.told("record", text, 10.0), line)
 
+    def test_replays_with_no_other_beside_them(self) -> None:
+        text = "[replay 8/8] a.o\n[alone 1/3 0:20 left] a.o goes on\n"
+        line = "mkcheck-import: replaying alone what differed, 0:10, 1 of 3, 0:20 left\n"
+        self.assertEqual(self.told("record", text, 10.0), line)
+
 
 if __name__ == "__main__":
     unittest.main()

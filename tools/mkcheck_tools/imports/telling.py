@@ -29,6 +29,7 @@ DOING = {
     "translate": "translating",
     "record": "recording",
     "replay": "replaying",
+    "alone": "replaying alone what differed",
     "failing": "replaying where writes fail",
     "check": "checking",
 }

@@ -374,12 +374,17 @@ class Replay:
             left.update(others)
         while left:
             left = futures.wait(left, SECONDS_SHOWN).not_done
-        found: list[Outcome] = []
-        for number, outcome in enumerate(outcomes):
-            if not outcome.passed and not own.differs_alone(outcome, number):
-                outcome = own.replay_safely(outcome.trial, number, outcome.given)
-            found.append(outcome)
-        return found
+        waiting = {number: one for number, one in enumerate(outcomes) if not one.passed}
+        progress = Progress(len(waiting), title="alone")
+        found = dict(enumerate(outcomes))
+        for number, outcome in waiting.items():
+            progress.goes_on(outcome.trial.recipe.target)
+            if not own.differs_alone(outcome, number):
+                found[number] = own.replay_safely(outcome.trial, number, outcome.given)
+            progress.ended(outcome.trial.recipe.target)
+        if waiting:
+            progress.clear()
+        return list(found.values())
 
     def differs_alone(self, outcome: Outcome, number: int) -> bool:
         """Whether a recipe that differed in a bare run does so too when it runs alone."""
