@@ -85,6 +85,14 @@ class LinesTest(unittest.TestCase):
         line = "[replay 0/2] a goes on\n"
         self.assertEqual(stream.getvalue(), line + line)
 
+    def test_a_long_command(self) -> None:
+        """Who reads the end of what is told finds the count."""
+        stream = io.StringIO()
+        progress = Progress(1, stream, 0.0)
+        progress.begin("a.o")
+        progress.step("cc " + "-DX " * 2000)
+        self.assertEqual(len(stream.getvalue()), 401)
+
     def test_durations(self) -> None:
         self.assertEqual(
             [duration(seconds) for seconds in (0.4, 59.6, 3599.0, 3600.0, 36061.0)],

@@ -9,6 +9,8 @@ import time
 from typing import TextIO
 
 SECONDS_APART = 10.0
+# How long a line may be elsewhere than on a terminal: commands may have any length.
+WIDTH = 400
 # How long a replay goes on before that is told.
 SECONDS_SHOWN = 1.0
 CLEAR = "\r\033[K"
@@ -64,7 +66,7 @@ class Progress:
             self.stream.flush()
         elif now - self.told >= self.apart:
             self.told = now
-            print(self.line(done, now, text), file=self.stream, flush=True)
+            print(self.line(done, now, text)[:WIDTH], file=self.stream, flush=True)
 
     def line(self, done: int, now: float, text: str) -> str:
         """A line: the recipe's number of all, an estimate of the time that is left, and a text."""
