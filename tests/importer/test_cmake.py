@@ -86,6 +86,40 @@ target_include_directories(part PRIVATE ${CMAKE_CURRENT_BINARY_DIR})
 
 @make_folder.can_judge
 @unittest.skipUnless(shutil.which("cmake") and shutil.which("cc"), "no cmake, or no compiler")
+@unittest.skipUnless(shutil.which("git"), "no git")
+class ConfiguredHeaderTest(MakeFolderTest):
+    """Headers in a build folder that git doesn't track."""
+
+    def doubts(self, generator: str, more: dict[str, str]) -> str:
+        """What is said of headers that nothing makes, in a folder that CMake configured."""
+        lists = "configure_file(config.h.in config.h)\nadd_library(part STATIC part.c)\n"
+        lists += "target_include_directories(part PRIVATE ${CMAKE_CURRENT_BINARY_DIR})\n"
+        include = "".join(f'#include "{name}"\n' for name in ["config.h", *more])
+        self.write({"CMakeLists.txt": MAKE_LISTS + lists, "config.h.in": "#define ONE 1\n"})
+        self.write({"part.c": include + "int part(void) { return ONE; }\n"})
+        words = ["cmake", "-G", generator, "-S", ".", "-B", "out"]
+        for command in (["git", "init", "-q"], ["git", "add", "."], words):
+            subprocess.run(command, cwd=self.folder, capture_output=True, check=True)
+        self.write({f"out/{name}": text for name, text in more.items()})
+        answer = self.imported("-S", "out")
+        self.assertEqual(answer.status, 0, answer.output + answer.errors)
+        self.assertIn("out/config.h", {way[1] for way in answer.ways})
+        return "".join(line for line in answer.log.splitlines() if "git doesn't track" in line)
+
+    def test_what_cmake_wrote_is_no_file_of_an_earlier_build(self) -> None:
+        generators = ["Unix Makefiles", *(["Ninja"] if shutil.which("ninja") else [])]
+        for generator in generators:
+            with self.subTest(generator):
+                self.assertEqual(self.doubts(generator, {}), "")
+                shutil.rmtree(self.folder / "out")
+
+    def test_what_it_does_not_list_may_be_one(self) -> None:
+        said = self.doubts("Unix Makefiles", {"old.h": ""})
+        self.assertIn("out/old.h is no target, but a file that git doesn't track", said)
+
+
+@make_folder.can_judge
+@unittest.skipUnless(shutil.which("cmake") and shutil.which("cc"), "no cmake, or no compiler")
 class CmakeForMakeTest(MakeFolderTest):
     """A library with a generated header, in CMake's makefiles."""
 

@@ -7,6 +7,7 @@ import subprocess
 from collections.abc import Sequence
 
 from mkcheck_tools.answers.graphs import Graph
+from mkcheck_tools.judge.cmake_lists import written_by_cmake
 from mkcheck_tools.judge.footprints import Footprint
 from mkcheck_tools.judge.notes import Kind, Note, Warn
 from mkcheck_tools.judge.refusals import listed
@@ -19,11 +20,14 @@ def warn_of_left_over(
     """Warns of files that recipes read, that the graph doesn't name and no recipe writes, and that
     lie in a folder in which recipes write.
 
-    Those that git tracks don't count, and in the project's own folder, which may hold configured
-    files, only those do that end like what recipes write there. Where there is no git, only those
-    do that lie below it, end so, and are later than the makefile.
+    Those that git tracks, or that CMake wrote when it configured, don't count, and in the project's
+    own folder, which may hold configured files, only those do that end like what recipes write
+    there. Where there is no git, only those do that lie below it, end so, and are later than the
+    makefile.
     """
     found = unnamed(folder, graph, footprints)
+    own = written_by_cmake(folder, found)
+    found = [name for name in found if name not in own]
     if not found:
         return
     tracked, since = tracked_in(folder), stamp_of(folder, makefile)

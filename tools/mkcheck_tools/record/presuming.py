@@ -17,6 +17,7 @@ from mkcheck_tools.book.updating import Updating
 from mkcheck_tools.faults import Fault
 from mkcheck_tools.gnu.remade import COMMENT, INCLUDE, JOINED
 from mkcheck_tools.gnu.texts import plainly_included
+from mkcheck_tools.judge.cmake_lists import lists_for
 from mkcheck_tools.judge.leftovers import unnamed
 from mkcheck_tools.record.answering import PACKAGE, asked_of, path_of_program
 from mkcheck_tools.record.building import Build, makefile_of
@@ -112,8 +113,8 @@ def premises_of(
         return None
     entries = [saved.entries.get(recipe.target) for recipe in graph.recipes]
     known = [entry for entry in entries if entry is not None and entry.waiting is None]
-    asks_git = bool(unnamed(request.folder, graph, recorded.footprints))
-    git = before.git if asks_git else {}
+    names = unnamed(request.folder, graph, recorded.footprints)
+    git = before.git if names else {}
     lists = lists_of(known)
     if len(known) < len(entries) or git is None or lists is None:
         return None
@@ -123,7 +124,7 @@ def premises_of(
         **before.looks,
         **git,
         **looks_of(known, shop.absent),
-        **found_at(request.folder, [*own, *kept]),
+        **found_at(request.folder, [*own, *kept, *lists_for(request.folder, names)]),
     }
     shells = sorted({recipe.shell.split()[0] for recipe in graph.recipes})
     salt = secrets.token_hex(16)
