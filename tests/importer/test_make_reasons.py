@@ -271,9 +271,29 @@ class LookTest(UnseenTestCase):
         self.assertEqual(answer.status, 0, answer.errors)
         front = "only a build shows what will be judged, for all, by GNU Make"
         self.assertTrue(answer.output.startswith(front), answer.output)
-        self.assertIn("`make -n` fails (make[1]: *** No rule to make target 'gen.h'", answer.output)
+        self.assertIn(
+            "`make -n` fails in .: No rule to make target 'gen.h', needed by 'x'; let it succeed"
+            " before a build, and an audit after an edit needn't build all anew\n",
+            answer.output,
+        )
         self.assertNotIn("Not judged", answer.output)
         self.assertNotIn("not judged", answer.errors)
+
+    def test_a_command_that_fails_where_nothing_is_built(self) -> None:
+        """It enters a folder that a recipe makes."""
+        self.write(
+            {
+                "Makefile": "all: gen\n\tcd gen && $(MAKE)\n"
+                "gen: below.mk\n\tmkdir -p gen && cp below.mk gen/Makefile\n",
+                "below.mk": "x:\n\techo > x\n",
+            }
+        )
+        answer = self.imported("--look")
+        self.assertRegex(
+            answer.output,
+            r"`make -n` fails in \. at the command `cd gen && make` of all: .*\bcd\b.*\bgen\b.*;"
+            r" let it succeed before a build, ",
+        )
 
 
 @can_judge

@@ -33,6 +33,9 @@ ERRORS = (
 # What make says of what ends it.
 OWN = re.compile(r"(?:\S*make(?:\[\d+\])?|\S+:\d+): \*\*\* ")
 OF_RECIPE = re.compile(r"\S*make(?:\[\d+\])?: \*\*\* \[")
+# The target of that line, and what stands in front of and behind the text of another one.
+TARGET = re.compile(r"\*\*\* \[(?:\S+:\d+: )?(.*)\] ")
+FRONT, END = re.compile(r".*?\*\*\* "), re.compile(r"(?:\.? +Stop)?\.?$")
 # What ninja prints for a command that fails, and in front of each command that has ended.
 FAILED = re.compile(r"FAILED: (?:\[code=-?\d+\] )?(.*?)\s*")
 COUNT = re.compile(r"\[(\d+)/(\d+)\] ")
@@ -163,6 +166,28 @@ def failure_of_make(root: str, top: Make, makes: list[Make]) -> Failure:
         return Failure(what, [], [*lines_of(printed(command.text)), *errors])
     output = lines_of(make.transcript.last_output)
     return Failure(what, lines_of(command.text), [*output, *errors])
+
+
+def failure_of_asking(root: str, makes: list[Make]) -> str:
+    """Where `make -n` failed, and the last line of the first error; empty where it didn't."""
+    failed = [make for make in makes if make.status != 0]
+    above = {id(make.parent) for make in failed}
+    make = next((one for one in failed if id(one) not in above), None)
+    if make is None:
+        return ""
+    lines = lines_of(make.errors)
+    at = next((at for at, line in enumerate(lines) if "*** " in line), None)
+    where = f"in {path_name(root, make.folder, '.')}"
+    if at is None:
+        return f"{where}: {lines[-1] if lines else 'it printed nothing'}"
+    found = TARGET.search(lines[at])
+    if found is None:
+        return f"{where}: {END.sub('', FRONT.sub('', lines[at]))}"
+    said = lines[at - 1] if at and not OWN.match(lines[at - 1]) else "it printed nothing"
+    rules = make.base.rules.get(found.group(1), [])
+    commands = [command.text for rule in rules for command in rule.commands]
+    command = f"the command `{' '.join(commands[-1].split())}`" if commands else "the recipe"
+    return f"{where} at {command} of {found.group(1)}: {said.strip()}"
 
 
 def failed_rule(top: Make, makes: list[Make]) -> tuple[Make, Rule] | None:

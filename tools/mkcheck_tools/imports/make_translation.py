@@ -46,7 +46,7 @@ def made_build(built: MakeBuilt) -> Build:
     """The build as make made it."""
     shown, front = built.shown, built.shown.front
     makes = shown.makes
-    reason = "--build was given" if front.is_built else to_build(shown.makes, built.makes)
+    reason = "--build was given" if front.is_built else to_build(front, makes, built.makes)
     if reason:
         makes = built.makes
         take_unseen(built.makes, shown.makes)

@@ -3,8 +3,13 @@
 from __future__ import annotations
 
 from mkcheck_tools.imports.database import Rule
-from mkcheck_tools.imports.gnumake import Make, last_words
+from mkcheck_tools.imports.failing import failure_of_asking
+from mkcheck_tools.imports.gnumake import Make
+from mkcheck_tools.imports.make_folder import MakeFolder
 from mkcheck_tools.imports.own_folders import essential_texts
+
+# What helps where `make -n` fails.
+TO_ASK = "let it succeed before a build, and an audit after an edit needn't build all anew"
 
 
 def ran(makes: list[Make]) -> dict[tuple[object, ...], list[Rule]]:
@@ -17,14 +22,13 @@ def ran(makes: list[Make]) -> dict[tuple[object, ...], list[Rule]]:
     return found
 
 
-def to_build(shown: list[Make], built: list[Make]) -> str:
+def to_build(front: MakeFolder, shown: list[Make], built: list[Make]) -> str:
     """Why what `make -n` showed isn't enough for what a build did; empty where it is.
 
     Recipes that `make -n` alone shows are no reason: it takes each target for changed.
     """
-    failed = next((make for make in shown if make.status != 0), None)
-    if failed is not None:
-        return f"`make -n` fails ({last_words(failed.errors)})"
+    if failed := failure_of_asking(front.copies.seen, shown):
+        return f"`make -n` fails {failed.replace(front.wrapper, 'make')}; {TO_ASK}"
     if len(built) > len(shown):
         return "it starts more makes"
     one_shell = any(make.transcript.is_one_shell for make in built)

@@ -126,7 +126,7 @@ class MakeTool:
 
     def unsure(self, shown: MakeShown) -> str:
         """That `make -n` fails, as where a make reads what one before it makes."""
-        return to_build(shown.makes, [])
+        return to_build(shown.front, shown.makes, [])
 
     def how_far(self, shown: MakeShown) -> str:
         """How many commands the present make has begun, of those that `make -n` showed, and which
@@ -167,7 +167,7 @@ class MakeTool:
         }
         reread = written | {name for name in built.made if name.endswith(DEPENDENCY_ENDINGS)}
         readings = built.readings
-        why = to_build(shown.makes, built.makes)
+        why = to_build(shown.front, shown.makes, built.makes)
         reasons = {
             f"targets are there before the build ({', '.join(sorted(there)[:3])})": there,
             f"the commands are those of a real build: {why}": why,
