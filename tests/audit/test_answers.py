@@ -48,6 +48,22 @@ def test_the_same_line_mends_a_race_and_a_stale_read(project: Project) -> None:
     assert outcome.status == 1
 
 
+@can_record
+def test_the_last_lines_of_a_recipe_that_failed(project: Project) -> None:
+    said = "for i in $$(seq 12); do echo line $$i >&2; done"
+    project.write({"makefile": f".PHONY: all\nall: a b\na:\n\techo > a\nb:\n\t{said}; exit 3\n"})
+    outcome = project.audit()
+    assert "    the recipe of b failed, status 3, at " in outcome.output
+    last = "".join(f"        line {number}\n" for number in range(3, 13))
+    assert f"; its last lines, of all in .mkcheck/record.log:\n{last}" in outcome.output
+    assert "line 2\n" not in outcome.output
+    assert "\nline 1\nline 2\n" in project.text(".mkcheck/record.log")
+    assert "1 of 2 recipes judged" in outcome.output
+    project.write({"makefile": "all: a\na:\n\techo > a\n"})
+    assert project.audit().status == 0
+    assert not (project.folder / ".mkcheck/record.log").exists()
+
+
 @can_import
 def test_a_gnu_makefile_is_imported(project: Project) -> None:
     project.write({"Makefile": GNU, **SOURCES})

@@ -4,7 +4,7 @@ from __future__ import annotations
 
 import unittest
 
-from importer.make_folder import MakeFolderTest, has_make
+from importer.make_folder import MakeFolderTest, can_judge, has_make
 from importer.ninja_folder import has_ninja
 from mkcheck_tools.imports.failing import excerpt, failure_of_ninja
 
@@ -15,6 +15,7 @@ echo "configure: error: no libfoo" >&2
 for i in $(seq 100); do echo "checking for late$i... yes" >&2; done
 exit 3
 """
+HAS_ALL = "@LOG@ has all that was printed"
 MIDDLE = [
     "(97 lines left out, see @LOG@)",
     *(f"checking for error_{number}.h... yes" for number in (98, 99, 100)),
@@ -59,6 +60,7 @@ class MakeFailingTest(FailingTest):
                 "warned",
                 "make: *** [Makefile:6: b] Error 7",
                 "mend it until `make` in . succeeds, and import again",
+                HAS_ALL,
             ],
         )
         self.assertNotIn("a: error: not this", self.log)
@@ -76,6 +78,7 @@ class MakeFailingTest(FailingTest):
                 *(f"checking for late{number}... yes" for number in (97, 98, 99, 100)),
                 "make: *** [Makefile:2: config.h] Error 3",
                 "mend it until `make` in . succeeds, and import again",
+                HAS_ALL,
             ],
         )
         self.assertIn("checking for late50... yes", self.log)
@@ -139,6 +142,24 @@ class MakeFailingTest(FailingTest):
         self.assertEqual(found[5], "\t(17 more lines, see @LOG@)")
         self.assertIn("\techo 19 && \\", self.log)
 
+    @can_judge
+    def test_a_recipe_that_fails_by_the_recorder_alone(self) -> None:
+        """It runs without what make hands down."""
+        self.write(
+            {
+                "Makefile": "all: a b\na:\n\techo > a\n"
+                'b:\n\ttest "$$MAKELEVEL" || { echo no level >&2; exit 3; }; echo > b\n',
+            }
+        )
+        answer = self.imported()
+        self.assertEqual(answer.status, 4, answer.output + answer.errors)
+        self.assertRegex(
+            answer.output,
+            r"the recipe of b failed, status 3, at .*; its last lines, of all in"
+            r" \S+/import\.log:\n(?: {8}.*\n)* {8}no level\n",
+        )
+        self.assertIn("\nno level\n", answer.log)
+
 
 @has_make
 @has_ninja
@@ -155,7 +176,7 @@ class NinjaFailingTest(FailingTest):
             }
         )
         lines = self.failed()
-        self.assertEqual(len(lines), 6, lines)
+        self.assertEqual(lines[6:], [HAS_ALL])
         self.assertRegex(lines[0], "failed at the command of [bc], so it can't be recorded:$")
         name = lines[1][-1]
         other = "b" if name == "c" else "c"
@@ -167,6 +188,7 @@ class NinjaFailingTest(FailingTest):
                 f"{name} is bad",
                 f"(1 more failed: {other})",
                 "mend it until `ninja` in . succeeds, and import again",
+                HAS_ALL,
             ],
         )
 

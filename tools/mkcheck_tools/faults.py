@@ -10,6 +10,10 @@ from dataclasses import dataclass
 
 # The errors of a disk that is full, or of which a user may have no more.
 FULL = (errno.ENOSPC, errno.EDQUOT)
+# What the sentence on a recipe that failed has behind the name of its target, and no other one.
+FAILED = " failed, status "
+# How many of the last lines are shown of what such a recipe printed.
+LINES_AT_MOST = 10
 
 
 class Fault(Exception):
@@ -49,6 +53,16 @@ class Failure:
 
     make_in: str | None = None
     """The folder in which the recipe starts a make, if it does."""
+
+
+def last_lines(text: str, log: str) -> str:
+    """What is said of a recipe that failed, with the last lines of what it printed; the file `log`
+    has all. Of another fault the first line."""
+    first, *rest = text.rstrip("\n").split("\n")
+    if FAILED not in first or not rest:
+        return first
+    shown = [f"        {line}" for line in rest[-LINES_AT_MOST:]]
+    return "\n".join([f"{first}; its last lines, of all in {log}:", *shown])
 
 
 def failure_of(error: Exception, target: str) -> Failure:

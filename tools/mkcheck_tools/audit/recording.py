@@ -20,15 +20,17 @@ from mkcheck_tools.book.earlier import choice_before
 from mkcheck_tools.book.footprint_files import read_footprints
 from mkcheck_tools.book.note_files import read_notes
 from mkcheck_tools.book.paths import path_of_notes, path_of_stamps, path_of_state
-from mkcheck_tools.faults import Fault
+from mkcheck_tools.faults import FAILED, Fault, last_lines
 from mkcheck_tools.imports.copies import Tail, run_here
 from mkcheck_tools.imports.telling import Telling
+from mkcheck_tools.run.ending import write_text
 from mkcheck_tools.run.folders import prefix_of
 from mkcheck_tools.run.places import Place
 from mkcheck_tools.run.stopping import Stopped
 
 TOOL = "POSIX make"
 BOOK = os.path.join(".mkcheck", "footprint.json")
+LOG = os.path.join(".mkcheck", "record.log")
 # What is said where a signal ended an audit.
 KEPT = "the next audit takes what was recorded"
 # Kinds by which a recipe has no footprint, so that nothing is known of it.
@@ -76,14 +78,26 @@ def recorded(asked: Asked, wanted: Wanted) -> list[str]:
         if not os.path.exists(written):
             raise Fault(unrecorded([f"mkcheck-record ends with status {status}", said + errors]))
         answer = read_answer(written)
+    write_log(wanted.root, answer.reasons)
     if not answer.written:
         raise Fault(unrecorded(answer.reasons))
-    return [text.partition("\n")[0] for text in answer.reasons]
+    return [last_lines(text, LOG) for text in answer.reasons]
+
+
+def write_log(root: str, reasons: Sequence[str]) -> None:
+    """Writes all that the recorder said of recipes without a footprint; takes the log of before
+    away where there are none."""
+    path = Path(root, LOG)
+    if reasons:
+        write_text("".join(f"{text.rstrip()}\n" for text in reasons), str(path))
+    else:
+        path.unlink(missing_ok=True)
 
 
 def unrecorded(reasons: Sequence[str]) -> str:
     """What is said where nothing could be recorded."""
-    lines = [line for reason in reasons for line in reason.splitlines() if line.strip()]
+    texts = (last_lines(reason, LOG) if FAILED in reason else reason for reason in reasons)
+    lines = [line for text in texts for line in text.splitlines() if line.strip()]
     return "\n".join(["the build can't be recorded:", *(f"    {line}" for line in lines)])
 
 

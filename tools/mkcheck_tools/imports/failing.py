@@ -79,7 +79,8 @@ class BuildFault(Fault):
         if len(commands) > OF_COMMAND:
             left_out = len(commands) - OF_COMMAND + 1
             commands = [*commands[: OF_COMMAND - 1], f"({left_out} more lines, see {log})"]
-        return self.text(*(list(map(cut, part)) for part in (commands, excerpt(lines, log))))
+        shown = self.text(*(list(map(cut, part)) for part in (commands, excerpt(lines, log))))
+        return f"{shown}\n{log} has all that was printed"
 
     def text(self, commands: list[str], lines: list[str]) -> str:
         """The message with these lines."""

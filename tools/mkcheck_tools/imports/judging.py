@@ -19,7 +19,7 @@ from mkcheck_tools.book.formats import first
 from mkcheck_tools.book.note_files import Noted, read_notes, text_of_notes
 from mkcheck_tools.book.paths import path_of_notes
 from mkcheck_tools.book.states import State
-from mkcheck_tools.faults import Failure, Fault
+from mkcheck_tools.faults import Failure, Fault, last_lines
 from mkcheck_tools.imports.alike import HANDING_ON, passing_through
 from mkcheck_tools.imports.builds import Build, Kind, Node
 from mkcheck_tools.imports.copies import Tail, run_here
@@ -237,7 +237,8 @@ class Judge:
         answer = read_answer(written)
         if not answer.written:
             own = [
-                sentence(one) if one.make_in is not None else one.text for one in answer.unrecorded
+                sentence(one, "") if one.make_in is not None else one.text
+                for one in answer.unrecorded
             ]
             raise RecordingFault(answer.fault or "\n".join(dict.fromkeys(own)))
         return answer, errors
@@ -271,12 +272,13 @@ class Judge:
         kept = [note for note in noted.notes if note.kind not in left_out]
         return Noted(tuple(one for one in kept if one.target not in trusted or not is_trust(one)))
 
-    def unrecorded(self, failures: Iterable[Failure]) -> dict[str, str]:
-        """Of each recipe that has no record what the recorder says of it, in a line."""
+    def unrecorded(self, failures: Iterable[Failure], log: str) -> dict[str, str]:
+        """Of each recipe that has no record what the recorder says of it, in a line, and the last
+        lines of what it printed where it failed. The file `log` has all."""
         back = {word: name for name, word in self.names().written.items() if "\0" not in name}
         found: dict[str, str] = {}
         for failure in failures:
-            found.setdefault(back.get(failure.target, failure.target), sentence(failure))
+            found.setdefault(back.get(failure.target, failure.target), sentence(failure, log))
         return {name: text for name, text in found.items() if name in self.build.nodes}
 
     def complete(self, footprints: Footprints, first: bool, unrecorded: Mapping[str, str]) -> None:
@@ -460,11 +462,11 @@ def without_first_only(build: Build) -> Build:
     return replace(build, nodes=nodes)
 
 
-def sentence(failure: Failure) -> str:
-    """Why a recipe has no record, in a line. Where it starts a make, that is mended by goals, since
-    an import lacks the recorder's options."""
+def sentence(failure: Failure, log: str) -> str:
+    """Why a recipe has no record. Where it starts a make, that is mended by goals, since an import
+    lacks the recorder's options."""
     if failure.make_in is None:
-        return failure.text.partition("\n")[0]
+        return last_lines(failure.text, log)
     if failure.make_in == ".":
         way = "import its goals by themselves"
     else:

@@ -54,6 +54,7 @@ from mkcheck_tools.imports.request import Request
 from mkcheck_tools.imports.saving import build_of_text, recorded_of_text, text_of_build
 from mkcheck_tools.imports.sentences import Sentences
 from mkcheck_tools.imports.settling import Settling
+from mkcheck_tools.imports.telling import COUNT
 from mkcheck_tools.imports.told import Teller
 from mkcheck_tools.imports.tools import Built, NinjaTool, Shown, Tool, program_of, tool_of
 from mkcheck_tools.judge.notes import Kind
@@ -398,13 +399,13 @@ def record_build(request: Request, translated: Translated, desk: Desk) -> Record
     shutil.copyfile(desk.recording, desk.path(BOOK))
     if os.path.exists(path_of_notes(desk.recording)):
         shutil.copyfile(path_of_notes(desk.recording), path_of_notes(desk.path(BOOK)))
-    desk.log += [line for line in text.splitlines() if line.startswith("mkcheck-record: ")]
+    desk.log += [line for line in text.splitlines() if not COUNT.match(line)]
     state = state_of(desk.recording)
     folders = {name.rstrip("/") for name in build.made if name.endswith("/")}
     if folders and state is None:
         raise Fault("what recipes looked at isn't known: import again")
     found = Recorded(
-        judge.unrecorded(came.unrecorded),
+        judge.unrecorded(came.unrecorded, request.log),
         judge.notes(OF_TRANSLATION, frozenset(own)),
         judge.looks(state, folders) if state is not None else {},
     )

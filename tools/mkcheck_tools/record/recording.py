@@ -15,7 +15,15 @@ from dataclasses import dataclass, field, replace
 
 from mkcheck_tools.answers.graphs import Ancestors, Command, Recipe
 from mkcheck_tools.book.updating import Updating
-from mkcheck_tools.faults import FULL, Failure, Fault, MakeFault, RecipeFault, failure_of
+from mkcheck_tools.faults import (
+    FAILED,
+    FULL,
+    Failure,
+    Fault,
+    MakeFault,
+    RecipeFault,
+    failure_of,
+)
 from mkcheck_tools.judge.footprints import (
     HERE,
     Footprint,
@@ -474,7 +482,7 @@ def varying_before(recipe: Recipe, shop: Workshop) -> Iterator[str]:
 def failure(recipe: Recipe, failed: Command, status: int, output: str) -> str:
     """What is said of a recipe that fails: its commands, all their output, the last status."""
     shown = ["\t" + line for line in recipe.lines]
-    head = f"the recipe of {recipe.target} failed, status {status}, at {shlex.quote(failed.text)}"
+    head = f"the recipe of {recipe.target}{FAILED}{status}, at {shlex.quote(failed.text)}"
     return "\n".join([head, *shown, output.rstrip("\n")]).rstrip("\n")
 
 
