@@ -101,6 +101,16 @@ class NothingChangedTest(SecondImportTestCase):
         self.assertEqual(self.first().status, 4)
         self.assertEqual(self.taken(), "0 of 3")
 
+    def test_a_recipe_without_a_record_changes_nothing(self) -> None:
+        """An update tells its notes in another order."""
+        rules = "git: a.c\n\tcp a.c git\nadd: git\n\trm -f add && ln git add\n"
+        self.write({"Makefile": f"all: git add made\n{rules}made: b.c\n\tdate +%N > made\n"})
+        first = self.imported(replay=True)
+        self.assertEqual(first.status, 4, first.output + first.errors)
+        second = self.imported(replay=True, keep=True)
+        self.assertNotIn("translated anew", second.errors)
+        self.assertEqual(second.output, first.output)
+
     def test_files_with_new_times_are_the_same(self) -> None:
         self.first()
         for name in ("a.c", "Makefile"):

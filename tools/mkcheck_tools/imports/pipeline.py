@@ -415,8 +415,14 @@ def record_build(request: Request, translated: Translated, desk: Desk) -> Record
         "" if came.unrecorded else f"{came.recipes - came.known} of {came.recipes} recipes",
         state,
         len(judge.read_book().records),
-        digest_of_value([desk.text(BOOK), found.unrecorded, str(found.noted), request.replay]),
+        digest_of_recording(desk.text(BOOK), found, request.replay),
     )
+
+
+def digest_of_recording(book: str, found: Recorded, replay: bool) -> str:
+    """A digest of all that the recorder gave. An update tells its notes in another order."""
+    said = sorted(found.unrecorded.items()), sorted(map(str, found.noted.notes))
+    return digest_of_value([book, *said, found.noted.missing, replay])
 
 
 def state_of(book: str) -> State | None:
