@@ -6,9 +6,45 @@ Each stands beside one that differs a little, in which the sentence is right.
 from __future__ import annotations
 
 import re
+import unittest
 
 from importer.make_folder import can_judge
 from importer.test_make_unseen import UnseenTestCase
+from mkcheck_tools.imports.builds import Build, Command, Kind, Node
+from mkcheck_tools.imports.readings import all_need
+
+
+class NeedTest(unittest.TestCase):
+    """Whether all recipes run again when the file `v` changes."""
+
+    def needed(self, **needs: str) -> bool:
+        """The same for recipes with these prerequisites; those behind a bar only order."""
+        build = Build("/project")
+        for name, text in needs.items():
+            words, _, order = text.partition("|")
+            command = Command(f"echo > {name}")
+            build.nodes[name] = Node(
+                name, groups=[words.split()], order_only=order.split(), commands=[command]
+            )
+        return all_need(build, "v")
+
+    def test_by_another_recipe(self) -> None:
+        self.assertTrue(self.needed(a="b", b="v"))
+        self.assertFalse(self.needed(a="b", b="v", c="s"))
+
+    def test_a_prerequisite_that_only_orders(self) -> None:
+        self.assertFalse(self.needed(a="v", b="|v"))
+        self.assertFalse(self.needed(a="|b", b="v"))
+
+    def test_recipes_that_need_each_other(self) -> None:
+        self.assertFalse(self.needed(a="b", b="a"))
+        self.assertTrue(self.needed(a="b v", b="a"))
+
+    def test_what_needs_a_phony_target_always_runs(self) -> None:
+        build = Build("/project")
+        build.nodes["always"] = Node("always", Kind.PHONY)
+        build.nodes["a"] = Node("a", groups=[["always"]], commands=[Command("echo > a")])
+        self.assertTrue(all_need(build, "v"))
 
 
 @can_judge

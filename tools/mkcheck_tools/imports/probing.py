@@ -10,6 +10,7 @@ import contextlib
 import os
 import re
 import shutil
+import stat
 from collections.abc import Iterable, Iterator, Mapping
 
 from mkcheck_tools.book.footprint_files import Footprints, Record
@@ -265,8 +266,8 @@ def with_empty(paths: Iterable[str]) -> Iterator[None]:
     """Makes empty files for a while, where nothing stands yet."""
     added = [path for path in paths if not os.path.lexists(path)]
     for path in added:
-        with contextlib.suppress(OSError), open(path, "xb"):
-            pass
+        with contextlib.suppress(OSError):
+            os.mknod(path, stat.S_IFREG | 0o666)
     yield
     for path in added:
         with contextlib.suppress(OSError):

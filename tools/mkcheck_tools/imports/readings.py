@@ -11,7 +11,7 @@ from collections.abc import Callable
 from dataclasses import dataclass, field
 
 from mkcheck_tools.faults import Fault
-from mkcheck_tools.imports.builds import Build, Kind, is_foreign, path_name
+from mkcheck_tools.imports.builds import Build, Kind, Node, is_foreign, path_name
 from mkcheck_tools.imports.copies import Copies
 from mkcheck_tools.imports.database import Rule
 from mkcheck_tools.imports.gnumake import Make, Start, own_environment
@@ -360,8 +360,7 @@ def all_need(build: Build, file: str) -> bool:
     reasons = {file, *(name for name, needs in build.remade.items() if file in needs)}
     phony = {name for name, node in build.nodes.items() if node.kind is Kind.PHONY}
     names = [name for name, node in build.nodes.items() if node.commands and name not in phony]
-    needed = (followed(build, name) for name in names)
-    return all(not (reasons | phony).isdisjoint(found) for found in needed)
+    return needing(build, reasons | phony).issuperset(names)
 
 
 def is_plain(path: str) -> bool:
@@ -386,11 +385,31 @@ def followed(build: Build, name: str) -> set[str]:
     waiting = [name]
     while waiting:
         node = build.nodes.get(waiting.pop())
-        if node is None or node.kind is Kind.ORDER:
-            continue
-        ordered = set(node.order_only)
-        for word in node.prerequisites(later=True):
-            if word not in ordered and word not in seen:
+        for word in compared(node) if node is not None else ():
+            if word not in seen:
                 seen.add(word)
                 waiting.append(word)
     return seen
+
+
+def needing(build: Build, words: set[str]) -> set[str]:
+    """All targets that are always made again after one of these files and targets."""
+    users: dict[str, list[str]] = {}
+    for name, node in build.nodes.items():
+        for word in compared(node):
+            users.setdefault(word, []).append(name)
+    found: set[str] = set()
+    waiting = list(words)
+    while waiting:
+        more = [name for name in users.get(waiting.pop(), []) if name not in found]
+        found.update(more)
+        waiting += more
+    return found
+
+
+def compared(node: Node) -> list[str]:
+    """The prerequisites by which a target is out of date in later builds."""
+    if node.kind is Kind.ORDER:
+        return []
+    ordered = set(node.order_only)
+    return [word for word in node.prerequisites(later=True) if word not in ordered]
