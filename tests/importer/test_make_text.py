@@ -186,15 +186,14 @@ class AdviceTest(unittest.TestCase):
         ):
             failure = failure_of(started_make("x", "make", folder, Place("/p", "/p")), "x")
             self.assertIn("--opaque", failure.text)
-            text = sentence(failure)
+            text = sentence(failure, "log")
             self.assertIn(said, text)
             self.assertNotIn("--opaque", text)
             self.assertNotIn("mkcheck-record", text)
 
     def test_other_reasons(self) -> None:
-        self.assertEqual(
-            sentence(Failure("x", "the recipe of x failed\n\tcc x.c")), "the recipe of x failed"
-        )
+        failure = Failure("x", "the recipe of x failed\n\tcc x.c")
+        self.assertEqual(sentence(failure, "log"), "the recipe of x failed")
 
 
 class ConditionTest(unittest.TestCase):

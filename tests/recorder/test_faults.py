@@ -205,7 +205,7 @@ class FaultTest(ProjectTest):
             outcome.errors,
             (
                 "mkcheck-record: mkcheck graph: refused 42 a b a: the names need each other in a"
-                " circle; take out the prerequisite that closes it\n"
+                " circle; take out the prerequisite that closes it\n\tmakefile:2: b: a\n"
             ),
         )
 

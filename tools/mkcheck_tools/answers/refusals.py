@@ -65,7 +65,7 @@ class Refusal:
 
 class Refused(Fault):
     """mkcheck refused the makefile. `sentence` is said in place of the usual one, and `line` is the
-    line of the makefile."""
+    line of the makefile, which is shown with its place where the refusal has names alone."""
 
     def __init__(self, refusal: Refusal, sentence: str | None = None, line: str = "") -> None:
         self.refusal = refusal
@@ -73,7 +73,9 @@ class Refused(Fault):
             word = refusal.file if refusal.is_of_word else None
             sentence = meaning(refusal.number, word, refusal.bad_name)
         text = f"mkcheck graph: {refusal.text}{': ' if sentence else ''}{sentence}"
-        super().__init__(f"{text}\n\t{line}" if line else text)
+        place = f"{refusal.file}:{refusal.line}"
+        front = "" if place in refusal.text.split() else f"{place}: "
+        super().__init__(f"{text}\n\t{front}{line}" if line else text)
 
     @property
     def missing(self) -> str | None:
