@@ -715,7 +715,14 @@ class StoppedTest(UpdateTest):
         self.write({"s": "1\n"})
         words = [sys.executable, str(RECORDER), "-C", str(self.folder), option, str(self.updated)]
         environment = {**os.environ, "MKCHECK": MKCHECK, "TMPDIR": str(self.scratch)}
-        with subprocess.Popen(words, env=environment, stderr=subprocess.PIPE, text=True) as run:
+        with subprocess.Popen(
+            words,
+            env=environment,
+            stderr=subprocess.PIPE,
+            text=True,
+            # A shell has its background jobs ignore SIGINT, and they hand that down.
+            preexec_fn=lambda: signal.signal(number, signal.SIG_DFL),
+        ) as run:
             until = time.monotonic() + 120
             while not list(self.scratch.glob("mkcheck-record-*/copy/project/wait")):
                 self.assertLess(time.monotonic(), until)
