@@ -75,12 +75,52 @@ def group_lines(group: dict[str, Any], makefile: str) -> list[str]:
     head = f"{place['file']}:{place['line']}" if place else makefile
     done = [f"  do: {group['do']}"] if group["do"] else []
     added = [f"  add: {line}" for line in (group["add"] or "").splitlines()]
-    return [f"{head}: {group['sentence']} [{group['kind']}]", *added, *done]
+    kinds = ", ".join([group["kind"], *group["also"]])
+    return [f"{head}: {group['sentence']} [{kinds}]", *added, *done]
+
+
+def several(count: int, one: str, many: str) -> str:
+    """A number, and the word for one or for several."""
+    return f"{count} {one if count == 1 else many}"
+
+
+def counts_line(counts: dict[str, int]) -> str:
+    """The counts as `check -w` prints them."""
+    told = several(counts["findings"], "finding", "findings")
+    told += f" in {several(counts['groups'], 'group', 'groups')}; "
+    alone = counts["findings"] == 1
+    if not counts["lines"]:
+        return f"{told}no line mends {'it' if alone else 'them'}"
+    whom = f"{counts['mended']} of them"
+    if counts["mended"] == counts["findings"]:
+        whom = "it" if alone else "all of them"
+    return f"{told}{several(counts['lines'], 'line mends', 'lines mend')} {whom}"
+
+
+def miscounted(value: dict[str, Any]) -> Iterator[str]:
+    """What is wrong about the counts of a no, and about the numbers of its groups."""
+    groups, found, counts = value["groups"], value["findings"], value["counts"]
+    added = [group["add"] for group in groups if group["add"]]
+    if counts["findings"] != len(found) or counts["groups"] != len(groups):
+        yield "it counts other findings or groups"
+    if counts["lines"] != sum(text.count("\n") for text in added):
+        yield "it counts other lines"
+    mended = [one for one in found if groups[one["group"] - 1]["add"]]
+    if counts["mended"] != len(mended):
+        yield "it counts other findings as mended"
+    for one in found:
+        group = groups[one["group"] - 1]
+        named = {*group["targets"], *group["files"], *group["writers"]}
+        if one["kind"] not in (group["kind"], *group["also"]) or named.isdisjoint(one["names"]):
+            yield f"{one['text']} is in another group"
+        if one["text"] != " ".join(["no", one["kind"], *one["names"]]):
+            yield f"{one['text']} has other words"
 
 
 def groups_lines(value: dict[str, Any], makefile: str) -> list[str]:
-    """The groups of a no as `check -w` prints them."""
+    """The groups of a no as `check -w` prints them, without the counts of the later ones."""
     lines = [line for group in value["groups"] for line in group_lines(group, makefile)]
+    lines.append(counts_line(value["counts"]))
     if all(group["kind"] in ("race", "stale") for group in value["groups"]):
         return lines
     later = [line for group in value["later"] for line in group_lines(group, makefile)]
@@ -89,14 +129,15 @@ def groups_lines(value: dict[str, Any], makefile: str) -> list[str]:
 
 def said_of_no(value: dict[str, Any], plain: Answer, told: Answer, rest: list[str]) -> list[str]:
     """What is wrong about the answer no, by what `check` and `check -w` print."""
-    wanted = [
-        {"number": number, "text": line}
-        for number, line in enumerate(plain.output.decode().splitlines(), 1)
-    ]
+    wanted = list(enumerate(plain.output.decode().splitlines(), 1))
     makefile = rest[rest.index("-f") + 1] if "-f" in rest else "makefile"
     lines = [line for line in told.output.decode().splitlines() if not LEFT_OUT.match(line)]
-    wrong = [] if value["findings"] == wanted else ["its findings are others"]
-    return wrong + ([] if groups_lines(value, makefile) == lines else ["its groups are others"])
+    if SEEN in lines:
+        del lines[-1]
+    given = [(one["number"], one["text"]) for one in value["findings"]]
+    wrong = [] if given == wanted else ["its findings are others"]
+    wrong += [] if groups_lines(value, makefile) == lines else ["its groups are others"]
+    return wrong + list(miscounted(value))
 
 
 def said_of_refusal(value: dict[str, Any], plain: Answer, told: Answer) -> Iterator[str]:

@@ -212,14 +212,15 @@ EXAMPLES = {
         {"makefile": BOTH_RULES, "B": BOTH},
         ["check", "-w", "-b", "B"],
         1,
-        "makefile:2: a reads b, but doesn't wait for it: with several jobs it may be missing, old or"
-        " half-written then [race]\n  add: a: b\n"
-        "makefile:4: b reads a, but doesn't wait for it: with several jobs it may be missing, old or"
-        " half-written then [race]\n  add: b: a\n"
-        "makefile:2: a reads b, but doesn't depend on it: when it changes, a stays old [stale]\n"
-        "  add: a: b\n"
-        "makefile:4: b reads a, but doesn't depend on it: when it changes, b stays old [stale]\n"
-        "  add: b: a\n",
+        "makefile:2: a reads b, but doesn't depend on it: with several jobs it may be missing, old or"
+        " half-written then, and when it changes, a stays old [race, stale]\n"
+        "  do: with a line for this each of these names would need the next one: a b a; split one of"
+        " these recipes in two, or take a prerequisite away\n"
+        "makefile:4: b reads a, but doesn't depend on it: with several jobs it may be missing, old or"
+        " half-written then, and when it changes, b stays old [race, stale]\n"
+        "  do: with a line for this each of these names would need the next one: a b a; split one of"
+        " these recipes in two, or take a prerequisite away\n"
+        "4 findings in 2 groups; no line mends them\n",
     ),
     "a refusal in words": (
         {"makefile": "x\n", "B": BOTH},
@@ -239,10 +240,11 @@ EXAMPLES = {
         {"makefile": PLAIN_RULES, "B": SHARING},
         ["check", "--json", "-b", "B"],
         1,
-        '{"answer":"no","findings":[{"number":1,"text":"no stale a.o h.h"}],"format":1,"groups":[{'
-        '"add":"a.o: h.h\\n","do":null,"files":["h.h"],"kind":"stale","place":{"file":"makefile",'
-        '"line":3},"sentence":"a.o reads h.h, but doesn\'t depend on it: when it changes, a.o stays'
-        ' old","targets":["a.o"]}],"later":[]}\n',
+        '{"answer":"no","counts":{"findings":1,"groups":1,"lines":1,"mended":1},"findings":[{"group"'
+        ':1,"kind":"stale","names":["a.o","h.h"],"number":1,"text":"no stale a.o h.h"}],"format":1,'
+        '"groups":[{"add":"a.o: h.h\\n","also":[],"do":null,"files":["h.h"],"kind":"stale","place":{'
+        '"file":"makefile","line":3},"sentence":"a.o reads h.h, but doesn\'t depend on it: when it'
+        ' changes, a.o stays old","targets":["a.o"],"writers":[]}],"later":[]}\n',
     ),
     "a refusal as JSON": (
         {"makefile": "x\n", "B": BOTH},

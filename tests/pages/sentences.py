@@ -13,7 +13,7 @@ import re
 import subprocess
 import tempfile
 from collections.abc import Callable, Iterator
-from dataclasses import dataclass
+from dataclasses import dataclass, replace
 from pathlib import Path
 
 ROOT = Path(__file__).resolve().parents[2]
@@ -21,6 +21,7 @@ PAGE = ROOT / "docs" / "COMMANDS.md"
 HEAD = "| word | sentence | `add:` | `do:` |\n|---|---|---|---|\n"
 THEN = "once these are mended, as far as can be seen now:"
 MORE = "once these are mended, check again: races and stale reads may show"
+ONE = "1 finding in 1 group; 1 line mends it\n"
 UNKNOWN = "unexpected argument '-w'"
 # What stands before a sentence, and how it is written below.
 PLACE, PLACED = re.compile(r"^makefile(:\d+)?: ", re.MULTILINE), "FILE:LINE: "
@@ -170,11 +171,26 @@ def loose(names: list[str], files: list[str]) -> Build:
     return Build(gathered(*files, *names) + bare + rules(files), [], records, names, files)
 
 
-def race(names: list[str], files: list[str]) -> Build:
+def both(names: list[str], files: list[str]) -> Build:
     """Recipes that read what other recipes write."""
     records: list[Record] = [(name, files, [name]) for name in names]
     records += [(file, [], [file]) for file in files]
     return Build(gathered(*names, *files) + rules(names + files), [], records, names, files)
+
+
+def phony(build: Build) -> Build:
+    """The build in which the names are phony, so that nothing is stale."""
+    records = [
+        (target, reads, [] if target in build.names else writes)
+        for target, reads, writes in build.records
+    ]
+    makefile = f"{build.makefile}.PHONY: {' '.join(build.names)}\n"
+    return replace(build, makefile=makefile, records=records)
+
+
+def race(names: list[str], files: list[str]) -> Build:
+    """Such recipes, which are phony."""
+    return phony(both(names, files))
 
 
 def beside(names: list[str], files: list[str], wait: str) -> Build:
@@ -184,9 +200,14 @@ def beside(names: list[str], files: list[str], wait: str) -> Build:
     return Build(makefile, [], records, names, files, "s")
 
 
-def side_race(names: list[str], files: list[str]) -> Build:
+def side_both(names: list[str], files: list[str]) -> Build:
     """Such recipes, in any order."""
     return beside(names, files, "")
+
+
+def side_race(names: list[str], files: list[str]) -> Build:
+    """Such recipes, which are phony."""
+    return phony(side_both(names, files))
 
 
 def side_stale(names: list[str], files: list[str]) -> Build:
@@ -221,6 +242,8 @@ BUILDS: list[tuple[str, bool, bool, Callable[[list[str], list[str]], Build]]] = 
     ("stale", False, True, stale),
     ("stale", False, False, unwritable),
     ("stale", True, True, side_stale),
+    ("race, stale", False, True, both),
+    ("race, stale", True, True, side_both),
     ("selection", False, False, selection),
 ]
 
@@ -294,7 +317,7 @@ def tried(mkcheck: str, rows: list[Row]) -> Iterator[tuple[str, str, str]]:
             lacking = f"a row of `{word}` {'with lines' if has_lines else 'with advice'}"
             yield lacking, "", "nothing\n"
             continue
-        is_hiding = word not in ("race", "stale")
+        is_hiding = word not in ("race", "stale", "race, stale")
         for names in COUNTS:
             for files in COUNTS:
                 build = make(numbered("t", names), numbered("f", files))
@@ -302,7 +325,7 @@ def tried(mkcheck: str, rows: list[Row]) -> Iterator[tuple[str, str, str]]:
                 yield text, f"{MORE}\n" if is_hiding else "", checked(mkcheck, build, command)
                 if is_hiding:
                     more = with_stale(build, command)
-                    last = f"{THEN}\n{expected(row_of_stale, more, True)}"
+                    last = f"{THEN}\n{expected(row_of_stale, more, True)}{ONE}"
                     yield text, last, checked(mkcheck, more, command, "both")
 
 

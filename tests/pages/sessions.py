@@ -28,7 +28,7 @@ SECONDS = 300
 REFUSED = re.compile(
     r"^(refused \d|error: |(\S+:\d+: )?[\w:]+ \(\d+\): |\{\"answer\":\"refused\")", re.MULTILINE
 )
-FOUND = re.compile(r"^no |^\S+: .* \[\w+\]$|^\{\"answer\":\"no\"", re.MULTILINE)
+FOUND = re.compile(r"^no |^\S+: .* \[\w+(, \w+)*\]$|^\{\"answer\":\"no\"", re.MULTILINE)
 # How the line of counts of an audit begins, with the status that goes with it.
 UNRECORDED = "the build can't be recorded"
 AUDITED = re.compile(

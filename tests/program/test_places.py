@@ -2,6 +2,8 @@
 
 from __future__ import annotations
 
+import os
+import subprocess
 from pathlib import Path
 
 import pytest
@@ -12,6 +14,7 @@ from program.runs import (
     GRAPH,
     HEADER,
     MOST,
+    PROGRAM,
     RECORDS,
     RULES,
     UNTOLD,
@@ -39,6 +42,31 @@ PLACES = [
     Run(["graph", "-f", "none/x"], 2, "refused 37 none/x\n"),
     Run(["check", "-b", "."], 2, "refused 35 .\n"),
     Run(["graph", "-f", "/etc", "1+=2"], 2, "refused 11 operand:1\n"),
+]
+UNREAD = "ReadFailed (35): {}: a file can't be read; give one that can be read{}\n"
+UNREAD_BOOK = "FileReadFailed (35): {}: a file of the command line can't be read; give another{}\n"
+CAUSES = [
+    Run(["graph", "-w", "-f", "/etc"], 2, UNREAD.format("/etc", ": this one is a folder")),
+    Run(["graph", "-w", "-f", "makefile/x"], 2, UNREAD.format("makefile/x", "")),
+    Run(["check", "-w", "-b", "."], 2, UNREAD_BOOK.format(".", ": this one is a folder")),
+    Run(
+        ["check", "-w", "-b", "large"],
+        2,
+        UNREAD_BOOK.format("large", ": this one has over 16,777,216 bytes"),
+        files={"makefile": RULES, "large": " " * (MOST + 1)},
+    ),
+    Run(
+        ["check", "-w", "-f", "/dev/stdin", "-b", "/dev/stdin"],
+        2,
+        UNREAD_BOOK.format("/dev/stdin", ": this one can be read once only, and was"),
+        stdin=RULES,
+    ),
+    Run(
+        ["graph", "-w", "-f", "/dev/stdin"],
+        2,
+        "/dev/stdin:1: " + UNREAD.format("/etc", ": this one is a folder"),
+        stdin="include /etc\n",
+    ),
 ]
 UNMENDED = (
     "no record a.o\nno record p\n"
@@ -72,6 +100,32 @@ UNWRITTEN = [
 def test_names_a_place_that_is_no_file(run: Run, tmp_path: Path) -> None:
     """Folders, paths through files, and other names of the makefile."""
     assert_answers(run, tmp_path)
+
+
+@pytest.mark.parametrize("run", CAUSES, ids=Run.name)
+def test_says_why_a_file_is_not_read(run: Run, tmp_path: Path) -> None:
+    """With `-w` a failed read has its cause, also where the line of the refusal can't be shown."""
+    assert_answers(run, tmp_path)
+
+
+@pytest.mark.skipif(os.geteuid() != 0, reason="only root can become another user")
+def test_says_that_a_file_may_not_be_read(tmp_path: Path) -> None:
+    """An ordinary user and a file that only its owner may read."""
+    book = tmp_path / "B"
+    book.write_text(RECORDS)
+    book.chmod(0o600)
+    (tmp_path / "makefile").write_text(RULES)
+    for folder in (tmp_path, *tmp_path.parents[:2]):
+        folder.chmod(0o755)
+    done = subprocess.run(
+        ["setpriv", "--reuid=65534", "--clear-groups", PROGRAM, "check", "-w", "-b", "B"],
+        cwd=tmp_path,
+        capture_output=True,
+        text=True,
+        check=False,
+    )
+    assert done.stdout == UNREAD_BOOK.format("B", ": there is no permission to read this one")
+    assert done.returncode == 2
 
 
 @pytest.mark.parametrize("run", PIPES, ids=Run.name)

@@ -113,6 +113,7 @@ def test_lines_in_sentences_are_cut(tmp_path: Path) -> None:
         f"makefile:1: a reads {headers[0]}, {headers[1]} and 1 more, but doesn't depend on "
         "them: when one changes, a stays old [stale]",
         *(f"  add: a: {line}" for line in added),
+        "3 findings in 1 group; 2 lines mend all of them",
     ]
     assert_answers(Run(["check", "-w", "-b", "B"], 1, lines_of(lines), files=files), tmp_path)
 

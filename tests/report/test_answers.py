@@ -84,6 +84,17 @@ class GroupsTest(unittest.TestCase):
         self.assertEqual(numbers(answer), [[1], [2], [3], [4]])
         self.assertEqual(answer.groups[1].lacks(answer.findings[1]), "p.c")
 
+    def test_a_race_and_a_stale_read_may_be_in_one_group(self) -> None:
+        answer = no(
+            ["race m.o v.h v.h", "stale m.o v.h", "stale m.o w.h"],
+            [
+                group("race", "m.o", "v.h", add="m.o: v.h\n", do=None, also=["stale"]),
+                group("stale", "m.o", "w.h", add="m.o: w.h\n", do=None),
+            ],
+        )
+        self.assertEqual(numbers(answer), [[1, 2], [3]])
+        self.assertFalse(answer.hides)
+
     def test_unknown_files_with_a_maker_are_apart(self) -> None:
         answer = no(
             ["unknown a v.h", "unknown a w.h", "unknown b v.h"],

@@ -22,12 +22,11 @@ class RaceTest(ReportTest):
     def test_says_no_and_where(self) -> None:
         """Both findings stand at line 5 in one panel, whose rule gets the missing word."""
         page = self.page(1)
-        self.assertIn("2 findings in 2 groups", page.text)
+        self.assertIn("2 findings in 1 group", page.text)
         self.assertEqual(page.text.count("makefile:5"), 1)
         self.assertEqual(page.inserted, ["version.h"])
         self.assertEqual(self.raw.count('class="panel"'), 1)
-        self.assertIn("but doesn't wait for it", page.text)
-        self.assertIn("but doesn't depend on it", page.text)
+        self.assertIn("but doesn't depend on it: with several jobs it may be missing", page.text)
         self.assertIn("stand with that race, above", page.text)
         self.assertLess(self.raw.index('<h2 id="race">'), self.raw.index('<h2 id="stale">'))
 
@@ -254,11 +253,11 @@ class KindsTest(ReportTest):
         self.build(*HIDING)
         page = self.page(1)
         self.assertIn("1 finding in 1 group", page.text)
-        self.assertIn("Behind these, \n2 groups\n of races and stale reads can be seen", page.text)
+        self.assertIn("Behind these, \n1 group\n of races and stale reads can be seen", page.text)
         first, behind = page.text.split("Once these are mended, as far as can be seen now")
         self.assertIn("q has no record", first)
         self.assertNotIn("version.h", first)
-        for said in ("What \nrace\n means", "What \nstale\n means", "but doesn't wait for it"):
+        for said in ("What \nrace\n means", "What \nstale\n means", "with several jobs it may be"):
             self.assertIn(said, behind)
         self.assertEqual(behind.count("makefile:5:\n main.o reads version.h"), 1)
         self.assertIn("but doesn't depend on it", behind)
@@ -328,7 +327,7 @@ class KindsTest(ReportTest):
         ]
         self.build(makefile, records, ["p.y", "m.c"])
         text = self.page(1).text
-        self.assertIn("4 findings in 4 groups", text)
+        self.assertIn("4 findings in 2 groups", text)
         self.assertIn("2 problems, the worst first", text)
         for race, stale, file in ((1, 3, "p.c"), (2, 4, "p.h")):
             lines = f"{race}: no race m.o p.c {file}\n{stale}: no stale m.o {file}\n"

@@ -35,10 +35,10 @@ class SarifTest(ReportTest):
         return place["artifactLocation"]["uri"], place["region"]["startLine"]
 
     def test_race(self) -> None:
-        """Two results at line 5; the recipe that writes version.h stands in line 3."""
+        """A result at line 5; the recipe that writes version.h stands in line 3."""
         self.race()
         run = self.sarif(1)
-        self.assertEqual([one["ruleId"] for one in run["results"]], ["race", "stale"])
+        self.assertEqual([one["ruleId"] for one in run["results"]], ["race"])
         self.assertEqual(len(run["tool"]["driver"]["rules"]), 12)
         for rule in run["tool"]["driver"]["rules"]:
             self.assertIn(f"`no {rule['id']} ", rule["help"]["text"])
@@ -81,18 +81,18 @@ class SarifTest(ReportTest):
             self.assertEqual(done.stdout[:4], b"yes ", (end, done.stdout))
 
     def test_hidden(self) -> None:
-        """A race and a stale read that another finding hides are notes at line 5, with fixes."""
+        """A race and a stale read that another finding hides are a note at line 5, with a fix."""
         self.build(*HIDING)
         results = self.sarif(1)["results"]
         levels = [(one["ruleId"], one["level"]) for one in results]
-        self.assertEqual(levels, [("record", "warning"), ("race", "note"), ("stale", "note")])
+        self.assertEqual(levels, [("record", "warning"), ("race", "note")])
         for result in results[1:]:
             self.assertEqual(list(map(self.line_of, result["locations"])), [("makefile", 5)])
             change = result["fixes"][0]["artifactChanges"][0]
             inserted = change["replacements"][0]["insertedContent"]["text"]
             self.assertEqual(inserted, "\nmain.o: version.h")
         prints = [one["partialFingerprints"]["mkcheckGroup/v1"] for one in results]
-        self.assertEqual(len(set(prints)), 3)
+        self.assertEqual(len(set(prints)), 2)
 
     def test_yes(self) -> None:
         """A yes has no results."""

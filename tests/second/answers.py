@@ -9,16 +9,20 @@ from lines import Refused
 from reading import Files, Makefile
 from sentences import (
     PSEUDO,
+    Claim,
     Group,
     advice,
     grouped,
     in_words,
+    in_words_with_cause,
     line_of,
     lines,
     name_of,
     place_of,
     seen_later,
     sentence,
+    told_of,
+    without_cycles,
 )
 from world import Run
 
@@ -43,6 +47,17 @@ def rule_value(makefile: Makefile, name: bytes) -> Value | None:
     return {"file": file.decode("utf-8"), "line": int(line)} if file else None
 
 
+def writers_of(group: Group) -> list[bytes]:
+    """The recipes that write the files of a group, where its sentence names them."""
+    if group.kind == b"writers":
+        return [group.first, group.second]
+    if group.kind == b"loose":
+        return group.files
+    reads = group.kind in (b"race", b"stale", b"race, stale") or group.has_lines or group.cycle
+    is_named = reads and group.kind != b"target" and group.first
+    return [group.first] if is_named else []
+
+
 def group_value(makefile: Makefile, group: Group) -> Value:
     """The value of a group of findings."""
     writers = group.kind == b"writers"
@@ -51,35 +66,68 @@ def group_value(makefile: Makefile, group: Group) -> Value:
     files = group.names if named else [name for name in group.files if name]
     added = b"".join(lines(group)) if group.has_lines else None
     done = None if group.has_lines else advice(group)
+    kind, *also = group.kind.decode("utf-8").split(", ")
     return {
         "add": added and added.decode("utf-8"),
+        "also": also,
         "do": done and done.decode("utf-8"),
         "files": [name.decode("utf-8") for name in files],
-        "kind": group.kind.decode("utf-8"),
+        "kind": kind,
         "place": rule_value(makefile, group.first if writers else group.names[0]),
         "sentence": sentence(group).decode("utf-8"),
         "targets": [name.decode("utf-8") for name in targets],
+        "writers": [name.decode("utf-8") for name in writers_of(group)],
     }
 
 
-def groups_value(subject: Subject, findings: list[Finding]) -> list[Value]:
-    """The values of the groups of findings."""
+def groups_value(subject: Subject, claims: list[Claim]) -> list[Value]:
+    """The values of the groups of claims."""
     makefile = subject.rules.makefile
-    return [group_value(makefile, group) for group in grouped(subject, findings)]
+    return [group_value(makefile, group) for group in grouped(claims)]
+
+
+def number_of_group(claim: Claim, groups: list[Group]) -> int:
+    """The number of the group that a claim belongs to."""
+    for number, group in enumerate(groups, 1):
+        kinds = group.kind.split(b", ")
+        alike = (group.has_lines, (group.first, group.second), group.cycle)
+        if claim.alike.kind in kinds and alike == claim.alike[1:]:
+            if claim.name in group.names and claim.file in group.files:
+                return number
+    return 0
+
+
+def finding_value(number: int, group: int, words: Finding) -> Value:
+    """The value of a finding."""
+    kind, *names = [word.decode("utf-8") for word in words]
+    text = " ".join(["no", kind, *names])
+    return {"group": group, "kind": kind, "names": names, "number": number, "text": text}
 
 
 def verdict_value(subject: Subject) -> Value:
     """The value of a yes or a no."""
     found = subject.findings()
     if found:
-        texts = [b" ".join([b"no", *words]).decode("utf-8") for words in found]
-        findings = [{"number": at, "text": text} for at, text in enumerate(texts, 1)]
+        told = [told_of(subject, finding) for finding in found]
+        hidden = [told_of(subject, finding) for finding in seen_later(subject, found)]
+        claims = without_cycles(subject, told + hidden)
+        now, later = claims[: len(told)], claims[len(told) :]
+        groups = grouped(now)
         return {
             "answer": "no",
-            "findings": findings,
+            "counts": {
+                "findings": len(found),
+                "groups": len(groups),
+                "lines": sum(len(lines(group)) for group in groups if group.has_lines),
+                "mended": sum(claim.alike.has_lines for claim in now),
+            },
+            "findings": [
+                finding_value(at, number_of_group(claim, groups), words)
+                for at, (claim, words) in enumerate(zip(now, found), 1)
+            ],
             "format": 1,
-            "groups": groups_value(subject, found),
-            "later": groups_value(subject, seen_later(subject, found)),
+            "groups": groups_value(subject, now),
+            "later": groups_value(subject, later),
         }
     recipes, reads = subject.counts().split()[1::2]
     return {
@@ -142,7 +190,7 @@ def refusal_value(fault: Refused, files: Files) -> Value:
         "name": name_of(fault).decode("utf-8"),
         "number": fault.number,
         "place": place_of_fault(fault),
-        "sentence": decoded(in_words(fault)),
+        "sentence": decoded(in_words_with_cause(fault, files)),
         "source": source_of(fault, files),
         "text": decoded(fault.line()),
     }

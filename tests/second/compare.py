@@ -56,7 +56,7 @@ GATE_CASES = {
     "json": 250,
     "since": 400,
 }
-IN_WORDS = re.compile(rb" \[(\w+)\]\n  (\w+): ")
+IN_WORDS = re.compile(rb" \[([\w, ]+)\]\n  (\w+): ")
 FAULT = re.compile(rb"(?:\S+:\d+: )?([\w:]+ \(\d+\)): ")
 GATE_SEED = 20261124
 KEPT = 20

@@ -44,6 +44,9 @@ class Memory:
     def read(self, name: bytes) -> Found:
         return self.files.get(name)
 
+    def why(self, name: bytes) -> bytes:
+        return b""
+
 
 class Recorded(Protocol):
     """What a file of footprints has besides its records."""

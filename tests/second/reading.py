@@ -54,6 +54,9 @@ class Files(Protocol):
     def read(self, name: bytes) -> Found:
         """What is found under a name."""
 
+    def why(self, name: bytes) -> bytes:
+        """Why the file under a name isn't read, in words; nothing where that isn't known."""
+
 
 class Command(NamedTuple):
     """A command as the makefile has it, and its place."""

@@ -36,6 +36,18 @@ class Disk:
             return "failed"
         return "failed" if len(data) > FILE_LIMIT else data
 
+    def why(self, name: bytes) -> bytes:
+        """Why the file under a name isn't read, in words; nothing where that isn't known."""
+        path = os.path.join(self.folder, name)
+        if os.path.isdir(path):
+            return b": this one is a folder"
+        if not os.path.exists(path):
+            return b""
+        if not os.access(path, os.R_OK):
+            return b": there is no permission to read this one"
+        is_large = os.path.getsize(path) > FILE_LIMIT
+        return b": this one has over 16,777,216 bytes" if is_large else b""
+
 
 class Usage(Exception):
     """A fault of the command line."""

@@ -20,7 +20,7 @@ from lines import Refused
 from reading import Files
 from repair import printed, repaired
 from request import Disk, Request, Usage, file_of, prepared
-from sentences import in_sentences, in_words, line_of
+from sentences import in_sentences, in_words, in_words_with_cause, line_of
 from since import compared
 from world import Run, World, read_plan, run_plan
 
@@ -96,7 +96,7 @@ def answered(arguments: Sequence[str], files: Files) -> tuple[bytes, int]:
         if request.in_json:
             return shown(refusal_value(fault, files)), 2
         if request.in_words:
-            return in_words(fault) + b"\n" + line_of(fault, files), 2
+            return in_words_with_cause(fault, files) + b"\n" + line_of(fault, files), 2
         return fault.line() + b"\n", 2
 
 

@@ -6,6 +6,7 @@ import re
 from pathlib import Path
 from typing import NamedTuple, TypeVar
 
+from graph import Graph, goal_names
 from judge import Finding, Subject
 from lines import Refused
 from reading import Files, Makefile
@@ -33,6 +34,21 @@ class Alike(NamedTuple):
     kind: bytes
     has_lines: bool
     beside: tuple[bytes, bytes]
+    cycle: bytes = b""
+
+
+class Claim(NamedTuple):
+    """What a finding has in common with others, the name that it is about, and the file."""
+
+    alike: Alike
+    name: bytes
+    file: bytes
+
+    def line(self) -> tuple[bytes, bytes] | None:
+        """The target and the prerequisite of the line that mends it, if there is such a line."""
+        if not self.alike.has_lines or self.alike.kind == b"target":
+            return None
+        return self.name, self.alike.beside[0] or self.file
 
 
 class Group:
@@ -48,12 +64,14 @@ class Group:
         kind: bytes,
         has_lines: bool,
         beside: tuple[bytes, bytes],
+        cycle: bytes,
         files: list[bytes],
         names: list[bytes],
     ) -> None:
         self.kind = kind
         self.has_lines = has_lines
         self.first, self.second = beside
+        self.cycle = cycle
         self.files = files
         self.names = names
 
@@ -69,13 +87,13 @@ class Group:
 # Findings in groups.
 
 
-def told_of(subject: Subject, finding: Finding) -> tuple[Alike, bytes, bytes]:
-    """What a finding has in common with others, the name that it is about, and the file."""
+def told_of(subject: Subject, finding: Finding) -> Claim:
+    """What a finding claims."""
     kind, name = finding[:2]
     if kind == b"writers":
-        return Alike(kind, False, (name, finding[2])), finding[3], b""
+        return Claim(Alike(kind, False, (name, finding[2])), finding[3], b"")
     if kind == b"selection":
-        return Alike(kind, False, (name, finding[2])), name, finding[2]
+        return Claim(Alike(kind, False, (name, finding[2])), name, finding[2])
     file = finding[-1] if len(finding) > 2 else b""
     word = word_of(subject, finding)
     needed = None if word is None else word.prerequisite
@@ -85,18 +103,88 @@ def told_of(subject: Subject, finding: Finding) -> tuple[Alike, bytes, bytes]:
     if kind == b"unknown" and needed is not None:
         writer = needed
     if kind == b"loose" and writes_its_own(subject, file, name):
-        return Alike(kind, False, (b"own", b"")), name, file
+        return Claim(Alike(kind, False, (b"own", b"")), name, file)
     if kind == b"unknown" and len(makers(subject, file)) > 1:
         first, second = makers(subject, file)[:2]
-        return Alike(kind, False, (first, second)), name, file
-    return Alike(kind, word is not None, (writer, b"")), name, file
+        return Claim(Alike(kind, False, (first, second)), name, file)
+    return Claim(Alike(kind, word is not None, (writer, b"")), name, file)
 
 
-def grouped(subject: Subject, findings: list[Finding]) -> list[Group]:
-    """The groups, in the order of their first findings."""
+def wider(subject: Subject, claims: list[Claim]) -> Graph:
+    """The graph of the goals and of the targets in the lines of the claims which these don't reach;
+    that of the goals alone where these targets have rules that make would refuse."""
+    graph = subject.graph
+    named = {line[1]: None for line in (claim.line() for claim in claims) if line}
+    far = [name for name in named if name in graph.rules.targets and name not in graph.nodes]
+    if not far:
+        return graph
+    try:
+        widest = Graph(graph.rules, goal_names(graph.rules, [*graph.goals, *far]), graph.there)
+        for node in widest.serial:
+            graph.rules.expanded(node, graph.there)
+    except Refused:
+        return graph
+    return widest
+
+
+def first_cycle(graph: Graph, claims: list[Claim]) -> list[bytes]:
+    """The names along the first path that a walk from the goals closes where the lines of the claims
+    are added, the first one repeated; empty where there is none."""
+    nodes = graph.nodes
+    needed = {name: list(node.prerequisites) for name, node in nodes.items()}
+    for line in (claim.line() for claim in claims):
+        if line and line[0] in nodes and line[1] in nodes:
+            needed[line[0]].append(line[1])
+    done: set[bytes] = set()
+    path: list[bytes] = []
+    waiting = [iter(graph.goals)]
+    while waiting:
+        name = next(waiting[-1], None)
+        if name is None:
+            waiting.pop()
+            if path:
+                done.add(path.pop())
+        elif name in path:
+            return [*path[path.index(name) :], name]
+        elif name not in done:
+            path.append(name)
+            waiting.append(iter(needed[name]))
+    return []
+
+
+def without_cycles(subject: Subject, claims: list[Claim]) -> list[Claim]:
+    """The claims, without the lines that would close cycles."""
+    graph = wider(subject, claims)
+    while cycle := first_cycle(graph, claims):
+        steps = set(zip(cycle, cycle[1:]))
+        told = b" ".join(cycle)
+        claims = [
+            claim._replace(alike=claim.alike._replace(has_lines=False, cycle=told))
+            if claim.line() in steps
+            else claim
+            for claim in claims
+        ]
+    return claims
+
+
+def joined(claims: list[Claim]) -> list[Claim]:
+    """The claims, a race and a stale read of the same recipe and file as one."""
+    other = {b"race": b"stale", b"stale": b"race"}
+    left = []
+    for claim in claims:
+        kind = claim.alike.kind
+        twin = claim._replace(alike=claim.alike._replace(kind=other.get(kind, b"")))
+        if twin not in claims:
+            left.append(claim)
+        elif kind == b"race":
+            left.append(claim._replace(alike=claim.alike._replace(kind=b"race, stale")))
+    return left
+
+
+def grouped(claims: list[Claim]) -> list[Group]:
+    """The groups, in the order of their first claims."""
     files: dict[tuple[Alike, bytes], list[bytes]] = {}
-    for finding in findings:
-        alike, name, file = told_of(subject, finding)
+    for alike, name, file in joined(claims):
         files.setdefault((alike, name), []).append(file)
     names: dict[tuple[Alike, tuple[bytes, ...]], list[bytes]] = {}
     for (alike, name), own in files.items():
@@ -184,7 +272,7 @@ def of_own(group: Group, names: bytes, files: bytes) -> bytes:
 
 
 def of_unknown(group: Group, names: bytes, files: bytes) -> bytes:
-    if group.has_lines:
+    if group.has_lines or group.cycle:
         return b"%s %s %s, which the recipe of %s makes, but %s depend on %s, so %s" % (
             names,
             group.one(b"reads", b"read"),
@@ -238,6 +326,14 @@ def of_stale(group: Group, names: bytes, files: bytes) -> bytes:
     return reading(group, names, files, b"depend on") + changing + stays
 
 
+def of_both(group: Group, names: bytes, files: bytes) -> bytes:
+    one = group.each(b"it", b"one")
+    changing = b"and when %s, " % group.each(b"it changes", b"one changes")
+    stays = b"%s stays old" % names if len(group.names) == 1 else b"they stay old"
+    race = b"with several jobs %s may be missing, old or half-written then, " % one
+    return reading(group, names, files, b"depend on") + race + changing + stays
+
+
 def of_selection(group: Group, _names: bytes, _files: bytes) -> bytes:
     return (
         b"once recipes have run, an inference rule makes %s from %s, but not before: "
@@ -257,6 +353,7 @@ SENTENCES = {
     b"loose": of_loose,
     b"race": of_race,
     b"stale": of_stale,
+    b"race, stale": of_both,
     b"selection": of_selection,
 }
 
@@ -295,6 +392,11 @@ def of_unknown_origin(group: Group) -> bytes:
 
 def advice(group: Group) -> bytes:
     """What to do where no lines mend it."""
+    if group.cycle:
+        return (
+            b"with a line for this each of these names would need the next one: %s; split one of "
+            b"these recipes in two, or take a prerequisite away" % group.cycle
+        )
     told = {
         b"record": b"record again, with the goals and macros that are checked",
         b"commands": b"record again, with the goals and macros that are checked",
@@ -311,11 +413,14 @@ def advice(group: Group) -> bytes:
         ),
         b"writers": b"let each recipe write files of its own, and check a target such as clean by "
         b"itself" + (one_recipe(group) if group.second in group.names else b""),
-        b"given": b"let the recipe write %s out of the sources, -include and .PHONY; if %s headers, "
-        b"as cc -MMD writes them, see mkcheck explain given"
+        b"given": b"let the recipe write %s out of the sources, -include and .PHONY; if %s, let "
+        b"mkcheck-import read the build"
         % group.each(
-            (b"another file, or take this one", b"it lists"),
-            (b"other files, or take these", b"they list"),
+            (
+                b"another file, or take this one",
+                b"it is a dependency file, as cc -MMD writes it",
+            ),
+            (b"other files, or take these", b"they are dependency files, as cc -MMD writes them"),
         ),
         b"own": b"split the recipe in two, or make each file anew from other files alone",
         b"unknown": of_unknown_origin(group),
@@ -356,10 +461,30 @@ def group_text(makefile: Makefile, group: Group) -> bytes:
     return text + b"  do: %s\n" % advice(group) + left_out
 
 
-def groups_text(subject: Subject, findings: list[Finding]) -> bytes:
-    """The groups of the findings."""
-    groups = grouped(subject, findings)
-    return b"".join(group_text(subject.rules.makefile, group) for group in groups)
+def several(count: int, one: bytes, many: bytes) -> bytes:
+    """A number, and the word for one or for several."""
+    return b"%d %s" % (count, one if count == 1 else many)
+
+
+def counts(claims: list[Claim], groups: list[Group]) -> bytes:
+    """How many findings and groups there are, and how many lines mend how many of them."""
+    told = several(len(claims), b"finding", b"findings")
+    told += b" in " + several(len(groups), b"group", b"groups")
+    added = sum(len(lines(group)) for group in groups if group.has_lines)
+    mended = sum(claim.alike.has_lines for claim in claims)
+    if not added:
+        return told + b"; no line mends %s\n" % (b"it" if len(claims) == 1 else b"them")
+    whom = b"%d of them" % mended
+    if mended == len(claims):
+        whom = b"it" if len(claims) == 1 else b"all of them"
+    return told + b"; %s %s\n" % (several(added, b"line mends", b"lines mend"), whom)
+
+
+def claims_text(subject: Subject, claims: list[Claim]) -> bytes:
+    """The groups of the claims, and how many they are."""
+    groups = grouped(claims)
+    told = b"".join(group_text(subject.rules.makefile, group) for group in groups)
+    return told + counts(claims, groups)
 
 
 def hides(findings: list[Finding]) -> bool:
@@ -381,11 +506,13 @@ def seen_later(subject: Subject, findings: list[Finding]) -> list[Finding]:
 
 def in_sentences(subject: Subject, findings: list[Finding]) -> bytes:
     """The text of the findings, and behind others than races and stale reads that of these."""
-    text = groups_text(subject, findings)
+    told = [told_of(subject, finding) for finding in findings]
+    later = [told_of(subject, finding) for finding in seen_later(subject, findings)]
+    claims = without_cycles(subject, told + later)
+    text = claims_text(subject, claims[: len(told)])
     if not hides(findings):
         return text
-    hidden = seen_later(subject, findings)
-    return text + (THEN + groups_text(subject, hidden) if hidden else MORE)
+    return text + (THEN + claims_text(subject, claims[len(told) :]) if later else MORE)
 
 
 # Faults.
@@ -416,6 +543,11 @@ def in_words(fault: Refused) -> bytes:
     if words:
         head += b" ".join(words) + b": "
     return head + FAULTS[fault.number][name]
+
+
+def in_words_with_cause(fault: Refused, files: Files) -> bytes:
+    """The same, with why the file of a failed read wasn't read."""
+    return in_words(fault) + (files.why(fault.words[-1]) if fault.number == 35 else b"")
 
 
 def line_of(fault: Refused, files: Files) -> bytes:

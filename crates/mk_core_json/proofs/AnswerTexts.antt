@@ -9,6 +9,7 @@ use Rattle.mk_cert_text.specs.Writing.{value_of}
 use Rattle.mk_read.specs.declared.fault.Place.{Place}
 use Rattle.mk_core_sentences.specs.RefusedLine.{in_file, place_of}
 use Rattle.mk_core_text.specs.declared.fault.Fault.{Fault}
+use Rattle.mk_read_files.specs.declared.cause.Cause.{Cause}
 use Rattle.mk_core_json.specs.AnswerValue.{line_value, place_value, refusal_value, yes_value}
 
 -- the answer yes
@@ -41,5 +42,5 @@ line_has_no_float : (line : List ℕ) → has_float (line_value line) ≡ false
 line_has_no_float [] = refl
 line_has_no_float (b ∷ line) = refl
 
-pub refusal_has_no_float : (fault : Fault) (line : List ℕ) → has_float (refusal_value fault line) ≡ false
-refusal_has_no_float fault line = rw (line_has_no_float line, place_has_no_float (in_file (place_of fault))) refl
+pub refusal_has_no_float : (fault : Fault) (cause : Cause) (line : List ℕ) → has_float (refusal_value fault cause line) ≡ false
+refusal_has_no_float fault cause line = rw (line_has_no_float line, place_has_no_float (in_file (place_of fault))) refl

@@ -1,3 +1,7 @@
+mod Appended
 mod AnswerTexts
 mod NoTexts
+mod FindingLists
+mod FindingTexts
+mod PlainTexts
 mod YesInJson

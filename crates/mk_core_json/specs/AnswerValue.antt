@@ -7,7 +7,9 @@ use Rattle.mk_cert_text.specs.Certificate.{Certificate}
 use Rattle.mk_cert_text.specs.Writing.{value_of}
 use Rattle.mk_json.specs.Kinds.{object_of}
 use Rattle.mk_read.specs.declared.fault.Place.{Place}
-use Rattle.mk_core_text.specs.FaultText.{fault_text, fault_words}
+use Rattle.mk_read_files.specs.declared.cause.Cause.{Cause}
+use Rattle.mk_core_text.specs.Causes.{caused_words}
+use Rattle.mk_core_text.specs.FaultText.{fault_text}
 use Rattle.mk_core_text.specs.declared.fault.Fault.{Fault}
 use Rattle.mk_core_sentences.specs.RefusedLine.{in_file, place_of}
 use Rattle.mk_core_json.specs.FaultNames.{fault_name}
@@ -42,15 +44,15 @@ line_value [] = null
 line_value (b ∷ line) = string (utf8_lossy (bare_line (b ∷ line)))
 
 -- The answer of a refusal: the fault's name, its number, the line of a file that it names, its text
--- in words, that line as `-w` prints it, and its text with numbers. U+FFFD stands for bytes that
--- aren't UTF-8.
-abbrev pub refusal_value : Fault → (line : List ℕ) → Data
-refusal_value fault line =
+-- in words, for a failed read with its cause, that line as `-w` prints it, and its text with
+-- numbers. U+FFFD stands for bytes that aren't UTF-8.
+abbrev pub refusal_value : Fault → Cause → (line : List ℕ) → Data
+refusal_value fault cause line =
     object_of ((codes "answer", string (codes "refused")) ∷
     (codes "format", number (unsigned 1)) ∷
     (codes "name", string ((fault_name fault).1)) ∷
     (codes "number", number (unsigned ((fault_name fault).0))) ∷
     (codes "place", place_value (in_file (place_of fault))) ∷
-    (codes "sentence", string (utf8_lossy (fault_words fault))) ∷
+    (codes "sentence", string (utf8_lossy (caused_words fault cause))) ∷
     (codes "source", line_value line) ∷
     (codes "text", string (utf8_lossy (fault_text fault))) ∷ [])

@@ -4,7 +4,8 @@ use Rattle.std.specs.List.{list_any}
 use Rattle.mk_subject.specs.Subject.{Subject}
 use Rattle.mk_find.specs.declared.finding.Finding.{Finding}
 use Rattle.mk_find.specs.Findings.{AreHidden}
-use Rattle.mk_sentences.specs.Text.{is_static}
+use Rattle.mk_sentences.specs.Claims.{Claim}
+use Rattle.mk_sentences.specs.Text.{AreShown, all_claims, is_static}
 use Rattle.mk_core_text.specs.declared.fault.Fault.{Fault}
 use Rattle.mk_core_text.specs.declared.verdict.Verdict.{Verdict}
 use Rattle.mk_core_text.specs.declared.verdict.Verdict.TheVariants as verdict
@@ -16,11 +17,17 @@ use Rattle.mk_core_json.specs.declared.checking.InJson.TheVariants.{Yes, No}
 use Rattle.mk_core_json.specs.AnswerValue.{answer_text, yes_value}
 use Rattle.mk_core_json.specs.NoValue.{no_value}
 
+-- It is the text of the value of a no with what these findings claim, and those that they hide.
+abbrev pub ShowsClaims : Subject → (found hidden : List Finding) → List ℕ → Type 0
+ShowsClaims x found hidden text =
+    (shown : List Claim) × AreShown x (all_claims x found hidden) shown ×
+    (text ≡ answer_text (no_value x.makefile found shown))
+
 -- It is the text of the value of a no with these findings and, where they hide others, these.
 abbrev pub ShowsNo : Subject → List Finding → List ℕ → Type 0
 ShowsNo x found text =
     (hidden : List Finding) × (list_any is_static found ≡ true → AreHidden x hidden) ×
-    (text ≡ answer_text (no_value x found hidden))
+    ShowsClaims x found hidden text
 
 -- It is the text of this verdict's value.
 abbrev pub Shows : Subject → Verdict → InJson → Type 0

@@ -1,7 +1,9 @@
 pub mod AnswerValue
 pub mod FaultNames
+pub mod FindingValue
 pub mod GroupValue
 pub mod InJsonAnswer
 pub mod NotRead
 pub mod NoValue
 pub mod OtherValues
+pub mod PlainText

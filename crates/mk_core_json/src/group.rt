@@ -7,39 +7,25 @@ ghost use Rattle.std.specs.String.{string_bytes};
 ghost use Rattle.serde_json.specs.View.{items_of, view};
 ghost use Rattle.serde_json.specs.Written.{compact_text, items_text};
 ghost use Rattle.mk_cert_text.specs.Writing.{names_value};
-ghost use Rattle.mk_repair.specs.Gathering.{gathered};
 ghost use Rattle.mk_repair.specs.Lines.{line_text};
 ghost use Rattle.mk_repair.specs.Rows.{names_view};
 ghost use Rattle.mk_sentences.specs.Adding.{lines_of};
 ghost use Rattle.mk_sentences.specs.Advice.{advice};
-ghost use Rattle.mk_sentences.specs.Claims.{claim_view};
-ghost use Rattle.mk_sentences.specs.Grouping.{group_key_eq, group_of, group_pair, groups};
+ghost use Rattle.mk_sentences.specs.Grouping.{group_of};
 ghost use Rattle.mk_sentences.specs.Places.{rule_shown};
 ghost use Rattle.mk_sentences.specs.Sentences.{sentence};
-ghost use Rattle.mk_sentences.specs.Tables.{groups_view, rows_view};
+ghost use Rattle.mk_sentences.specs.Tables.{groups_view};
 ghost use Rattle.mk_sentences.specs.Topics.{topic_view};
 ghost use Rattle.mk_core_json.specs.AnswerValue.{place_value};
-ghost use Rattle.mk_core_json.specs.GroupValue.{added_value, files_of, group_value, targets_of, to_do_value};
+ghost use Rattle.mk_core_json.specs.GroupValue.{added_value, also_of, files_of, first_word, group_value, targets_of, to_do_value, writers_of};
 
+use crate::names::names_value;
 use crate::writing::{push_comma, push_value};
-use mk_read::Makefile;
 use mk_sentences::{
-    Claim, Groups, Kind, Places, Rows, Topic, groups_of, kind_word, push_advice, push_lines,
-    push_sentence, rows_of, shown_name,
+    Groups, Kind, Places, Topic, kind_word, push_advice, push_lines, push_sentence, shown_name,
 };
 use serde_json::{Value, json};
 use std::alloc::{AllocError, Global};
-
-/// Makes the JSON value of names.
-fn names_value(alloc: Global, names: &[&str]) -> Result<Value, AllocError>
-    ensures { IfOk result (λ value. view value ≡ names_value (names_view names.now)) }
-{
-    let mut texts = Vec::with_capacity(alloc, names.len())?;
-    for name in names {
-        texts.push(Value::try_from_str(alloc, *name)?)?;
-    }
-    Ok(Value::Array(texts))
-}
 
 /// Makes the JSON value of the targets that a group is about.
 fn targets_value(alloc: Global, topic: &Topic<'_>, who: &[&str]) -> Result<Value, AllocError>
@@ -65,10 +51,45 @@ fn files_value(
 {
     match topic.kind {
         Kind::TwoWriters | Kind::Loose | Kind::OwnPrerequisite => names_value(alloc, who),
-        Kind::NoRecord | Kind::OtherCommands | Kind::VaryingCommands | Kind::NoTarget => {
-            names_value(alloc, &[])
-        }
+        Kind::NoRecord | Kind::OtherCommands | Kind::VaryingCommands | Kind::NoTarget =>
+            names_value(alloc, &[]),
         _ => names_value(alloc, what),
+    }
+}
+
+/// Makes the JSON value of the recipes that write the files of a group, where its sentence names
+/// them.
+fn writers_value(alloc: Global, topic: &Topic<'_>, what: &[&str]) -> Result<Value, AllocError>
+    ensures { IfOk result (λ value. view value ≡ names_value
+        (writers_of (topic_view topic.now).kind (topic_view topic.now).first
+        (topic_view topic.now).second (names_view what.now))) }
+{
+    match topic.kind {
+        Kind::TwoWriters => names_value(alloc, &[topic.first, topic.second]),
+        Kind::Loose | Kind::OwnPrerequisite => names_value(alloc, what),
+        Kind::OutputRace | Kind::OutputStale | Kind::OutputRaceAndStale | Kind::UnreachedRead =>
+            names_value(alloc, &[topic.first]),
+        _ => names_value(alloc, &[]),
+    }
+}
+
+/// The word of a kind; of a race together with a stale read that of the race.
+fn first_word(kind: Kind) -> &'static str
+    ensures { result.now ≡ first_word kind }
+{
+    match kind {
+        Kind::RaceAndStale | Kind::OutputRaceAndStale => "race",
+        _ => kind_word(kind),
+    }
+}
+
+/// Makes the JSON value of the other words of a kind.
+fn also_value(alloc: Global, kind: Kind) -> Result<Value, AllocError>
+    ensures { IfOk result (λ value. view value ≡ names_value (also_of kind)) }
+{
+    match kind {
+        Kind::RaceAndStale | Kind::OutputRaceAndStale => names_value(alloc, &["stale"]),
+        _ => names_value(alloc, &[]),
     }
 }
 
@@ -160,19 +181,23 @@ fn group_value(
     })) }
 {
     let added = added_value(alloc, topic, who, what)?;
+    let also = also_value(alloc, topic.kind)?;
     let to_do = to_do_value(alloc, topic, who, what)?;
     let files = files_value(alloc, topic, who, what)?;
     let place = shown_value(alloc, places, shown_name(topic, who))?;
     let sentence = sentence_of(alloc, topic, who, what)?;
     let targets = targets_value(alloc, topic, who)?;
+    let writers = writers_value(alloc, topic, what)?;
     json!(in alloc; {
         "add": added,
+        "also": also,
         "do": to_do,
         "files": files,
-        "kind": kind_word(topic.kind),
+        "kind": first_word(topic.kind),
         "place": place,
         "sentence": sentence.as_str(),
-        "targets": targets
+        "targets": targets,
+        "writers": writers
     })
 }
 
@@ -196,8 +221,9 @@ fn push_group(
     push_value(alloc, out, &value)
 }
 
-/// Appends the text of each group, separated by commas, and the closing bracket.
-fn push_groups(
+/// Appends the text of each group, separated by commas, and the closing bracket. The only error is
+/// out of memory.
+pub fn push_groups(
     alloc: Global,
     out: &mut String,
     places: &Places<'_>,
@@ -217,35 +243,4 @@ fn push_groups(
         later = true;
     }
     out.push_str("]")
-}
-
-/// Appends the text of the groups of rows.
-fn push_rows(
-    alloc: Global,
-    out: &mut String,
-    makefile: &Makefile,
-    rows: &Rows<'_>,
-) -> Result<(), AllocError>
-    ensures { OnOk result (string_bytes out.new ≡ string_bytes out.old ++ items_text false
-        (items_of (map (group_value makefile.now) (map group_of
-        (gathered group_key_eq (map group_pair (rows_view rows.now.entries))))))) }
-{
-    let groups = groups_of(alloc, rows)?;
-    let places = Places::new(alloc, makefile)?;
-    push_groups(alloc, out, &places, &groups)
-}
-
-/// Appends the texts of the groups of claims, separated by commas, and the closing bracket. The
-/// only error is out of memory.
-pub fn push_claims(
-    alloc: Global,
-    out: &mut String,
-    makefile: &Makefile,
-    claims: &[Claim<'_>],
-) -> Result<(), AllocError>
-    ensures { OnOk result (string_bytes out.new ≡ string_bytes out.old ++ items_text false
-        (items_of (map (group_value makefile.now) (groups (map claim_view claims.now))))) }
-{
-    let rows = rows_of(alloc, claims)?;
-    push_rows(alloc, out, makefile, &rows)
 }

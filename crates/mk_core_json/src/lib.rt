@@ -3,7 +3,9 @@
 
 mod checking;
 mod fault_name;
+mod finding;
 mod group;
+mod names;
 mod no;
 mod other;
 mod refusal;

@@ -1,100 +1,153 @@
 //! Writes a no as JSON: its findings, and groups of them.
 
-ghost use Rattle.std.specs.Prelude.{◌≡◌, ◌++◌, false, map, IfOk, OnOk};
+ghost use Rattle.std.specs.Prelude.{◌≡◌, ◌++◌, drop, false, length, map, take, IfOk, OnOk};
 ghost use Rattle.std.specs.String.{string_bytes};
 ghost use Rattle.serde_json.specs.View.{items_of, view};
 ghost use Rattle.serde_json.specs.Written.{compact_text, items_text};
-ghost use Rattle.mk_sentences.specs.Claims.{claim_of, claim_view};
-ghost use Rattle.mk_core_json.specs.AnswerValue.{answer_text};
-ghost use Rattle.mk_core_json.specs.NoValue.{finding_value, finding_values, groups_values, later_claims, no_value};
+ghost use Rattle.mk_repair.specs.Gathering.{gathered};
+ghost use Rattle.mk_sentences.specs.Claims.{claim_view};
+ghost use Rattle.mk_sentences.specs.Grouping.{group_key_eq, group_of, group_pair, groups, rows};
+ghost use Rattle.mk_sentences.specs.Joining.{JoinsAlike, joined};
+ghost use Rattle.mk_sentences.specs.Tables.{groups_view, rows_view};
+ghost use Rattle.mk_core_json.specs.InJsonAnswer.{ShowsClaims};
+ghost use Rattle.mk_core_json.specs.NoValue.{counts_value, found_text, groups_values, no_value};
 
-use crate::group::push_claims;
-use crate::writing::{line_of, push_comma, push_value};
+use crate::finding::push_findings;
+use crate::group::push_groups;
+use crate::writing::{line_of, push_value};
 use mk_find::Finding;
-use mk_sentences::{Claim, claims_of, has_static, untouched};
+use mk_read::Makefile;
+use mk_sentences::{
+    Claim, ClaimSet, Counts, Groups, Places, Rows, all_claims, claim_set, claims_offered,
+    counts_of, group_numbers, groups_of, joined_rows, offers_of,
+};
 use mk_subject::Subject;
 use serde_json::{Value, json};
 use std::alloc::{AllocError, Global};
 
-/// Makes the JSON value of a finding.
-fn finding_value(alloc: Global, number: usize, finding: &Finding) -> Result<Value, AllocError>
-    ensures { IfOk result (λ value. view value ≡ finding_value number finding.now) }
+/// Makes the JSON value of the counts.
+fn counts_value(alloc: Global, counts: &Counts) -> Result<Value, AllocError>
+    ensures { IfOk result (λ value. view value ≡ counts_value counts.now) }
 {
-    let text = format!(in alloc; "no {finding}")?;
     json!(in alloc; {
-        "number": number,
-        "text": text.as_str()
+        "findings": counts.findings,
+        "groups": counts.groups,
+        "lines": counts.lines,
+        "mended": counts.mended
     })
 }
 
-/// Appends the text of a finding.
-fn push_finding(
-    alloc: Global,
-    text: &mut String,
-    number: usize,
-    finding: &Finding,
-) -> Result<(), AllocError>
+/// Appends the text of the counts.
+fn push_counts(alloc: Global, text: &mut String, counts: &Counts) -> Result<(), AllocError>
     ensures { OnOk result (string_bytes text.new ≡
-        string_bytes text.old ++ compact_text (finding_value number finding.now)) }
+        string_bytes text.old ++ compact_text (counts_value counts.now)) }
 {
-    let value = finding_value(alloc, number, finding)?;
+    let value = counts_value(alloc, counts)?;
     push_value(alloc, text, &value)
 }
 
-/// Appends the texts of findings, separated by commas, and the closing bracket.
-fn push_findings(alloc: Global, text: &mut String, found: &[Finding]) -> Result<(), AllocError>
-    ensures { OnOk result (string_bytes text.new ≡
-        string_bytes text.old ++ items_text false (items_of (finding_values 1 found.now))) }
+/// Appends the texts of the groups, separated by commas, and the closing bracket.
+fn push_placed(
+    alloc: Global,
+    text: &mut String,
+    makefile: &Makefile,
+    groups: &Groups<'_>,
+) -> Result<(), AllocError>
+    ensures { OnOk result (string_bytes text.new ≡ string_bytes text.old ++ items_text false
+        (items_of (groups_values makefile.now
+        (map group_of (groups_view groups.now.entries))))) }
 {
-    let mut later = false;
-    for place in 0..found.len() {
-        push_comma(text, later)?;
-        push_finding(alloc, text, place + 1, &found[place])?;
-        later = true;
-    }
-    text.push_str("]")
+    let places = Places::new(alloc, makefile)?;
+    push_groups(alloc, text, &places, groups)
 }
 
-/// Appends the texts of the groups of what the findings hide, given what they claim, and the
-/// closing bracket.
+/// Appends the texts of the counts, of the findings, and of the groups of what these claim, given
+/// the set and the rows of these claims.
+fn push_grouped(
+    alloc: Global,
+    text: &mut String,
+    makefile: &Makefile,
+    found: &[Finding],
+    claims: &[Claim<'_>],
+    set: &ClaimSet<'_>,
+    table: &Rows<'_>,
+) -> Result<(), AllocError>
+    requires set { JoinsAlike set.now (map claim_view claims.now) }
+    requires rows { rows_view table.now.entries ≡ rows (joined (map claim_view claims.now)) }
+    ensures { OnOk result (string_bytes text.new ≡
+        string_bytes text.old ++ found_text makefile.now found.now (map claim_view claims.now)) }
+{
+    let groups = groups_of(alloc, table)?;
+    let counts = counts_of(alloc, claims, &groups)?;
+    let numbers = group_numbers(alloc, claims, set, table, &groups)?;
+    push_counts(alloc, text, &counts)?;
+    text.push_str(",\"findings\":[")?;
+    push_findings(alloc, text, found, numbers.as_slice())?;
+    text.push_str(",\"format\":1,\"groups\":[")?;
+    push_placed(alloc, text, makefile, &groups)
+}
+
+/// Appends the texts of the counts, of the findings, and of the groups of what these claim.
+fn push_found(
+    alloc: Global,
+    text: &mut String,
+    makefile: &Makefile,
+    found: &[Finding],
+    claims: &[Claim<'_>],
+) -> Result<(), AllocError>
+    ensures { OnOk result (string_bytes text.new ≡
+        string_bytes text.old ++ found_text makefile.now found.now (map claim_view claims.now)) }
+{
+    let set = claim_set(alloc, claims)?;
+    let rows = joined_rows(alloc, &set, claims)?;
+    push_grouped(alloc, text, makefile, found, claims, &set, &rows)
+}
+
+/// Appends the texts of the groups of rows, separated by commas, and the closing bracket.
+fn push_rows(
+    alloc: Global,
+    text: &mut String,
+    makefile: &Makefile,
+    rows: &Rows<'_>,
+) -> Result<(), AllocError>
+    ensures { OnOk result (string_bytes text.new ≡ string_bytes text.old ++ items_text false
+        (items_of (groups_values makefile.now (map group_of
+        (gathered group_key_eq (map group_pair (rows_view rows.now.entries))))))) }
+{
+    let groups = groups_of(alloc, rows)?;
+    push_placed(alloc, text, makefile, &groups)
+}
+
+/// Appends the texts of the groups of claims, separated by commas, and the closing bracket.
 fn push_later(
     alloc: Global,
     text: &mut String,
-    subject: &Subject<'_>,
-    found: &[Finding],
+    makefile: &Makefile,
     claims: &[Claim<'_>],
-    hidden: &[Finding],
 ) -> Result<(), AllocError>
-    requires { map claim_view claims.now ≡ map (claim_of subject.now) found.now }
     ensures { OnOk result (string_bytes text.new ≡ string_bytes text.old ++ items_text false
-        (items_of (groups_values subject.now.makefile
-        (later_claims subject.now found.now hidden.now)))) }
+        (items_of (groups_values makefile.now (groups (joined (map claim_view claims.now)))))) }
 {
-    if !has_static(found) {
-        return text.push_str("]");
-    }
-    let hidden = claims_of(alloc, subject, hidden)?;
-    let left = untouched(alloc, claims, &hidden)?;
-    push_claims(alloc, text, subject.makefile(), &left)
+    let set = claim_set(alloc, claims)?;
+    let rows = joined_rows(alloc, &set, claims)?;
+    push_rows(alloc, text, makefile, &rows)
 }
 
-/// The text of the answer no.
+/// The text of the answer no, given what the findings and then what those claim that they hide.
 fn no_value_text(
     alloc: Global,
-    subject: &Subject<'_>,
+    makefile: &Makefile,
     found: &[Finding],
-    hidden: &[Finding],
+    claims: &[Claim<'_>],
 ) -> Result<String, AllocError>
     ensures { IfOk result (λ text. string_bytes text ≡
-        compact_text (no_value subject.now found.now hidden.now)) }
+        compact_text (no_value makefile.now found.now (map claim_view claims.now))) }
 {
-    let claims = claims_of(alloc, subject, found)?;
-    let mut text = String::from_str(alloc, "{\"answer\":\"no\",\"findings\":[")?;
-    push_findings(alloc, &mut text, found)?;
-    text.push_str(",\"format\":1,\"groups\":[")?;
-    push_claims(alloc, &mut text, subject.makefile(), &claims)?;
+    let count = found.len().min(claims.len());
+    let mut text = String::from_str(alloc, "{\"answer\":\"no\",\"counts\":")?;
+    push_found(alloc, &mut text, makefile, found, &claims[..count])?;
     text.push_str(",\"later\":[")?;
-    push_later(alloc, &mut text, subject, found, &claims, hidden)?;
+    push_later(alloc, &mut text, makefile, &claims[count..])?;
     text.push_str("}")?;
     Ok(text)
 }
@@ -107,9 +160,12 @@ pub fn no_text(
     found: &[Finding],
     hidden: &[Finding],
 ) -> Result<Vec<u8>, AllocError>
-    ensures { IfOk result (λ text. text.items ≡
-        answer_text (no_value subject.now found.now hidden.now)) }
+    ensures { IfOk result (λ text. ShowsClaims subject.now found.now hidden.now text.items) }
 {
-    let text = no_value_text(alloc, subject, found, hidden)?;
+    let claims = all_claims(alloc, subject, found, hidden)?;
+    let offers = offers_of(alloc, subject, &claims)?;
+    drop(claims);
+    let claims = claims_offered(alloc, &offers)?;
+    let text = no_value_text(alloc, subject.makefile(), found, &claims)?;
     line_of(text)
 }

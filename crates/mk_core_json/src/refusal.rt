@@ -5,7 +5,8 @@ ghost use Rattle.std.specs.String.{string_bytes};
 ghost use Rattle.std.specs.Str.Lossy.{utf8_lossy};
 ghost use Rattle.serde_json.specs.View.{view};
 ghost use Rattle.serde_json.specs.Written.{compact_text};
-ghost use Rattle.mk_core_text.specs.FaultText.{fault_text, fault_words};
+ghost use Rattle.mk_core_text.specs.Causes.{caused_words};
+ghost use Rattle.mk_core_text.specs.FaultText.{fault_text};
 ghost use Rattle.mk_core_sentences.specs.RefusedLine.{in_file, place_of};
 ghost use Rattle.mk_core_json.specs.AnswerValue.{bare_line, line_value, place_value, refusal_value};
 
@@ -13,7 +14,8 @@ use crate::fault_name::fault_name;
 use crate::writing::push_value;
 use mk_core::{Fault, fault_text};
 use mk_core_sentences::line_in_file;
-use mk_core_text::fault_words;
+use mk_core_text::caused_words;
+use mk_read_files::Cause;
 use serde_json::{Value, json};
 use std::alloc::{AllocError, Global};
 
@@ -34,11 +36,13 @@ fn place_value(alloc: Global, fault: &Fault) -> Result<Value, AllocError>
     }
 }
 
-/// The text of a fault in words; U+FFFD stands for bytes that aren't UTF-8.
-fn sentence_of(alloc: Global, fault: &Fault) -> Result<String, AllocError>
-    ensures { IfOk result (λ text. string_bytes text ≡ utf8_lossy (fault_words fault.now)) }
+/// The text of a fault in words, for a failed read with its cause; U+FFFD stands for bytes that
+/// aren't UTF-8.
+fn sentence_of(alloc: Global, fault: &Fault, cause: Cause) -> Result<String, AllocError>
+    ensures { IfOk result (λ text. string_bytes text ≡
+        utf8_lossy (caused_words fault.now cause)) }
 {
-    let bytes = fault_words(alloc, fault)?;
+    let bytes = caused_words(alloc, fault, cause)?;
     String::from_utf8_lossy(alloc, &bytes)
 }
 
@@ -72,13 +76,18 @@ fn line_value(alloc: Global, line: &[u8]) -> Result<Value, AllocError>
 }
 
 /// Makes the JSON value of a refusal.
-fn refusal_value(alloc: Global, fault: &Fault, line: &[u8]) -> Result<Value, AllocError>
-    ensures { IfOk result (λ value. view value ≡ refusal_value fault.now line.now) }
+fn refusal_value(
+    alloc: Global,
+    fault: &Fault,
+    cause: Cause,
+    line: &[u8],
+) -> Result<Value, AllocError>
+    ensures { IfOk result (λ value. view value ≡ refusal_value fault.now cause line.now) }
 {
     let (number, name) = fault_name(fault);
     let source = line_value(alloc, line)?;
     let place = place_value(alloc, fault)?;
-    let sentence = sentence_of(alloc, fault)?;
+    let sentence = sentence_of(alloc, fault, cause)?;
     let text = text_of(alloc, fault)?;
     json!(in alloc; {
         "answer": "refused",
@@ -92,12 +101,19 @@ fn refusal_value(alloc: Global, fault: &Fault, line: &[u8]) -> Result<Value, All
     })
 }
 
-/// What is printed for a refusal by this fault, without a newline, given the line of a file that
-/// `-w` prints for it. The only error is out of memory.
-pub fn refusal_text(alloc: Global, fault: &Fault, line: &[u8]) -> Result<Vec<u8>, AllocError>
-    ensures { IfOk result (λ text. text.items ≡ compact_text (refusal_value fault.now line.now)) }
+/// What is printed for a refusal by this fault, without a newline, given the cause of the last
+/// failed read, and the line of a file that `-w` prints for the fault. The only error is out of
+/// memory.
+pub fn refusal_text(
+    alloc: Global,
+    fault: &Fault,
+    cause: Cause,
+    line: &[u8],
+) -> Result<Vec<u8>, AllocError>
+    ensures { IfOk result (λ text. text.items ≡
+        compact_text (refusal_value fault.now cause line.now)) }
 {
-    let value = refusal_value(alloc, fault, line)?;
+    let value = refusal_value(alloc, fault, cause, line)?;
     let mut text = String::new(alloc);
     push_value(alloc, &mut text, &value)?;
     Ok(text.into_bytes())

@@ -1,9 +1,12 @@
 //! Writes JSON values.
 
 ghost use Rattle.std.specs.Prelude.{◌≡◌, ◌∷◌, ◌++◌, [], false, IfOk, OnOk};
+ghost use Rattle.std.specs.List.{list_all};
 ghost use Rattle.std.specs.String.{string_bytes};
+ghost use Rattle.serde_json.specs.Data.{string};
 ghost use Rattle.serde_json.specs.View.{view};
 ghost use Rattle.serde_json.specs.Written.{comma_if, compact_text, has_float};
+ghost use Rattle.mk_core_json.specs.PlainText.{is_plain};
 
 use serde_json::Value;
 use std::alloc::{AllocError, Global};
@@ -35,4 +38,32 @@ pub fn push_comma(text: &mut String, later: bool) -> Result<(), AllocError>
         text.push_str(",")?;
     }
     Ok(())
+}
+
+/// Whether the byte stands in a JSON text as it is.
+fn is_plain(byte: u8) -> bool
+    ensures { result ≡ is_plain byte }
+{
+    32 <= byte && byte != b'"' && byte != b'\\'
+}
+
+/// Whether the text stands in a JSON text as it is.
+fn is_plain_text(text: &str) -> bool
+    ensures { result ≡ list_all is_plain text.now }
+{
+    text.as_bytes().iter().all(|byte| is_plain(*byte))
+}
+
+/// Appends a text in quotes. The only error is out of memory.
+pub fn push_text(alloc: Global, out: &mut String, text: &str) -> Result<(), AllocError>
+    ensures { OnOk result (string_bytes out.new ≡
+        string_bytes out.old ++ compact_text (string text.now)) }
+{
+    if !is_plain_text(text) {
+        let value = Value::try_from_str(alloc, text)?;
+        return push_value(alloc, out, &value);
+    }
+    out.push_str("\"")?;
+    out.push_str(text)?;
+    out.push_str("\"")
 }

@@ -5,10 +5,11 @@ ghost use Rattle.std.specs.Option.{option_map};
 ghost use Rattle.mk_read.specs.Files.{text_at};
 ghost use Rattle.mk_core_repair.specs.Known.{known_by, seen_by};
 ghost use Rattle.mk_read_files.specs.declared.files.FilesError.TheVariants.{Memory};
+ghost use Rattle.mk_read_files.specs.declared.cause.Cause.TheVariants.{Other};
 
 use crate::known_files::KnownFiles;
 use mk_core::{Files, FilesError};
-use mk_read_files::{Answer, Answered};
+use mk_read_files::{Answer, Answered, Cause};
 use std::alloc::Global;
 
 /// The amended makefile and the other files that are known. A read of any other file fails.
@@ -67,6 +68,8 @@ impl Files for RoundFiles<'_> {
 
     ghost failed = { λ r. r.answered.given.failed };
 
+    ghost cause = { λ _. Other };
+
     fn read(&mut self, alloc: Global, name: &str) -> Result<Option<Vec<u8>>, FilesError> {
         let read = self.text_of(alloc, name);
         self.answered = self.answered.with(&Answer {
@@ -74,5 +77,9 @@ impl Files for RoundFiles<'_> {
             result: &read,
         });
         read
+    }
+
+    fn cause(&self) -> Cause {
+        Cause::Other
     }
 }

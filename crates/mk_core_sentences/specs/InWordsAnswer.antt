@@ -4,7 +4,7 @@ use Rattle.std.specs.List.{list_any}
 use Rattle.mk_subject.specs.Subject.{Subject}
 use Rattle.mk_find.specs.declared.finding.Finding.{Finding}
 use Rattle.mk_find.specs.Findings.{AreFindings, AreHidden}
-use Rattle.mk_sentences.specs.Text.{is_static, sentences_text}
+use Rattle.mk_sentences.specs.Text.{HasSentences, is_static}
 use Rattle.mk_core_text.specs.declared.fault.Fault.{Fault}
 use Rattle.mk_core_text.specs.declared.verdict.Verdict.TheVariants as verdict
 use Rattle.mk_core.specs.CheckAnswer.{IsVerdict}
@@ -17,7 +17,7 @@ use Rattle.mk_core_sentences.specs.declared.checking.InWords.TheVariants.{Yes, N
 abbrev pub Tells : Subject → List Finding → List ℕ → Type 0
 Tells x found text =
     (hidden : List Finding) × (list_any is_static found ≡ true → AreHidden x hidden) ×
-    (text ≡ sentences_text x found hidden)
+    HasSentences x found hidden text
 
 -- It is the verdict, if that is yes; else the sentences of the findings.
 abbrev pub IsInWords : Subject → InWords → Type 0

@@ -7,12 +7,13 @@ ghost use Rattle.mk_read.specs.declared.fault.Place as place;
 ghost use Rattle.mk_lines.specs.Bytes.{begins_with};
 ghost use Rattle.mk_core.specs.Ready.{macros_for};
 ghost use Rattle.mk_core_sentences.specs.RefusedLine.{FindsLine, in_file, is_no_file, lies_outside, line_end, line_place, line_text, max_shown, physical_line, place_of, place_of_infer, place_of_line, place_of_read, shown_byte, shown_line, shown_place};
+ghost use Rattle.mk_read_files.specs.declared.cause.Cause.TheVariants.{Other};
 
 use mk_core::{Fault, Request};
 use mk_infer::InferFault;
 use mk_lines::{LineFault, Name};
 use mk_read::{Place, ReadFault};
-use mk_read_files::{Files, FilesError};
+use mk_read_files::{Cause, Files, FilesError};
 use mk_read_parse::read_makefile;
 use std::alloc::{AllocError, Global};
 use std::marker::Model;
@@ -166,12 +167,18 @@ impl<'a> Files for EmptyFile<'a> {
 
     ghost failed = { λ _. [] };
 
+    ghost cause = { λ _. Other };
+
     fn read(&mut self, alloc: Global, name: &str) -> Result<Option<Vec<u8>>, FilesError> {
         if self.name == name {
             Ok(Some(Vec::new(alloc)))
         } else {
             Ok(None)
         }
+    }
+
+    fn cause(&self) -> Cause {
+        Cause::Other
     }
 }
 

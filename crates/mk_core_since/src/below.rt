@@ -4,7 +4,7 @@ ghost use Rattle.std.specs.Prelude.{◌≡◌, IfOk};
 ghost use Rattle.std.specs.String.{string_bytes};
 ghost use Rattle.mk_core_since.specs.Below.{ends_in_slash, name_below};
 
-use mk_read_files::{Answer, Answered, Files, FilesError};
+use mk_read_files::{Answer, Answered, Cause, Files, FilesError};
 use std::alloc::{AllocError, Global};
 
 /// A reader of the files of one folder, by their names in it.
@@ -70,6 +70,8 @@ impl<F: Files> Files for Below<F> {
 
     ghost failed = { λ b. b.answered.given.failed };
 
+    ghost cause = { λ b. F.cause b.files };
+
     fn read(&mut self, alloc: Global, name: &str) -> Result<Option<Vec<u8>>, FilesError> {
         let full = name_below(alloc, self.folder.as_str(), name)?;
         let read = self.files.read(alloc, full.as_str());
@@ -78,6 +80,10 @@ impl<F: Files> Files for Below<F> {
             result: &read,
         });
         read
+    }
+
+    fn cause(&self) -> Cause {
+        self.files.cause()
     }
 }
 

@@ -3,3 +3,4 @@ pub mod FaultText
 pub mod GraphText
 pub mod VerdictText
 pub mod Appending
+pub mod Causes

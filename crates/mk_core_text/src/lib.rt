@@ -1,6 +1,7 @@
 //! The printed text of graphs, verdicts and refusals.
 #![tactic(auto)]
 
+mod causes;
 mod fault;
 mod printing;
 mod refusal;
@@ -8,6 +9,7 @@ mod rendering;
 mod verdict;
 mod wording;
 
+pub use causes::caused_words;
 pub use fault::Fault;
 pub use printing::text_of;
 pub use rendering::{findings_text, render, yes_line};

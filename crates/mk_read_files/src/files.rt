@@ -3,8 +3,10 @@
 ghost use Rattle.std.specs.Prelude.{◌≡◌, ℕ, List, ◌∷◌, OnOk, IfOk, IsErrOf};
 ghost use Rattle.std.specs.Option.{option_map};
 ghost use Rattle.mk_read.specs.Files.{IfFits, Keeps, Told, text_at};
+ghost use Rattle.mk_read_files.specs.declared.cause.Cause.{Cause};
 ghost use Rattle.mk_read_files.specs.declared.files.FilesError.TheVariants.{Memory};
 
+use crate::cause::Cause;
 use std::alloc::{AllocError, Global};
 use thiserror::Error;
 
@@ -37,6 +39,9 @@ pub trait Files {
     /// The names of the files whose reads failed, the last one first.
     ghost failed: { Self → List (List ℕ) };
 
+    /// What is known of why the last read failed.
+    ghost cause: { Self → Cause };
+
     /// The text of a file, or `None` where the file doesn't exist. Fails with `ReadFailed`, where
     /// its name is noted, or with `Memory`, out of memory, where nothing is.
     fn read(&mut self, alloc: Global, name: &str) -> Result<Option<Vec<u8>>, FilesError>
@@ -47,4 +52,8 @@ pub trait Files {
         ensures memory { IsErrOf result FilesError.Memory → failed self.new ≡ failed self.old }
         ensures noted { IsErrOf result FilesError.ReadFailed
             → failed self.new ≡ name.now ∷ failed self.old };
+
+    /// What is known of why the last read failed; anything where none did.
+    fn cause(&self) -> Cause
+        ensures { result ≡ cause self.now };
 }

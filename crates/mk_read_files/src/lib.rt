@@ -2,8 +2,10 @@
 #![tactic(auto)]
 
 mod answered;
+mod cause;
 mod files;
 pub mod laws;
 
 pub use answered::{Answer, Answered};
+pub use cause::Cause;
 pub use files::{Files, FilesError};

@@ -5,9 +5,10 @@ ghost use Rattle.std.specs.Option.{option_map};
 ghost use Rattle.mk_read.specs.Files.{text_at};
 ghost use Rattle.mk_read_parse.specs.MemFiles.{entries};
 ghost use Rattle.mk_read_files.specs.declared.files.FilesError.TheVariants.{Memory, ReadFailed};
+ghost use Rattle.mk_read_files.specs.declared.cause.Cause.TheVariants.{Other};
 
 use mk_lines::Name;
-use mk_read_files::{Answer, Answered, Files, FilesError};
+use mk_read_files::{Answer, Answered, Cause, Files, FilesError};
 use std::alloc::{AllocError, Global};
 
 /// A file in memory.
@@ -133,7 +134,13 @@ impl Files for MemFiles {
 
     ghost failed = { failed_of };
 
+    ghost cause = { λ _. Other };
+
     fn read(&mut self, alloc: Global, name: &str) -> Result<Option<Vec<u8>>, FilesError> {
         self.read_next(alloc, name)
+    }
+
+    fn cause(&self) -> Cause {
+        Cause::Other
     }
 }

@@ -81,19 +81,21 @@ bool_decides false true e = absurd cc
 bool_decides false false e = refl
 
 -- equal topics are one
-topic_decides : (t u : Topic) → topic_eq t u ≡ true → t ≡ u
+pub topic_decides : (t u : Topic) → topic_eq t u ≡ true → t ≡ u
 topic_decides t u e =
-    let first = and_parts (kind_number t.kind == kind_number u.kind) (same_bool t.has_line u.has_line && (bytes_eq t.first u.first && bytes_eq t.second u.second)) e in
-    let second = and_parts (same_bool t.has_line u.has_line) (bytes_eq t.first u.first && bytes_eq t.second u.second) first.1 in
-    let third = and_parts (bytes_eq t.first u.first) (bytes_eq t.second u.second) second.1 in
+    let first = and_parts (kind_number t.kind == kind_number u.kind) (same_bool t.has_line u.has_line && (bytes_eq t.first u.first && (bytes_eq t.second u.second && bytes_eq t.cycle u.cycle))) e in
+    let second = and_parts (same_bool t.has_line u.has_line) (bytes_eq t.first u.first && (bytes_eq t.second u.second && bytes_eq t.cycle u.cycle)) first.1 in
+    let third = and_parts (bytes_eq t.first u.first) (bytes_eq t.second u.second && bytes_eq t.cycle u.cycle) second.1 in
+    let fourth = and_parts (bytes_eq t.second u.second) (bytes_eq t.cycle u.cycle) third.1 in
     let kind : t.kind ≡ u.kind = one_number t.kind u.kind (eqb-true (kind_number t.kind) (kind_number u.kind) first.0) in
     let line : t.has_line ≡ u.has_line = bool_decides t.has_line u.has_line second.0 in
     let one : t.first ≡ u.first = (bytes_eq-Decides t.first u.first).0 third.0 in
-    let two : t.second ≡ u.second = (bytes_eq-Decides t.second u.second).0 third.1 in
-    λ i. record { kind = kind i; has_line = line i; first = one i; second = two i }
+    let two : t.second ≡ u.second = (bytes_eq-Decides t.second u.second).0 fourth.0 in
+    let round : t.cycle ≡ u.cycle = (bytes_eq-Decides t.cycle u.cycle).0 fourth.1 in
+    λ i. record { kind = kind i; has_line = line i; first = one i; second = two i; cycle = round i }
 
 -- equal keys of rows are one
-row_decides : (k l : RowKey) → row_key_eq k l ≡ true → k ≡ l
+pub row_decides : (k l : RowKey) → row_key_eq k l ≡ true → k ≡ l
 row_decides k l e =
     let parts = and_parts (topic_eq k.topic l.topic) (bytes_eq k.who l.who) e in
     let topic : k.topic ≡ l.topic = topic_decides k.topic l.topic parts.0 in

@@ -5,3 +5,14 @@ pub mod RowSteps
 pub mod FirstRules
 pub mod RuleTables
 pub mod Joined
+pub mod ClaimSets
+pub mod JoinedClaims
+pub mod OfferRows
+pub mod WiderGraphs
+pub mod OfferCycles
+pub mod Numbers
+pub mod NoSteps
+pub mod MendedClaims
+pub mod ShownLines
+pub mod Fronts
+pub mod LedGraphs

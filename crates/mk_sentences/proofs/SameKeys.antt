@@ -17,7 +17,7 @@ use Rattle.mk_sentences.specs.contracts.topic.TopicPartialEq.TheImpl as topics
 use Rattle.mk_sentences.specs.contracts.grouping.RowKeyPartialEq.TheImpl as row_keys
 use Rattle.mk_sentences.specs.contracts.grouping.GroupKeyPartialEq.TheImpl as group_keys
 use Rattle.mk_sentences.specs.declared.topic.Kind.{Kind}
-use Rattle.mk_sentences.specs.declared.topic.Kind.TheVariants.{NoRecord, OtherCommands, VaryingCommands, NoTarget, TwoWriters, GivenWritten, OwnRead, UnknownRead, UnreachedRead, Loose, OwnPrerequisite, Race, OutputRace, Stale, OutputStale, Selection}
+use Rattle.mk_sentences.specs.declared.topic.Kind.TheVariants.{NoRecord, OtherCommands, VaryingCommands, NoTarget, TwoWriters, GivenWritten, OwnRead, UnknownRead, UnreachedRead, Loose, OwnPrerequisite, Race, OutputRace, Stale, OutputStale, RaceAndStale, OutputRaceAndStale, Selection}
 use Rattle.mk_sentences.specs.declared.topic.Topic.{Topic}
 use Rattle.mk_sentences.specs.declared.grouping.RowKey.{RowKey}
 use Rattle.mk_sentences.specs.declared.grouping.GroupKey.{GroupKey}
@@ -29,7 +29,7 @@ use Rattle.mk_sentences.specs.Tables.{row_key_view, group_key_view, rows_view, g
 kind_at : ℕ → Kind
 kind_at n =
     cond (n == 1) NoRecord (cond (n == 2) OtherCommands (cond (n == 3) VaryingCommands (cond (n == 4) NoTarget (cond (n == 5) TwoWriters (cond (n == 6) GivenWritten
-    (cond (n == 7) OwnRead (cond (n == 8) UnknownRead (cond (n == 9) Loose (cond (n == 10) Race (cond (n == 11) OutputRace (cond (n == 12) Stale (cond (n == 13) OutputStale (cond (n == 14) Selection (cond (n == 15) UnreachedRead OwnPrerequisite))))))))))))))
+    (cond (n == 7) OwnRead (cond (n == 8) UnknownRead (cond (n == 9) Loose (cond (n == 10) Race (cond (n == 11) OutputRace (cond (n == 12) Stale (cond (n == 13) OutputStale (cond (n == 14) Selection (cond (n == 15) UnreachedRead (cond (n == 16) OwnPrerequisite (cond (n == 17) RaceAndStale OutputRaceAndStale))))))))))))))))
 
 -- the number tells the kind
 at_number : (k : Kind) → kind_at (kind_number k) ≡ k
@@ -49,6 +49,8 @@ at_number Race = refl
 at_number OutputRace = refl
 at_number Stale = refl
 at_number OutputStale = refl
+at_number RaceAndStale = refl
+at_number OutputRaceAndStale = refl
 at_number Selection = refl
 
 -- kinds with one number are the same
@@ -73,10 +75,11 @@ bools_seen false true = refl
 bools_seen false false = refl
 
 -- topics
-topics_seen : (t u : Topic) → topics.eq-value.it t u ≡ topic_eq (topic_view t) (topic_view u)
+pub topics_seen : (t u : Topic) → topics.eq-value.it t u ≡ topic_eq (topic_view t) (topic_view u)
 topics_seen t u =
-    ap (λ b. b && (beq t.has_line u.has_line && (bytes_eq t.first.now u.first.now && bytes_eq t.second.now u.second.now))) (same_kind t.kind u.kind)
-    ∙ ap (λ b. (kind_number t.kind == kind_number u.kind) && (b && (bytes_eq t.first.now u.first.now && bytes_eq t.second.now u.second.now))) (bools_seen t.has_line u.has_line)
+    let names = bytes_eq t.first.now u.first.now && (bytes_eq t.second.now u.second.now && bytes_eq t.cycle.now u.cycle.now) in
+    ap (λ b. b && (beq t.has_line u.has_line && names)) (same_kind t.kind u.kind)
+    ∙ ap (λ b. (kind_number t.kind == kind_number u.kind) && (b && names)) (bools_seen t.has_line u.has_line)
 
 -- keys of rows
 pub row_keys_seen : (k l : RowKey) → row_keys.eq-value.it k l ≡ row_key_eq (row_key_view k) (row_key_view l)

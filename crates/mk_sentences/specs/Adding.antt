@@ -3,7 +3,7 @@ use Rattle.std.specs.Prelude.{ℕ, List, [], ◌∷◌, ◌++◌, codes}
 use Rattle.std.specs.List.{flat_map}
 use Rattle.mk_repair.specs.Lines.{Line, lines_between, line_text, line_with}
 use Rattle.mk_sentences.specs.declared.topic.Kind.{Kind}
-use Rattle.mk_sentences.specs.declared.topic.Kind.TheVariants.{NoTarget, OutputRace, OutputStale, UnreachedRead}
+use Rattle.mk_sentences.specs.declared.topic.Kind.TheVariants.{NoTarget, OutputRace, OutputStale, OutputRaceAndStale, UnreachedRead}
 
 -- The lines that mend a group of this kind: its targets become phony; or each gets, as
 -- prerequisites, the recipe that writes the files or the files themselves.
@@ -11,6 +11,7 @@ abbrev pub lines_of : Kind → (first : List ℕ) → (who what : List (List ℕ
 lines_of NoTarget first who what = lines_between (codes ".PHONY" ∷ []) who
 lines_of OutputRace first who what = lines_between who (first ∷ [])
 lines_of OutputStale first who what = lines_between who (first ∷ [])
+lines_of OutputRaceAndStale first who what = lines_between who (first ∷ [])
 lines_of UnreachedRead first who what = lines_between who (first ∷ [])
 lines_of kind first who what = lines_between who what
 

@@ -5,7 +5,7 @@ use Rattle.mk_lines.specs.Names.{has_name}
 use Rattle.mk_sentences.specs.Topics.{Topic}
 use Rattle.mk_sentences.specs.Phrases.{by, shown}
 use Rattle.mk_sentences.specs.declared.topic.Kind.{Kind}
-use Rattle.mk_sentences.specs.declared.topic.Kind.TheVariants.{NoRecord, OtherCommands, VaryingCommands, NoTarget, TwoWriters, GivenWritten, OwnRead, UnknownRead, UnreachedRead, Loose, OwnPrerequisite, Race, OutputRace, Stale, OutputStale, Selection}
+use Rattle.mk_sentences.specs.declared.topic.Kind.TheVariants.{NoRecord, OtherCommands, VaryingCommands, NoTarget, TwoWriters, GivenWritten, OwnRead, UnknownRead, UnreachedRead, Loose, OwnPrerequisite, Race, OutputRace, Stale, OutputStale, RaceAndStale, OutputRaceAndStale, Selection}
 
 -- Files whose names a makefile can't hold.
 abbrev pub rename : List (List ℕ) → List ℕ
@@ -31,9 +31,11 @@ abbrev pub write_another : List (List ℕ) → List ℕ
 write_another what =
     by what
     (codes "let the recipe write another file, or take this one out of the sources, -include " ++
-    codes "and .PHONY; if it lists headers, as cc -MMD writes them, see mkcheck explain given")
+    (codes "and .PHONY; if it is a dependency file, as cc -MMD writes it, let mkcheck-import " ++
+    codes "read the build"))
     (codes "let the recipe write other files, or take these out of the sources, -include " ++
-    codes "and .PHONY; if they list headers, as cc -MMD writes them, see mkcheck explain given")
+    (codes "and .PHONY; if they are dependency files, as cc -MMD writes them, " ++
+    codes "let mkcheck-import read the build"))
 
 -- A file that the recipe which writes it has as a prerequisite.
 abbrev pub split_writer : (who what : List (List ℕ)) → List ℕ
@@ -42,6 +44,12 @@ split_writer who what =
     (by who (codes " a rule of its own, or take it out of the prerequisites of ")
     (codes " rules of their own, or take them out of the prerequisites of ") ++
     (shown what ++ codes ": to depend on that would close a cycle")))
+
+-- A line that would close this cycle.
+abbrev pub open_cycle : List ℕ → List ℕ
+open_cycle cycle =
+    codes "with a line for this each of these names would need the next one:" ++ (cycle ++
+    codes "; split one of these recipes in two, or take a prerequisite away")
 
 -- A file of unknown origin.
 abbrev pub take_in : List (List ℕ) → List ℕ
@@ -99,8 +107,12 @@ advice_of Race first second who what = rename what
 advice_of OutputRace first second who what = rename what
 advice_of Stale first second who what = rename what
 advice_of OutputStale first second who what = rename what
+advice_of RaceAndStale first second who what = rename what
+advice_of OutputRaceAndStale first second who what = rename what
 advice_of Selection first second who what = write_rule first second
 
 -- What to do about a group.
 abbrev pub advice : Topic → (who what : List (List ℕ)) → List ℕ
-advice topic who what = advice_of topic.kind topic.first topic.second who what
+advice topic who what =
+    if bytes_eq topic.cycle [] then advice_of topic.kind topic.first topic.second who what
+    else open_cycle topic.cycle

@@ -26,7 +26,7 @@ claim_view c = record { topic = topic_view c.topic; who = c.who.now; what = c.wh
 -- A claim whose topic has no names.
 abbrev pub about : Kind → (has_line : Bool) → (who what : List ℕ) → Claim
 about kind has_line who what = record {
-  topic = record { kind = kind; has_line = has_line; first = []; second = [] };
+  topic = record { kind = kind; has_line = has_line; first = []; second = []; cycle = [] };
   who = who;
   what = what;
 }
@@ -34,7 +34,7 @@ about kind has_line who what = record {
 -- A claim whose topic has two names, and that no line of the makefile mends.
 abbrev pub between : Kind → (first second who what : List ℕ) → Claim
 between kind first second who what = record {
-  topic = record { kind = kind; has_line = false; first = first; second = second };
+  topic = record { kind = kind; has_line = false; first = first; second = second; cycle = [] };
   who = who;
   what = what;
 }
@@ -51,7 +51,13 @@ read_claim direct indirect recipe file (Some (phony target)) = about direct fals
 read_claim direct indirect recipe file (Some (needs target prerequisite)) =
     if bytes_eq prerequisite file then about direct true recipe file
     else (record {
-      topic = record { kind = indirect; has_line = true; first = prerequisite; second = [] };
+      topic = record {
+        kind = indirect;
+        has_line = true;
+        first = prerequisite;
+        second = [];
+        cycle = [];
+      };
       who = recipe;
       what = file;
     })
@@ -75,6 +81,7 @@ unknown_claim recipe file (Some (needs target prerequisite)) makers = record {
     has_line = true;
     first = prerequisite;
     second = [];
+    cycle = [];
   };
   who = recipe;
   what = file;

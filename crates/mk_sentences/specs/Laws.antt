@@ -4,10 +4,15 @@ use Rattle.std.specs.List.{flat_map, list_any}
 use Rattle.mk_read.specs.Reading.{Makefile}
 use Rattle.mk_read.specs.Rules.{gives_commands}
 use Rattle.mk_read.specs.State.{RuleRead}
+use Rattle.mk_build_needs.specs.NeedsGraph.{IsFirstCycle}
+use Rattle.mk_subject.specs.Subject.{Subject}
 use Rattle.mk_sentences.specs.Topics.{Topic}
 use Rattle.mk_sentences.specs.Claims.{Claim}
 use Rattle.mk_sentences.specs.Grouping.{Group, groups}
+use Rattle.mk_sentences.specs.Offers.{graph_with, words_of}
 use Rattle.mk_sentences.specs.Places.{names_target, rule_shown}
+use Rattle.mk_sentences.specs.Wider.{IsOver, far_names}
+use Rattle.mk_sentences.specs.Text.{AreShown}
 
 -- The claim with this topic, name and file.
 abbrev pub claim_on : Topic → (who what : List ℕ) → Claim
@@ -45,3 +50,10 @@ abbrev pub ShownWhereNamed : Type 0
 ShownWhereNamed =
     (m : Makefile) (name : List ℕ) → rule_shown m name ≡ None →
     list_any (names_target name) m.rules ≡ false
+
+-- The lines that are shown close no cycle, with the graph of the goals and of the names in lines.
+abbrev pub ShownCloseNoCycle : Type 0
+ShownCloseNoCycle =
+    (x : Subject) (claims shown : List Claim) → AreShown x claims shown →
+    (w : Subject) × IsOver x (far_names x claims) w ×
+    IsFirstCycle (graph_with w (words_of shown)) None

@@ -2,12 +2,17 @@ pub mod Topics
 pub mod Phrases
 pub mod Claims
 pub mod Untouched
+pub mod Offers
+pub mod Wider
+pub mod Joining
 pub mod Grouping
 pub mod Tables
+pub mod Numbering
 pub mod Places
 pub mod Sentences
 pub mod Advice
 pub mod Adding
+pub mod Counts
 pub mod Listing
 pub mod Text
 pub mod Laws

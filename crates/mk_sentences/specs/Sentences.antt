@@ -3,7 +3,7 @@ use Rattle.std.specs.Prelude.{ℕ, List, ◌++◌, codes}
 use Rattle.mk_sentences.specs.Topics.{Topic}
 use Rattle.mk_sentences.specs.Phrases.{by, shown}
 use Rattle.mk_sentences.specs.declared.topic.Kind.{Kind}
-use Rattle.mk_sentences.specs.declared.topic.Kind.TheVariants.{NoRecord, OtherCommands, VaryingCommands, NoTarget, TwoWriters, GivenWritten, OwnRead, UnknownRead, UnreachedRead, Loose, OwnPrerequisite, Race, OutputRace, Stale, OutputStale, Selection}
+use Rattle.mk_sentences.specs.declared.topic.Kind.TheVariants.{NoRecord, OtherCommands, VaryingCommands, NoTarget, TwoWriters, GivenWritten, OwnRead, UnknownRead, UnreachedRead, Loose, OwnPrerequisite, Race, OutputRace, Stale, OutputStale, RaceAndStale, OutputRaceAndStale, Selection}
 
 -- These recipes have no record.
 abbrev pub no_record : List (List ℕ) → List ℕ
@@ -125,6 +125,30 @@ output_stale writer who what =
     (by who (codes "doesn't depend on ") (codes "don't depend on ") ++ (writer ++
     (by what (codes ": when it changes, ") (codes ": when one changes, ") ++ stays_old who))))))
 
+-- What follows where recipes may begin before files are written, and don't run again when these
+-- change.
+unfoldable pub both_effects : (who what : List (List ℕ)) → List ℕ
+both_effects who what =
+    by what
+    (codes "with several jobs it may be missing, old or half-written then, " ++
+    codes "and when it changes, ")
+    (codes "with several jobs one may be missing, old or half-written then, " ++
+    codes "and when one changes, ") ++ stays_old who
+
+-- These recipes may begin before these files are written, and don't run again when these change.
+abbrev pub race_and_stale : (who what : List (List ℕ)) → List ℕ
+race_and_stale who what =
+    reads who what ++ (by who (codes ", but doesn't depend on ") (codes ", but don't depend on ") ++
+    (by what (codes "it: ") (codes "them: ") ++ both_effects who what))
+
+-- These recipes may begin before the recipe of `writer` has written these files, and don't run
+-- again when these change.
+abbrev pub output_race_and_stale : (writer : List ℕ) → (who what : List (List ℕ)) → List ℕ
+output_race_and_stale writer who what =
+    reads who what ++ (codes ", which the recipe of " ++ (writer ++ (codes " writes, but " ++
+    (by who (codes "doesn't depend on ") (codes "don't depend on ") ++ (writer ++
+    (codes ": " ++ both_effects who what))))))
+
 -- An inference rule makes the name from another file once recipes have run.
 abbrev pub selection : (name chosen : List ℕ) → List ℕ
 selection name chosen =
@@ -148,6 +172,8 @@ sentence_of Race first second who what = race who what
 sentence_of OutputRace first second who what = output_race first who what
 sentence_of Stale first second who what = stale who what
 sentence_of OutputStale first second who what = output_stale first who what
+sentence_of RaceAndStale first second who what = race_and_stale who what
+sentence_of OutputRaceAndStale first second who what = output_race_and_stale first who what
 sentence_of Selection first second who what = selection first second
 
 -- The sentence of a group.

@@ -1,5 +1,5 @@
 -- The text of findings in sentences.
-use Rattle.std.specs.Prelude.{ℕ, Bool, true, false, List, [], ◌∷◌, ◌++◌, codes, map, if◌then◌else◌}
+use Rattle.std.specs.Prelude.{◌≡◌, ℕ, Bool, true, false, List, [], ◌∷◌, ◌++◌, codes, drop, length, map, take, if◌then◌else◌}
 use Rattle.std.specs.List.{flat_map, list_any}
 use Rattle.mk_read.specs.Reading.{Makefile}
 use Rattle.mk_subject.specs.Subject.{Subject}
@@ -7,7 +7,11 @@ use Rattle.mk_find.specs.declared.finding.Finding.{Finding}
 use Rattle.mk_find.specs.declared.finding.Finding.TheVariants as finding
 use Rattle.mk_sentences.specs.Topics.{Topic, kind_word}
 use Rattle.mk_sentences.specs.Claims.{Claim, claim_of}
+use Rattle.mk_sentences.specs.Counts.{counts_of, counts_text}
 use Rattle.mk_sentences.specs.Grouping.{Group, groups}
+use Rattle.mk_sentences.specs.Joining.{joined}
+use Rattle.mk_sentences.specs.Offers.{Offer, claim_offered}
+use Rattle.mk_sentences.specs.Wider.{AreOffers}
 use Rattle.mk_sentences.specs.Places.{first_name, head}
 use Rattle.mk_sentences.specs.Sentences.{sentence}
 use Rattle.mk_sentences.specs.Advice.{advice}
@@ -55,24 +59,50 @@ is_static (finding.Race recipe writer file) = false
 is_static (finding.Stale recipe file) = false
 is_static found = true
 
+-- The text of groups, which are those of the claims, and a line with the counts.
+abbrev pub groups_text : Makefile → List Claim → List Group → List ℕ
+groups_text m claims gs = flat_map (group_text m) gs ++ counts_text (counts_of claims gs)
+
+-- The text of claims: that of each group, in which a race and a stale read of the same recipe and
+-- file are one claim, and a line with the counts.
+abbrev pub claims_text : Makefile → List Claim → List ℕ
+claims_text m claims = groups_text m claims (groups (joined claims))
+
 -- The findings that others hide, in groups after a line that says so, or that there is none to see.
 abbrev pub hidden_text : Makefile → List Claim → List ℕ
 hidden_text m [] = codes "once these are mended, check again: races and stale reads may show\n"
 hidden_text m (c ∷ claims) =
-    codes "once these are mended, as far as can be seen now:\n" ++
-    flat_map (group_text m) (groups (c ∷ claims))
+    codes "once these are mended, as far as can be seen now:\n" ++ claims_text m (c ∷ claims)
 
--- What follows the findings: where one of them hides others, the hidden ones about files that
--- mending these doesn't change.
-abbrev pub then_text : Subject → (findings hidden : List Finding) → List ℕ
-then_text x findings hidden =
+-- What follows the findings: where one of them hides others, what these claim.
+abbrev pub then_text : Makefile → List Finding → List Claim → List ℕ
+then_text m findings later = if list_any is_static findings then hidden_text m later else []
+
+-- Where one of the findings hides others, what the hidden ones claim, but for what mending the
+-- findings touches.
+abbrev pub later_claims : Subject → (findings hidden : List Finding) → List Claim
+later_claims x findings hidden =
     if list_any is_static findings
-    then hidden_text x.makefile
-    (untouched (map (claim_of x) findings) (map (claim_of x) hidden))
-    else []
+    then untouched (map (claim_of x) findings) (map (claim_of x) hidden) else []
 
--- The text of findings: that of each group, and then of those that they hide.
-abbrev pub sentences_text : Subject → (findings hidden : List Finding) → List ℕ
-sentences_text x findings hidden =
-    flat_map (group_text x.makefile) (groups (map (claim_of x) findings)) ++
-    then_text x findings hidden
+-- What the findings claim, and then what those claim that they hide.
+abbrev pub all_claims : Subject → (findings hidden : List Finding) → List Claim
+all_claims x findings hidden = map (claim_of x) findings ++ later_claims x findings hidden
+
+-- The text of findings, by all claims.
+abbrev pub all_text : Makefile → List Finding → List Claim → List ℕ
+all_text m findings claims =
+    claims_text m (take (length findings) claims) ++
+    then_text m findings (drop (length findings) claims)
+
+-- The claims as they are shown: without the lines that would close a cycle with the other lines, the
+-- graph, and what the rules say of prerequisites that the goals don't reach.
+abbrev pub AreShown : Subject → (claims shown : List Claim) → Type 0
+AreShown x claims shown =
+    (offers : List Offer) × AreOffers x claims offers × (shown ≡ map claim_offered offers)
+
+-- The text of findings, and of those that they hide.
+abbrev pub HasSentences : Subject → (findings hidden : List Finding) → List ℕ → Type 0
+HasSentences x findings hidden text =
+    (shown : List Claim) × AreShown x (all_claims x findings hidden) shown ×
+    (text ≡ all_text x.makefile findings shown)

@@ -2,16 +2,17 @@
 use Rattle.std.specs.Prelude.{ℕ, ◌==◌, Bool, ◌&&◌, not, List, codes, if◌then◌else◌}
 use Rattle.std.specs.Str.{bytes_eq}
 use Rattle.mk_sentences.specs.declared.topic.Kind.{Kind}
-use Rattle.mk_sentences.specs.declared.topic.Kind.TheVariants.{NoRecord, OtherCommands, VaryingCommands, NoTarget, TwoWriters, GivenWritten, OwnRead, UnknownRead, UnreachedRead, Loose, OwnPrerequisite, Race, OutputRace, Stale, OutputStale, Selection}
+use Rattle.mk_sentences.specs.declared.topic.Kind.TheVariants.{NoRecord, OtherCommands, VaryingCommands, NoTarget, TwoWriters, GivenWritten, OwnRead, UnknownRead, UnreachedRead, Loose, OwnPrerequisite, Race, OutputRace, Stale, OutputStale, RaceAndStale, OutputRaceAndStale, Selection}
 use Rattle.mk_sentences.specs.declared.topic.Topic as borrowed
 
 -- What the findings of a group have in common: their kind; whether a line of the makefile mends
--- them; and up to two names.
+-- them; up to two names; and the names along the cycle that a line would close, if it would.
 pub record Topic : Type 0 where
   pub kind : Kind
   pub has_line : Bool
   pub first : List ℕ
   pub second : List ℕ
+  pub cycle : List ℕ
 
 -- The topic that a borrowed topic stands for.
 abbrev pub topic_view : borrowed.Topic → Topic
@@ -20,6 +21,7 @@ topic_view t = record {
   has_line = t.has_line;
   first = t.first.now;
   second = t.second.now;
+  cycle = t.cycle.now;
 }
 
 -- The place of a kind among all kinds.
@@ -40,6 +42,8 @@ kind_number OutputStale = 13
 kind_number Selection = 14
 kind_number UnreachedRead = 15
 kind_number OwnPrerequisite = 16
+kind_number RaceAndStale = 17
+kind_number OutputRaceAndStale = 18
 
 -- Whether two Booleans are equal.
 abbrev pub same_bool : Bool → Bool → Bool
@@ -49,7 +53,7 @@ same_bool b c = if b then c else not c
 abbrev pub topic_eq : Topic → Topic → Bool
 topic_eq t u =
     (kind_number t.kind == kind_number u.kind) && (same_bool t.has_line u.has_line &&
-    (bytes_eq t.first u.first && bytes_eq t.second u.second))
+    (bytes_eq t.first u.first && (bytes_eq t.second u.second && bytes_eq t.cycle u.cycle)))
 
 -- The word that is printed for findings of a kind.
 abbrev pub kind_word : Kind → List ℕ
@@ -68,4 +72,6 @@ kind_word Race = codes "race"
 kind_word OutputRace = codes "race"
 kind_word Stale = codes "stale"
 kind_word OutputStale = codes "stale"
+kind_word RaceAndStale = codes "race, stale"
+kind_word OutputRaceAndStale = codes "race, stale"
 kind_word Selection = codes "selection"

@@ -81,7 +81,7 @@ pub fn push_added_lines(
 {
     match topic.kind {
         Kind::NoTarget => push_added_between(alloc, out, &[".PHONY"], who),
-        Kind::OutputRace | Kind::OutputStale | Kind::UnreachedRead => {
+        Kind::OutputRace | Kind::OutputStale | Kind::OutputRaceAndStale | Kind::UnreachedRead => {
             push_added_between(alloc, out, who, &[topic.first])
         }
         _ => push_added_between(alloc, out, who, what),
@@ -102,7 +102,7 @@ pub fn push_lines(
 {
     match topic.kind {
         Kind::NoTarget => push_lines_between(alloc, out, &[".PHONY"], who),
-        Kind::OutputRace | Kind::OutputStale | Kind::UnreachedRead => {
+        Kind::OutputRace | Kind::OutputStale | Kind::OutputRaceAndStale | Kind::UnreachedRead => {
             push_lines_between(alloc, out, who, &[topic.first])
         }
         _ => push_lines_between(alloc, out, who, what),

@@ -5,7 +5,7 @@ ghost use Rattle.std.specs.String.{string_bytes};
 ghost use Rattle.mk_lines.specs.Names.{has_name};
 ghost use Rattle.mk_repair.specs.Rows.{names_view};
 ghost use Rattle.mk_sentences.specs.Topics.{topic_view};
-ghost use Rattle.mk_sentences.specs.Advice.{advice, choose_maker, find_maker, keep_first, keep_one, rename, split_writer, take_in, write_another, write_rule};
+ghost use Rattle.mk_sentences.specs.Advice.{advice, choose_maker, find_maker, keep_first, keep_one, open_cycle, rename, split_writer, take_in, write_another, write_rule};
 
 use crate::phrases::{by, shown};
 use crate::topic::{Kind, Topic};
@@ -74,9 +74,11 @@ fn push_write_another(out: &mut String, what: &[&str]) -> Result<(), AllocError>
     out.push_str(by(
         what,
         "let the recipe write another file, or take this one out of the sources, -include \
-         and .PHONY; if it lists headers, as cc -MMD writes them, see mkcheck explain given",
+         and .PHONY; if it is a dependency file, as cc -MMD writes it, let mkcheck-import read \
+         the build",
         "let the recipe write other files, or take these out of the sources, -include \
-         and .PHONY; if they list headers, as cc -MMD writes them, see mkcheck explain given",
+         and .PHONY; if they are dependency files, as cc -MMD writes them, let mkcheck-import \
+         read the build",
     ))
 }
 
@@ -100,6 +102,17 @@ fn push_split_writer(
     write!(
         out,
         "give {names}{rules}{writers}: to depend on that would close a cycle"
+    )
+}
+
+/// Appends what to do about a line that would close this cycle.
+fn push_open_cycle(out: &mut String, cycle: &str) -> Result<(), AllocError>
+    ensures { OnOk result (string_bytes out.new ≡ string_bytes out.old ++ open_cycle cycle.now) }
+{
+    write!(
+        out,
+        "with a line for this each of these names would need the next one:{cycle}; \
+         split one of these recipes in two, or take a prerequisite away"
     )
 }
 
@@ -178,6 +191,9 @@ pub fn push_advice(
     ensures { OnOk result (string_bytes out.new ≡ string_bytes out.old ++
         advice (topic_view topic.now) (names_view who.now) (names_view what.now)) }
 {
+    if topic.cycle != "" {
+        return push_open_cycle(out, topic.cycle);
+    }
     match topic.kind {
         Kind::NoRecord | Kind::OtherCommands => {
             out.push_str("record again, with the goals and macros that are checked")
@@ -209,6 +225,8 @@ pub fn push_advice(
         Kind::OutputRace => push_rename(out, what),
         Kind::Stale => push_rename(out, what),
         Kind::OutputStale => push_rename(out, what),
+        Kind::RaceAndStale => push_rename(out, what),
+        Kind::OutputRaceAndStale => push_rename(out, what),
         Kind::Selection => push_write_rule(out, topic.first, topic.second),
     }
 }

@@ -13,7 +13,7 @@ use mk_subject::Subject;
 use std::alloc::{AllocError, Global};
 
 /// What a finding says.
-#[derive(Clone, Copy)]
+#[derive(Clone, Copy, PartialEq, Eq, Hash)]
 pub struct Claim<'a> {
     /// What it has in common with the findings of its group.
     pub topic: Topic<'a>,
@@ -32,6 +32,7 @@ fn about<'a>(kind: Kind, has_line: bool, who: &'a str, what: &'a str) -> Claim<'
         has_line,
         first: "",
         second: "",
+        cycle: "",
     };
     Claim { topic, who, what }
 }
@@ -68,6 +69,7 @@ fn read_claim<'a>(
                 has_line: true,
                 first: prerequisite,
                 second: "",
+                cycle: "",
             };
             Claim {
                 topic,
@@ -95,6 +97,7 @@ fn between<'a>(
         has_line: false,
         first,
         second,
+        cycle: "",
     };
     Claim { topic, who, what }
 }
@@ -128,6 +131,7 @@ fn unknown_claim<'a>(
                 has_line: true,
                 first: prerequisite,
                 second: "",
+                cycle: "",
             };
             Claim {
                 topic,

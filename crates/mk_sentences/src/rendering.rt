@@ -7,21 +7,25 @@ ghost use Rattle.mk_repair.specs.Gathering.{gathered};
 ghost use Rattle.mk_repair.specs.Rows.{names_view};
 ghost use Rattle.mk_sentences.specs.Topics.{topic_view};
 ghost use Rattle.mk_sentences.specs.Claims.{claim_of, claim_view};
-ghost use Rattle.mk_sentences.specs.Grouping.{group_key_eq, group_of, group_pair, groups};
+ghost use Rattle.mk_sentences.specs.Grouping.{group_key_eq, group_of, group_pair};
 ghost use Rattle.mk_sentences.specs.Tables.{groups_view, rows_view};
 ghost use Rattle.mk_sentences.specs.Places.{first_name};
 ghost use Rattle.mk_sentences.specs.Untouched.{untouched};
-ghost use Rattle.mk_sentences.specs.Text.{group_text, hidden_text, is_static, repair_text, sentences_text, shown_name, then_text, to_do, word_text};
+ghost use Rattle.mk_sentences.specs.Text.{HasSentences, all_claims, all_text, claims_text, group_text, groups_text, hidden_text, is_static, repair_text, shown_name, then_text, to_do, word_text};
 
 use crate::adding::push_added_lines;
 use crate::advice::push_advice;
 use crate::claim::{Claim, claims_of};
-use crate::grouping::{Groups, Rows, groups_of, rows_of};
+use crate::counts::{counts_of, push_counts};
+use crate::grouping::{Groups, Rows, groups_of};
+use crate::joining::{claim_set, joined_rows};
 use crate::left_claims::untouched;
 use crate::listing::{push_left_out, who_are};
+use crate::offer::claims_offered;
 use crate::places::{Places, push_head};
 use crate::sentence::push_sentence;
 use crate::topic::{Kind, Topic, kind_word};
+use crate::wider::offers_of;
 use mk_find::Finding;
 use mk_read::Makefile;
 use mk_subject::Subject;
@@ -133,34 +137,38 @@ fn push_groups(
     Ok(())
 }
 
-/// Appends the text of the groups of rows.
+/// Appends the text of the groups of rows, which are those of the claims, and their counts.
 fn push_rows(
     alloc: Global,
     out: &mut String,
     makefile: &Makefile,
+    claims: &[Claim<'_>],
     rows: &Rows<'_>,
 ) -> Result<(), AllocError>
     ensures { OnOk result (string_bytes out.new ≡ string_bytes out.old ++
-        flat_map (group_text makefile.now) (map group_of
+        groups_text makefile.now (map claim_view claims.now) (map group_of
         (gathered group_key_eq (map group_pair (rows_view rows.now.entries))))) }
 {
     let groups = groups_of(alloc, rows)?;
     let places = Places::new(alloc, makefile)?;
-    push_groups(alloc, out, &places, &groups)
+    push_groups(alloc, out, &places, &groups)?;
+    let counts = counts_of(alloc, claims, &groups)?;
+    push_counts(alloc, out, &counts)
 }
 
-/// Appends the text of the groups of claims.
+/// Appends the text of the groups of claims, and their counts.
 fn push_claims(
     alloc: Global,
     out: &mut String,
     makefile: &Makefile,
     claims: &[Claim<'_>],
 ) -> Result<(), AllocError>
-    ensures { OnOk result (string_bytes out.new ≡ string_bytes out.old ++
-        flat_map (group_text makefile.now) (groups (map claim_view claims.now))) }
+    ensures { OnOk result (string_bytes out.new ≡
+        string_bytes out.old ++ claims_text makefile.now (map claim_view claims.now)) }
 {
-    let rows = rows_of(alloc, claims)?;
-    push_rows(alloc, out, makefile, &rows)
+    let set = claim_set(alloc, claims)?;
+    let rows = joined_rows(alloc, &set, claims)?;
+    push_rows(alloc, out, makefile, claims, &rows)
 }
 
 /// Whether findings of this kind hide races and stale reads.
@@ -177,45 +185,99 @@ pub fn has_static(findings: &[Finding]) -> bool
     findings.iter().any(|finding| is_static(finding))
 }
 
-/// Appends the hidden findings, given what the others and they claim.
+/// Appends what the hidden findings claim.
 fn push_hidden(
     alloc: Global,
     out: &mut String,
     makefile: &Makefile,
-    claims: &[Claim<'_>],
-    hidden: &[Claim<'_>],
+    later: &[Claim<'_>],
 ) -> Result<(), AllocError>
-    ensures { OnOk result (string_bytes out.new ≡ string_bytes out.old ++ hidden_text makefile.now
-        (untouched (map claim_view claims.now) (map claim_view hidden.now))) }
+    ensures { OnOk result (string_bytes out.new ≡
+        string_bytes out.old ++ hidden_text makefile.now (map claim_view later.now)) }
 {
-    let left = untouched(alloc, claims, hidden)?;
-    if left.is_empty() {
-        out.push_str("once these are mended, check again: races and stale reads may show\n")?;
-        return Ok(());
+    if later.is_empty() {
+        return out.push_str("once these are mended, check again: races and stale reads may show\n");
     }
     out.push_str("once these are mended, as far as can be seen now:\n")?;
-    push_claims(alloc, out, makefile, left.as_slice())
+    push_claims(alloc, out, makefile, later)
 }
 
-/// Appends what follows the findings, given what they claim: where one of them hides others, these
-/// others.
+/// Appends what follows the findings: where one of them hides others, what these claim.
 fn push_then(
     alloc: Global,
     out: &mut String,
-    subject: &Subject<'_>,
+    makefile: &Makefile,
     findings: &[Finding],
-    claims: &[Claim<'_>],
-    hidden: &[Finding],
+    later: &[Claim<'_>],
 ) -> Result<(), AllocError>
-    requires { map claim_view claims.now ≡ map (claim_of subject.now) findings.now }
-    ensures { OnOk result (string_bytes out.new ≡
-        string_bytes out.old ++ then_text subject.now findings.now hidden.now) }
+    ensures { OnOk result (string_bytes out.new ≡ string_bytes out.old ++
+        then_text makefile.now findings.now (map claim_view later.now)) }
 {
     if !has_static(findings) {
         return Ok(());
     }
+    push_hidden(alloc, out, makefile, later)
+}
+
+/// Adds claims at the end.
+fn push_all_claims<'a>(claims: &mut Vec<Claim<'a>>, more: &[Claim<'a>]) -> Result<(), AllocError>
+    ensures { OnOk result (map claim_view claims.new.items ≡
+        map claim_view claims.old.items ++ map claim_view more.now) }
+{
+    for claim in more {
+        claims.push(*claim)?;
+    }
+    Ok(())
+}
+
+/// Adds what the hidden findings claim, without what mending the others touches.
+fn add_later<'a>(
+    alloc: Global,
+    claims: &mut Vec<Claim<'a>>,
+    subject: &'a Subject<'_>,
+    hidden: &'a [Finding],
+) -> Result<(), AllocError>
+    ensures { OnOk result (map claim_view claims.new.items ≡ map claim_view claims.old.items ++
+        untouched (map claim_view claims.old.items)
+        (map (claim_of subject.entry.now) hidden.entry.now)) }
+{
     let hidden = claims_of(alloc, subject, hidden)?;
-    push_hidden(alloc, out, subject.makefile(), claims, &hidden)
+    let left = untouched(alloc, claims.as_slice(), &hidden)?;
+    push_all_claims(claims, &left)
+}
+
+/// What the findings of a no claim, and then, where one of them hides others, what these claim,
+/// without what mending the findings touches. The only error is out of memory.
+pub fn all_claims<'a>(
+    alloc: Global,
+    subject: &'a Subject<'_>,
+    findings: &'a [Finding],
+    hidden: &'a [Finding],
+) -> Result<Vec<Claim<'a>>, AllocError>
+    ensures { IfOk result (λ claims. map claim_view claims.items ≡
+        all_claims subject.entry.now findings.entry.now hidden.entry.now) }
+{
+    let mut claims = claims_of(alloc, subject, findings)?;
+    if has_static(findings) {
+        add_later(alloc, &mut claims, subject, hidden)?;
+    }
+    Ok(claims)
+}
+
+/// Appends the text of a no, given what its findings and then what those claim that they hide.
+fn push_all(
+    alloc: Global,
+    out: &mut String,
+    makefile: &Makefile,
+    findings: &[Finding],
+    claims: &[Claim<'_>],
+) -> Result<(), AllocError>
+    ensures { OnOk result (string_bytes out.new ≡ string_bytes out.old ++
+        all_text makefile.now findings.now (map claim_view claims.now)) }
+{
+    let count = findings.len().min(claims.len());
+    push_claims(alloc, out, makefile, &claims[..count])?;
+    push_then(alloc, out, makefile, findings, &claims[count..])
 }
 
 /// The findings of a no in sentences. Findings that say the same of several names or files are a
@@ -223,24 +285,27 @@ fn push_then(
 /// after `  add: `, or what else to do, after `  do: `, and then all targets or files of which the
 /// sentence leaves some out, after `  targets: ` or `  files: `. The groups come in the order of
 /// their first findings. A group stands at the rule line that gives commands to its first target,
-/// else at the first one that has it as a target.
+/// else at the first one that has it as a target. A race and a stale read of the same recipe and
+/// file are in one group. The last line has the counts.
 ///
 /// Where findings hide races and stale reads, a line says so, and the groups of `hidden` follow,
 /// without those that mending the others touches: about files that it may change, and stale reads
-/// of targets that it makes phony. Takes time linear in the makefile, the graph and the findings.
-/// The only error is out of memory.
+/// of targets that it makes phony. A line that would close a cycle with the graph and the other
+/// lines isn't there to be added; what to do says which names form it. Takes time linear in the
+/// makefile, the graph and the findings, for each such cycle. The only error is out of memory.
 pub fn sentences(
     alloc: Global,
     subject: &Subject<'_>,
     findings: &[Finding],
     hidden: &[Finding],
 ) -> Result<Vec<u8>, AllocError>
-    ensures { IfOk result (λ text. text.items ≡
-        sentences_text subject.now findings.now hidden.now) }
+    ensures { IfOk result (λ text. HasSentences subject.now findings.now hidden.now text.items) }
 {
-    let claims = claims_of(alloc, subject, findings)?;
+    let claims = all_claims(alloc, subject, findings, hidden)?;
+    let offers = offers_of(alloc, subject, &claims)?;
+    drop(claims);
+    let claims = claims_offered(alloc, &offers)?;
     let mut out = String::new(alloc);
-    push_claims(alloc, &mut out, subject.makefile(), &claims)?;
-    push_then(alloc, &mut out, subject, findings, &claims, hidden)?;
+    push_all(alloc, &mut out, subject.makefile(), findings, &claims)?;
     Ok(out.into_bytes())
 }

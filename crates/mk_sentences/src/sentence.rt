@@ -4,7 +4,7 @@ ghost use Rattle.std.specs.Prelude.{◌≡◌, ◌++◌, IfOk, OnOk};
 ghost use Rattle.std.specs.String.{string_bytes};
 ghost use Rattle.mk_repair.specs.Rows.{names_view};
 ghost use Rattle.mk_sentences.specs.Topics.{topic_view};
-ghost use Rattle.mk_sentences.specs.Sentences.{given_written, loose, no_record, no_target, other_commands, output_race, output_stale, own_read, race, reads, recipes_of, selection, sentence, stale, stays_old, two_writers, unknown_read, unreached_read, varying_commands};
+ghost use Rattle.mk_sentences.specs.Sentences.{both_effects, given_written, loose, no_record, no_target, other_commands, output_race, output_race_and_stale, output_stale, own_read, race, race_and_stale, reads, recipes_of, selection, sentence, stale, stays_old, two_writers, unknown_read, unreached_read, varying_commands};
 
 use crate::phrases::{by, shown};
 use crate::topic::{Kind, Topic};
@@ -277,6 +277,21 @@ fn stays_old(alloc: Global, who: &[&str]) -> Result<String, AllocError>
     format!(in alloc; "{names}{stay}")
 }
 
+/// What follows of a race and a stale read.
+#[tactic(auto, unfolding(crate::specs::Sentences::both_effects))]
+fn both_effects(alloc: Global, who: &[&str], what: &[&str]) -> Result<String, AllocError>
+    ensures { IfOk result (λ text. string_bytes text ≡
+        both_effects (names_view who.now) (names_view what.now)) }
+{
+    let effect = by(
+        what,
+        "with several jobs it may be missing, old or half-written then, and when it changes, ",
+        "with several jobs one may be missing, old or half-written then, and when one changes, ",
+    );
+    let stay = stays_old(alloc, who)?;
+    format!(in alloc; "{effect}{stay}")
+}
+
 /// Appends the sentence on recipes that don't run again when files change.
 fn push_stale(
     alloc: Global,
@@ -314,6 +329,45 @@ fn push_output_stale(
     write!(
         out,
         "{reads}, which the recipe of {writer} writes, but {lack}{writer}{change}{stay}"
+    )
+}
+
+/// Appends the sentence on recipes that may begin before files are written, and that don't run
+/// again when these change.
+fn push_race_and_stale(
+    alloc: Global,
+    out: &mut String,
+    who: &[&str],
+    what: &[&str],
+) -> Result<(), AllocError>
+    ensures { OnOk result (string_bytes out.new ≡
+        string_bytes out.old ++ race_and_stale (names_view who.now) (names_view what.now)) }
+{
+    let reads = reads(alloc, who, what)?;
+    let lack = by(who, ", but doesn't depend on ", ", but don't depend on ");
+    let effect = by(what, "it: ", "them: ");
+    let both = both_effects(alloc, who, what)?;
+    write!(out, "{reads}{lack}{effect}{both}")
+}
+
+/// Appends the sentence on recipes that may begin before the recipe of `writer` has written files,
+/// and that don't run again when these change.
+fn push_output_race_and_stale(
+    alloc: Global,
+    out: &mut String,
+    writer: &str,
+    who: &[&str],
+    what: &[&str],
+) -> Result<(), AllocError>
+    ensures { OnOk result (string_bytes out.new ≡ string_bytes out.old ++
+        output_race_and_stale writer.now (names_view who.now) (names_view what.now)) }
+{
+    let reads = reads(alloc, who, what)?;
+    let lack = by(who, "doesn't depend on ", "don't depend on ");
+    let both = both_effects(alloc, who, what)?;
+    write!(
+        out,
+        "{reads}, which the recipe of {writer} writes, but {lack}{writer}: {both}"
     )
 }
 
@@ -357,6 +411,10 @@ pub fn push_sentence(
         Kind::OutputRace => push_output_race(alloc, out, topic.first, who, what),
         Kind::Stale => push_stale(alloc, out, who, what),
         Kind::OutputStale => push_output_stale(alloc, out, topic.first, who, what),
+        Kind::RaceAndStale => push_race_and_stale(alloc, out, who, what),
+        Kind::OutputRaceAndStale => {
+            push_output_race_and_stale(alloc, out, topic.first, who, what)
+        }
         Kind::Selection => push_selection(out, topic.first, topic.second),
     }
 }

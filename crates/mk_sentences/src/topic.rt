@@ -3,8 +3,8 @@
 ghost use Rattle.std.specs.Prelude.{◌≡◌};
 ghost use Rattle.mk_sentences.specs.Topics.{kind_word};
 
-/// The kinds of groups: those of findings. Races and stale reads have two kinds each, since the
-/// prerequisite that is missing may be the file or the recipe that writes it.
+/// The kinds of groups: those of findings. Races, stale reads, and both together have two kinds
+/// each, since the prerequisite that is missing may be the file or the recipe that writes it.
 #[derive(Clone, Copy, PartialEq, Eq, Hash)]
 pub enum Kind {
     /// Recipes without a record.
@@ -37,6 +37,11 @@ pub enum Kind {
     Stale,
     /// The same; what is missing is the recipe that writes the file.
     OutputStale,
+    /// Recipes that may begin before a file is written that they read, and that don't run again
+    /// when it changes.
+    RaceAndStale,
+    /// The same; what is missing is the recipe that writes the file.
+    OutputRaceAndStale,
     /// A name that an inference rule makes from another file once recipes have run.
     Selection,
 }
@@ -52,6 +57,9 @@ pub struct Topic<'a> {
     pub first: &'a str,
     /// The second of two writers or of two such targets, or the other file; else empty.
     pub second: &'a str,
+    /// The names along the cycle that a line would close, each after a space; empty where none
+    /// would.
+    pub cycle: &'a str,
 }
 
 /// The word that is printed for findings of a kind.
@@ -74,6 +82,8 @@ pub fn kind_word(kind: Kind) -> &'static str
         Kind::OutputRace => "race",
         Kind::Stale => "stale",
         Kind::OutputStale => "stale",
+        Kind::RaceAndStale => "race, stale",
+        Kind::OutputRaceAndStale => "race, stale",
         Kind::Selection => "selection",
     }
 }

@@ -101,6 +101,13 @@ impl<'a> Subject<'a> {
         })
     }
 
+    /// The rules of the makefile, by their targets.
+    pub fn table(&self) -> &RuleTable<'a>
+        ensures { result.now ≡ self.now.makefile }
+    {
+        self.table
+    }
+
     /// The makefile.
     pub fn makefile(&self) -> &Makefile
         ensures { result.now ≡ self.now.makefile }

@@ -4,3 +4,4 @@ pub mod Disk
 pub mod Reading
 pub mod Writing
 pub mod Ending
+pub mod Causes

@@ -7,10 +7,11 @@ ghost use Rattle.mk_read_files.specs.Noted.{with_read};
 ghost use Rattle.mkcheck_host.specs.Disk.{FitsDisk, IsReading, answers_of, failed_of};
 ghost use Rattle.mkcheck_host.specs.Reading.{max_file};
 
+use crate::causes::cause_of;
 use crate::opener::Opener;
 use crate::reading::slurp;
 use crate::source::Source;
-use mk_read_files::{Answer, Answered, Files, FilesError};
+use mk_read_files::{Answer, Answered, Cause, Files, FilesError};
 use std::alloc::Global;
 use std::io;
 use std::io::ErrorKind;
@@ -21,6 +22,8 @@ use std::io::ErrorKind;
 pub struct Disk<O> {
     opener: O,
     answered: Answered,
+    /// What is known of why the last read failed.
+    cause: Cause,
 }
 
 // The result for a file that can't be opened: `None` where it doesn't exist, `Memory` where memory
@@ -39,13 +42,24 @@ fn unopened(error: &io::Error) -> Result<Option<Vec<u8>>, FilesError>
     }
 }
 
-// The text of an opened file, read to its end.
-fn opened<F: io::Read + Drop>(alloc: Global, file: F) -> Result<Option<Vec<u8>>, FilesError>
+// The text of an opened file, read to its end. Where that fails, the cause is told.
+fn opened<F: io::Read + Drop>(
+    alloc: Global,
+    file: F,
+    cause: &mut Cause,
+) -> Result<Option<Vec<u8>>, FilesError>
     ensures text { IfOk result (λ found. IsSomeAnd found
         (λ text. IfSome (F.remaining file) (λ left. text.items ≡ left))) }
     ensures limit { IfOk result (λ found. IfSome found (λ text. vec_len text ≤ max_file)) }
 {
-    Ok(Some(slurp(alloc, &mut Source::new(file))?))
+    let mut source = Source::new(file);
+    match slurp(alloc, &mut source) {
+        Ok(text) => Ok(Some(text)),
+        Err(error) => {
+            *cause = source.cause();
+            Err(error)
+        }
+    }
 }
 
 impl<O> Disk<O> {
@@ -57,6 +71,7 @@ impl<O> Disk<O> {
         Disk {
             opener,
             answered: Answered::new(),
+            cause: Cause::Other,
         }
     }
 }
@@ -73,8 +88,11 @@ impl<O: Opener> Disk<O> {
         ensures held { IfSome (O.holds self.old.opener name.now) (λ held. IsReading held result) }
     {
         let read = match self.opener.open(name) {
-            Ok(file) => opened(alloc, file),
-            Err(error) => unopened(&error),
+            Ok(file) => opened(alloc, file, &mut self.cause),
+            Err(error) => {
+                self.cause = cause_of(error.kind());
+                unopened(&error)
+            }
         };
         self.answered = self.answered.with(&Answer {
             name,
@@ -89,7 +107,13 @@ impl<O: Opener> Files for Disk<O> {
 
     ghost failed = { λ disk. failed_of disk };
 
+    ghost cause = { λ disk. disk.cause };
+
     fn read(&mut self, alloc: Global, name: &str) -> Result<Option<Vec<u8>>, FilesError> {
         self.read_file(alloc, name)
+    }
+
+    fn cause(&self) -> Cause {
+        self.cause
     }
 }

@@ -2,6 +2,7 @@
 //! and the exit status.
 #![tactic(auto)]
 
+mod causes;
 mod disk;
 mod ending;
 mod heap;

@@ -4,8 +4,11 @@ ghost use Rattle.std.specs.Prelude.{◌≡◌, ◌≢◌, ◌↔◌, ◌-◌, fa
 ghost use Rattle.std.specs.Io.{ReadsAtMost};
 ghost use Rattle.std.specs.Io.KnownBytes.{ReadConsumes};
 ghost use Rattle.std.specs.IoError.{error_kind};
+ghost use Rattle.mkcheck_host.specs.Causes.{cause_in};
 ghost use Rattle.mkcheck_host.specs.Reading.{max_reads};
 
+use crate::causes::cause_of;
+use mk_read_files::Cause;
 use std::io;
 use std::io::{ErrorKind, Read};
 
@@ -15,6 +18,7 @@ pub struct Source<R> {
     reader: R,
     reads_left: u32,
     failed: bool,
+    cause: Cause,
 }
 
 impl<R: Read> Source<R> {
@@ -28,6 +32,21 @@ impl<R: Read> Source<R> {
             reader,
             reads_left: 16_777_217,
             failed: false,
+            cause: Cause::Other,
+        }
+    }
+
+    /// Why the source wasn't read to its end, where it wasn't: what the last failed read says; else
+    /// it is too large, if further reads are allowed.
+    pub fn cause(&self) -> Cause
+        ensures { result ≡ cause_in self.now }
+    {
+        if self.failed {
+            self.cause
+        } else if self.is_spent() {
+            Cause::Other
+        } else {
+            Cause::TooLarge
         }
     }
 
@@ -56,6 +75,7 @@ impl<R: Read> Source<R> {
         if let Err(error) = &read {
             if error.kind() != ErrorKind::Interrupted {
                 self.failed = true;
+                self.cause = cause_of(error.kind());
             }
         }
         read

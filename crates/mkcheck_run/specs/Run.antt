@@ -13,7 +13,8 @@ use Rattle.mk_core_evidence.specs.EvidenceAnswer.{AnswersEvidence}
 use Rattle.mk_core.specs.GraphAnswer.{AnswersGraph}
 use Rattle.mk_core.specs.SimulationAnswer.{AnswersSimulation}
 use Rattle.mk_core.specs.Simulation.{Simulation, run_text, run_words}
-use Rattle.mk_core_text.specs.FaultText.{fault_text, fault_words}
+use Rattle.mk_core_text.specs.Causes.{caused_words}
+use Rattle.mk_core_text.specs.FaultText.{fault_text}
 use Rattle.mk_core.specs.Right.{IsRightFor}
 use Rattle.mk_core.specs.Steps.{is_out_of_memory, seen}
 use Rattle.mk_core_text.specs.VerdictText.{verdict_text}
@@ -21,6 +22,7 @@ use Rattle.mk_core.specs.VerifyAnswer.{AnswersVerify}
 use Rattle.mk_explain.specs.Explain.{explained, overview_text}
 use Rattle.mk_explain.specs.Near.{near_text}
 use Rattle.mk_core_json.specs.AnswerValue.{answer_text, refusal_value}
+use Rattle.mk_read_files.specs.declared.cause.Cause.{Cause}
 use Rattle.mk_core_json.specs.OtherValues.{mended_value, printed_value, run_value, unmended_value}
 use Rattle.mk_core_json.specs.declared.checking.InJson.{InJson}
 use Rattle.mk_core_json.specs.declared.checking.InJson.TheVariants as json
@@ -298,12 +300,12 @@ Promises files (Repair request form) text = MendsIn form files request text
 Promises files (Verify request certificate form) text = IsRightFor files request
 Promises files asked text = Unit {0}
 
--- What is printed for a refusal by this fault in this form, with the line of a file that is shown
--- for it.
-abbrev pub refusal_text : Form → Fault → (line : List ℕ) → List ℕ
-refusal_text Lines fault line = fault_text fault ++ 10 ∷ []
-refusal_text Words fault line = fault_words fault ++ 10 ∷ line
-refusal_text Json fault line = compact_text (refusal_value fault line) ++ 10 ∷ []
+-- What is printed for a refusal by this fault in this form, with the cause of the last failed read,
+-- and the line of a file that is shown for the fault.
+abbrev pub refusal_text : Form → Fault → Cause → (line : List ℕ) → List ℕ
+refusal_text Lines fault cause line = fault_text fault ++ 10 ∷ []
+refusal_text Words fault cause line = caused_words fault cause ++ 10 ∷ line
+refusal_text Json fault cause line = compact_text (refusal_value fault cause line) ++ 10 ∷ []
 
 -- The line of a file that is shown for a refusal in this form: none in lines.
 abbrev pub line_in : Form → Option Request → Fault → Option Place
@@ -323,16 +325,17 @@ refusal_written asked text = record { out = text; err = []; status = 2 }
 
 -- The response to the command is written to both streams, with its status; a fault as a refusal on
 -- standard output, or on standard error for `since`, with status 2, in words or as JSON with its
--- line of a file, which is read for that. Out of memory isn't written here. The names whose reads
--- failed grew by at most that file, where it can't be read again.
+-- line of a file, which is read for that, and a failed read with some cause. Out of memory isn't
+-- written here. The names whose reads failed grew by at most that file, where it can't be read
+-- again.
 abbrev pub Shows : (Told → Type 0) → (old new : List (List ℕ)) → Invocation →
     Result Response Fault → Written → Type 0
 Shows fits old new asked (Ok shown) w =
     (new ≡ old) × (w ≡ record { out = shown.text; err = shown.err; status = shown.status })
 Shows fits old new asked (Err fault) w =
     (is_out_of_memory fault ≡ false) ×
-    (line : List ℕ) × FindsLine fits old new (line_shown asked fault) line ×
-    (w ≡ refusal_written asked (refusal_text (form_of asked) fault line))
+    (cause : Cause) × (line : List ℕ) × FindsLine fits old new (line_shown asked fault) line ×
+    (w ≡ refusal_written asked (refusal_text (form_of asked) fault cause line))
 
 -- The outcome is that of some response or fault. It is the defined one over each two maps that fit
 -- what the reader of the folder and the reader of files have answered. The names whose reads

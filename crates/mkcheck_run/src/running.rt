@@ -19,7 +19,8 @@ use mk_command::{Form, Invocation, command_line, form_of, invocation_by, request
 use mk_core::{Fault, Files, fault_text};
 use mk_core_sentences::line_of_fault;
 use mk_core_since::Folder;
-use mk_core_text::fault_words;
+use mk_core_text::caused_words;
+use mk_read_files::Cause;
 use mkcheck_host::{FAULT, Outcome};
 use std::alloc::{AllocError, Global};
 use std::convert::AsStr;
@@ -33,19 +34,21 @@ pub const NO: u8 = 1;
 /// The exit status of a refusal.
 pub const REFUSED: u8 = 2;
 
-// What is printed for a refusal, given the line of a file that is shown for it.
+// What is printed for a refusal, given the cause of the last failed read, and the line of a file
+// that is shown for it.
 fn refusal_text(
     alloc: Global,
     form: Form,
     fault: &Fault,
+    cause: Cause,
     line: &[u8],
 ) -> Result<Vec<u8>, AllocError>
-    ensures { IfOk result (λ text. text.items ≡ refusal_text form fault.now line.now) }
+    ensures { IfOk result (λ text. text.items ≡ refusal_text form fault.now cause line.now) }
 {
     let mut text = match form {
         Form::Lines => fault_text(alloc, fault)?,
-        Form::Words => fault_words(alloc, fault)?,
-        Form::Json => mk_core_json::refusal_text(alloc, fault, line)?,
+        Form::Words => caused_words(alloc, fault, cause)?,
+        Form::Json => mk_core_json::refusal_text(alloc, fault, cause, line)?,
     };
     text.push(b'\n')?;
     if let Form::Words = form {
@@ -105,8 +108,9 @@ fn refused<F: Files>(
     if fault.is_out_of_memory() {
         return Err(AllocError);
     }
+    let cause = files.cause();
     let line = line_after(alloc, files, asked, fault)?;
-    let text = refusal_text(alloc, form_of(asked), fault, &line)?;
+    let text = refusal_text(alloc, form_of(asked), fault, cause, &line)?;
     Ok(refusal_outcome(alloc, asked, text))
 }
 

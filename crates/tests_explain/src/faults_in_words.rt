@@ -1,10 +1,11 @@
 //! Faults in words.
 
-use mk_core_text::{Fault, fault_words};
+use mk_core_text::{Fault, caused_words, fault_words};
 use mk_graph::GraphFault;
 use mk_infer::InferFault;
 use mk_lines::{Name, Names};
 use mk_read::{Place, ReadFault, Word};
+use mk_read_files::Cause;
 use std::alloc::{AllocError, Global};
 use std::process::Abort;
 use std::test::Fail;
@@ -80,5 +81,35 @@ fn says_a_name_alone(rt: HostRuntime) -> Result<(), Fail> {
         said(alloc, fault)?.as_str(),
         "NoGoal (44): there is no goal; write a rule"
     );
+    Ok(())
+}
+
+/// Returns the text of a failed read with this cause.
+fn said_of(alloc: Global, cause: Cause) -> Result<String, Fail> {
+    let fault = Fault::FileReadFailed(Name::new(alloc, "B")?);
+    let text = caused_words(alloc, &fault, cause);
+    drop(fault);
+    Ok(String::from_utf8(text?)?)
+}
+
+#[test]
+fn says_why_a_file_is_not_read(rt: HostRuntime) -> Result<(), Fail> {
+    let alloc = rt.alloc();
+    let wanted = "FileReadFailed (35): B: a file of the command line can't be read; \
+                  give another: this one is a folder";
+    assert_eq!(rt; said_of(alloc, Cause::Folder)?.as_str(), wanted);
+    let wanted = "FileReadFailed (35): B: a file of the command line can't be read; give another";
+    assert_eq!(rt; said_of(alloc, Cause::Other)?.as_str(), wanted);
+    Ok(())
+}
+
+#[test]
+fn gives_no_cause_for_another_fault(rt: HostRuntime) -> Result<(), Fail> {
+    let alloc = rt.alloc();
+    let fault = Fault::NoFile(Name::new(alloc, "B")?);
+    let text = caused_words(alloc, &fault, Cause::Folder);
+    drop(fault);
+    let wanted = "NoFile (38): B: a file of the command line doesn't exist; mend its name";
+    assert_eq!(rt; String::from_utf8(text?)?.as_str(), wanted);
     Ok(())
 }

@@ -146,9 +146,11 @@ fn one_finding_stops_a_repair(rt: HostRuntime) -> Result<(), Fail> {
 const SENTENCES: &str = "\
 makefile:1: p has no record, so nothing is known of what its recipe reads and writes [record]
   do: record again, with the goals and macros that are checked
+1 finding in 1 group; no line mends it
 once these are mended, as far as can be seen now:
 makefile:3: a.o reads h.h, but doesn't depend on it: when it changes, a.o stays old [stale]
   add: a.o: h.h
+1 finding in 1 group; 1 line mends it
 ";
 
 #[test]

@@ -3,6 +3,7 @@
 
 use mk_core::{Files, FilesError, MemFiles};
 use mk_core_since::Below;
+use mk_read_files::Cause;
 use mkcheck_host::{
     Disk, Ending, HostFiles, Outcome, Sink, Source, Stop, conclude, emit, end, slurp,
 };
@@ -151,6 +152,35 @@ fn fails_to_read_the_disk(rt: HostRuntime) {
         let text = disk.read(rt.alloc(), name);
         assert!(rt; matches!(&text, Err(FilesError::ReadFailed)));
     }
+}
+
+#[test]
+fn says_why_the_disk_was_not_read(rt: HostRuntime) {
+    let mut disk = Disk::new(HostFiles::new(rt.alloc(), &rt));
+    let places = [
+        ("/", Cause::Folder),
+        ("/dev/zero", Cause::TooLarge),
+        ("/dev/zero", Cause::ReadBefore),
+        ("/proc/self/mem", Cause::Other),
+        ("/dev/null/x", Cause::Other),
+    ];
+    for (name, cause) in places {
+        assert!(rt; disk.read(rt.alloc(), name).is_err());
+        assert_eq!(rt; disk.cause(), cause);
+    }
+}
+
+#[test]
+fn says_why_a_source_was_not_read(rt: HostRuntime) {
+    let mut longer = Source::new(io::repeat(b'a').take(16_777_217));
+    assert!(rt; is_failed(slurp(rt.alloc(), &mut longer)));
+    assert_eq!(rt; longer.cause(), Cause::TooLarge);
+    let mut closed = Source::new(Drops {
+        left: 3,
+        then: Some(ErrorKind::PermissionDenied),
+    });
+    assert!(rt; is_failed(slurp(rt.alloc(), &mut closed)));
+    assert_eq!(rt; closed.cause(), Cause::Permission);
 }
 
 // A writer that takes `room` bytes, at most `width` at each write. At the next write it fails or

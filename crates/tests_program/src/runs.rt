@@ -77,7 +77,7 @@ fn judges_builds(rt: HostRuntime) -> Result<(), Fail> {
     expect(rt.alloc(), "check -b S", 0, 1, "no stale a.o h.h\n")?;
     expect(rt.alloc(), "check -b S -e 2", 0, 1, "no plan\n")?;
     let sentence = "makefile:3: a.o reads h.h, but doesn't depend on it: when it changes, a.o \
-                    stays old [stale]\n  add: a.o: h.h\n";
+                    stays old [stale]\n  add: a.o: h.h\n1 finding in 1 group; 1 line mends it\n";
     expect(rt.alloc(), "check -w -b S", 0, 1, sentence)
 }
 

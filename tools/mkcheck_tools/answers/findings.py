@@ -73,7 +73,8 @@ class Way:
 @dataclass(frozen=True)
 class Group:
     """Findings of a kind in one sentence, at their rule line if there is one, and what mends them:
-    lines to add to the end of the makefile, or else what to do."""
+    lines to add to the end of the makefile, or else what to do. It may stand for findings of other
+    kinds too."""
 
     kind: str
     sentence: str
@@ -84,6 +85,16 @@ class Group:
     adds: tuple[str, ...] = ()
     advice: str = ""
     findings: tuple[Finding, ...] = ()
+    also: tuple[str, ...] = ()
+
+    @property
+    def kinds(self) -> tuple[str, ...]:
+        """The kinds of its findings."""
+        return (self.kind, *self.also)
+
+    def of_kind(self, kind: str) -> list[Finding]:
+        """Its findings of a kind."""
+        return [finding for finding in self.findings if finding.kind == kind]
 
     @cached_property
     def lacking(self) -> dict[str, list[str]]:
@@ -201,6 +212,7 @@ def group_of(value: Members) -> Group:
         line=place.number("line") if place else None,
         adds=tuple(added.split("\n")[:-1]),
         advice="" if value.is_null("do") else value.text("do"),
+        also=value.texts("also") if "also" in value.values else (),
     )
 
 
@@ -225,7 +237,12 @@ def keys_of(group: Group) -> list[Key]:
     if group.kind == "loose":
         return [(group.kind, (name,), name) for name in group.targets]
     files = group.files or ("",)
-    return [(group.kind, (name,), file) for name in group.targets for file in files]
+    return [
+        (kind, (name,), file)
+        for kind in group.kinds
+        for name in group.targets
+        for file in files
+    ]
 
 
 def with_findings(groups: tuple[Group, ...], findings: tuple[Finding, ...]) -> tuple[Group, ...]:

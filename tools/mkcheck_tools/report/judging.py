@@ -112,8 +112,8 @@ class Judged:
         return [*(kind for kind in KINDS if kind in known), *(k for k in known if k not in KINDS)]
 
     def of_kind(self, kind: str) -> list[Group]:
-        """The groups of a kind."""
-        return [group for group in self.groups if group.kind == kind]
+        """The groups with findings of a kind."""
+        return [group for group in self.groups if kind in group.kinds]
 
 
 def graph_and_book(checker: Checker) -> tuple[Graph, Reached]:

@@ -56,7 +56,7 @@ def items(those: Sequence[Shared], is_advice: bool) -> str:
     budget, parts = Budget(LISTED_BYTES), []
     for one in those[:LISTED_AT_MOST]:
         group = one.first
-        kinds = ", ".join(each.kind for each in one.groups)
+        kinds = ", ".join(kind for each in one.groups for kind in each.kinds)
         text = as_sentence(group.advice) if is_advice else group.sentence
         told = f"{place_of(group)}{prose(clipped(text, SENTENCE_AT_MOST))}"
         item = f'<li><a href="#{one.anchor}">{markup(kinds)}</a> {told}</li>'

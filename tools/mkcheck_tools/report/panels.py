@@ -105,7 +105,7 @@ def hidden(judged: Judged, behind: Sequence[Shared], shown: Shown) -> str:
     """The races and stale reads that the findings hide, as advice."""
     if not behind:
         return ""
-    kinds = dict.fromkeys(group.kind for group in judged.hidden)
+    kinds = dict.fromkeys(kind for group in judged.hidden for kind in group.kinds)
     meanings = [meaning(kind, shown.explained[kind][1]) for kind in kinds]
     return "".join([HIDDEN, *meanings, *panels(judged, behind, shown)])
 
@@ -170,10 +170,12 @@ def plans_at_most(judged: Judged, asked: Sequence[Finding]) -> int:
 def prepare(judged: Judged, those: Sequence[Shared]) -> Shown:
     """Asks for what else is shown, and draws schedules and graphs of groups in full."""
     groups = [group for one in those for group in one.groups]
-    asked = [one for group in groups if group.kind in PICTURED for one in group.findings[:1]]
-    asked += [one for group in groups if group.kind == "race" for one in group.findings[1:]]
+    pictured = [(group, kind) for group in groups for kind in group.kinds if kind in PICTURED]
+    asked = [one for group, kind in pictured for one in group.of_kind(kind)[:1]]
+    asked += [one for group in groups for one in group.of_kind("race")[1:]]
     del asked[plans_at_most(judged, asked) :]
-    kinds = dict.fromkeys([*judged.kinds, *(group.kind for group in judged.hidden)])
+    behind = [kind for group in judged.hidden for kind in group.kinds]
+    kinds = dict.fromkeys([*judged.kinds, *behind])
     with (
         plans(judged.checker, judged.book, judged.graph.goals, asked) as plan_of,
         ThreadPoolExecutor(min(4, os.cpu_count() or 1)) as pool,
@@ -227,8 +229,8 @@ def panel(judged: Judged, one: Shared, shown: Shown) -> str:
 
 def left_undrawn(one: Shared, shown: Shown) -> str:
     """How many races, and which stale read, have no schedule on the page."""
-    races = [each for group in one.groups if group.kind == "race" for each in group.findings]
-    stale = [each for group in one.groups if group.kind == "stale" for each in group.findings[:1]]
+    races = [each for group in one.groups for each in group.of_kind("race")]
+    stale = [each for group in one.groups for each in group.of_kind("stale")[:1]]
     left = [each for each in [*races, *stale] if each.number not in shown.timelines]
     if not left:
         return ""

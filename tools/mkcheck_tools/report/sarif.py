@@ -89,7 +89,8 @@ def sarif(judged: Judged) -> str:
     """The log of an answer."""
     kinds = [*KINDS, *(kind for kind in judged.kinds if kind not in KINDS)]
     rules = [rule(kind, *judged.checker.explained(kind), level_of(kind)) for kind in kinds]
-    ordered = [(group, level_of(kind)) for kind in kinds for group in judged.of_kind(kind)] + [
+    by_kind = sorted(judged.groups, key=lambda group: kinds.index(group.kind))
+    ordered = [(group, level_of(group.kind)) for group in by_kind] + [
         (group, "note") for group in judged.hidden
     ]
     makefiles = Makefiles({})

@@ -4,4 +4,4 @@ use Rattle.mk_core_json.proofs.AnswerTexts.{refusal_has_no_float}
 use Rattle.mk_core_json.proofs.refusal.refusal_text.Goals as goal
 
 pub push_value-requires : goal.push_value-requires
-push_value-requires c = ap has_float c.in_ok-value.ensures ∙ refusal_has_no_float c.args.fault.now c.args.line.now
+push_value-requires c = ap has_float c.in_ok-value.ensures ∙ refusal_has_no_float c.args.fault.now c.args.cause c.args.line.now

@@ -1,6 +1,0 @@
-use Rattle.std.proofs.Common.{ap}
-use Rattle.serde_json.specs.Written.{has_float}
-use Rattle.mk_core_json.proofs.no.push_finding.Goals as goal
-
-pub push_value-requires : goal.push_value-requires
-push_value-requires c = ap has_float c.in_ok-value.ensures
