@@ -2,10 +2,17 @@
 
 from __future__ import annotations
 
+import os
 import subprocess
+import sys
+import tempfile
+import time
+import unittest
 from pathlib import Path
+from unittest import mock
 
-from recorder.project import MKCHECK, ProjectTest, traced
+from mkcheck_tools.record import keeping
+from recorder.project import MKCHECK, OF_MAKE, RECORDER, ProjectTest, traced
 
 MAKEFILE = "include rules.mk\nall: a\na: s\n\tcp s a $(F)\n"
 
@@ -79,3 +86,93 @@ class KeepTest(ProjectTest):
         self.assertEqual(outcome.status, 2)
         self.assertIn("--keep: ../up.mk lies above the project's folder", outcome.errors)
         self.assertFalse(self.kept.exists())
+        self.assertFalse(self.book.exists(), "nothing is recorded first")
+
+    def test_a_word_that_no_line_holds(self) -> None:
+        outcome = self.record("--keep", str(self.kept), "F=x\ny", "all")
+        self.assertEqual(outcome.status, 2)
+        self.assertIn("--keep: a word that is empty or has a newline", outcome.errors)
+        self.assertFalse(self.book.exists(), "nothing is recorded first")
+
+    def test_names_of_texts_are_those_where_they_are_read(self) -> None:
+        """D has another value behind the line that uses it, and so has E in an included text."""
+        more = "-include $(D)/rules.mk\nD = late\n-include $(D)/rules.mk\n"
+        self.write(
+            {
+                "makefile": f"D = early\nE = deep\n{more}all: a $(GOALS)\na: s\n\tcp s a\n",
+                "early/rules.mk": "-include $(E)/rules.mk\nE = other\n",
+                "deep/rules.mk": "GOALS = b\nb: s\n\tcp s b\n",
+                "late/rules.mk": "F =\n",
+            }
+        )
+        self.recorded("--keep", str(self.kept), "all")
+        names = ("makefile", "early/rules.mk", "deep/rules.mk", "late/rules.mk")
+        own = {"footprint.json", "words"}
+        self.assertEqual(set(self.texts()), own.union(names))
+        # The old build has b, which is old where its commands are others.
+        self.write({"deep/rules.mk": "GOALS = b\nb: s\n\tcat s s > b\n"})
+        self.recorded("all")
+        self.assertEqual(self.since(), ("b\n", "", 0))
+
+    def test_a_text_that_is_edited_meanwhile(self) -> None:
+        """The recipe waits till the makefile is another one, which means the same or doesn't."""
+        text = self.recorded_over("all: a  # edited\n")
+        self.assertEqual(self.texts()["makefile"], text)
+        self.recorded_over("all: b\nb: s\n\tcp s b\n", 1)
+        self.assertEqual(self.texts()["makefile"], text)
+
+    def recorded_over(self, line: str, status: int = 0) -> str:
+        """Records a makefile that gets another first line while its recipe runs."""
+        go = self.scratch / "go"
+        go.unlink(missing_ok=True)
+        text = f"all: a\na: s\n\tuntil test -e {go}; do sleep 0.1; done; cp s a\n"
+        self.write({"makefile": text})
+        words = ["-C", str(self.folder), "--no-replay", "-o", str(self.book), "all"]
+        given = {**os.environ, **OF_MAKE, "MKCHECK": MKCHECK}
+        with subprocess.Popen(
+            [sys.executable, str(RECORDER), "--keep", str(self.kept), *words],
+            env={name: value for name, value in given.items() if value is not None},
+            stderr=subprocess.PIPE,
+            text=True,
+        ) as recorder:
+            while recorder.poll() is None and not runs(f"until test -e {go}"):
+                time.sleep(0.1)
+            self.write({"makefile": text.replace("all: a\n", line)})
+            go.touch()
+            _, said = recorder.communicate()
+        self.assertEqual(recorder.returncode, status, said)
+        edited = "a text of it was edited or made while recipes ran; record again"
+        self.assertEqual(edited in said, status != 0, said)
+        return text
+
+
+def runs(command: str) -> bool:
+    """Whether a process runs whose words hold this text."""
+    for path in Path("/proc").glob("[0-9]*/cmdline"):
+        try:
+            if command.encode() in path.read_bytes():
+                return True
+        except OSError:
+            continue
+    return False
+
+
+class WritingTest(unittest.TestCase):
+    """What is kept is whole, whatever ends the program."""
+
+    def test_the_end_comes_while_the_build_before_is_removed(self) -> None:
+        with tempfile.TemporaryDirectory() as folder:
+            kept = Path(folder, "built")
+            keeping.keep_build(str(kept), {"makefile": b"all:\n"}, "{}", ["all"])
+
+            def end(path: Path, **_options: bool) -> None:
+                Path(path, "words").unlink(missing_ok=True)
+                raise KeyboardInterrupt
+
+            with mock.patch("mkcheck_tools.record.keeping.shutil.rmtree", end):
+                with self.assertRaises(KeyboardInterrupt):
+                    keeping.keep_build(str(kept), {"makefile": b"more:\n"}, "{}", ["more"])
+            found = {path.name: path.read_text() for path in kept.iterdir()}
+        self.assertEqual(
+            found, {"makefile": "more:\n", "footprint.json": "{}", "words": "more\n"}
+        )

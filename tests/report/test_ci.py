@@ -7,6 +7,7 @@ import re
 import shutil
 import subprocess
 import unittest
+from collections.abc import Sequence
 
 from report.project import MKCHECK, ROOT, ReportTest
 
@@ -95,10 +96,10 @@ class JudgingTest(ScriptTest):
 class KeepingTest(ScriptTest):
     """A folder that is kept over commits."""
 
-    def made(self, status: int = 0) -> str:
-        """What the script prints. The makefile is tracked, all else isn't."""
+    def made(self, status: int = 0, words: Sequence[str] = ()) -> str:
+        """What the script prints. The makefile is tracked, and later files aren't."""
         self.command("git", "add", "makefile")
-        done = self.command("sh", "mkcheck-kept.sh")
+        done = self.command("sh", "mkcheck-kept.sh", *words)
         self.assertEqual(done.returncode, status, done.stdout + done.stderr)
         return done.stdout
 
@@ -119,6 +120,24 @@ class KeepingTest(ScriptTest):
         self.assertEqual(self.text("a.txt"), "b\na\n")
         self.assertEqual(self.text("mine"), "not tracked")
         self.assertNotIn("cat", self.made())
+
+    def test_another_macro_of_the_command_line(self) -> None:
+        """A program takes it from its environment, and the commands are the same."""
+        self.write("gen.sh", "#!/bin/sh\necho $MODE > a.txt\n")
+        self.write("makefile", "a.txt: gen.sh\n\tsh gen.sh\n")
+        self.command("git", "add", "gen.sh")
+        for mode in ("one", "two"):
+            self.made(words=[f"MODE={mode}"])
+            self.assertEqual(self.text("a.txt"), f"{mode}\n")
+        self.assertNotIn("sh gen.sh", self.made(words=["MODE=two"]))
+
+    def test_a_folder_that_is_a_file_now(self) -> None:
+        """The folder goes with what was in it."""
+        self.write("makefile", "all: o/a\no/a: a.in\n\tmkdir -p o; cp a.in o/a\n")
+        self.made()
+        self.write("makefile", "all: o\no: a.in\n\tcp a.in o\n")
+        self.made()
+        self.assertEqual(self.text("o"), "a\n")
 
     def test_a_finding(self) -> None:
         """Nothing is made where the answer is no."""

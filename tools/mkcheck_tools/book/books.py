@@ -19,6 +19,11 @@ BUILT_BEFORE = (
     " They were built before, so remove them, and record again:"
 )
 
+EDITED = (
+    "the makefile doesn't mean any more what it meant when the recording began: a text of it was"
+    " edited or made while recipes ran; record again"
+)
+
 
 def used(asked: list[str], names: set[str]) -> list[str]:
     """The prefixes that were asked for, and those of the system under which a name is."""
@@ -52,6 +57,8 @@ def make_book(
         name for name in build.files if name in names and name not in written and name not in made
     ]
     if not is_same(replace(build, fixed=fixed, files=sources), graph):
+        if not is_same(build, graph):
+            raise RecipeFault(EDITED)
         raise meaning_fault(replace(build, fixed=fixed), graph, footprints)
     records = [
         Record(one.recipe.target, one.recipe.lines, [*one.reads], [*one.writes])

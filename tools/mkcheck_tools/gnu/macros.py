@@ -62,10 +62,14 @@ class Prober:
 
     def ask(self, front: str, behind: str, words: tuple[str, ...]) -> Graph | None:
         """The graph with text before and behind the makefile; None where mkcheck refuses that."""
+        return self.ask_of(f"{front}include {escaped(self.makefile)}\n{behind}", words)
+
+    def ask_of(self, text: str, words: tuple[str, ...]) -> Graph | None:
+        """The graph of a makefile with this text; None where mkcheck refuses that."""
         above = plain_folder(self.build.scratch)
         try:
             with tempfile.NamedTemporaryFile("wb", prefix="mkcheck-record-", dir=above) as file:
-                file.write(os.fsencode(f"{front}include {escaped(self.makefile)}\n{behind}"))
+                file.write(os.fsencode(text))
                 file.flush()
                 options = (
                     "-f",
@@ -97,6 +101,16 @@ class Prober:
         made, ancestors = graph.targets - graph.phony, graph.ancestors()
         return [name for name in names if name in made and not ancestors.any_before((user,), name)]
 
+    def made(self, names: Sequence[str]) -> frozenset[str]:
+        """Those of some names that have rules, as far as a makefile can name them; all where mkcheck
+        refuses one of these."""
+        plain = [name for name in names if PLAIN.fullmatch(name) and not name.startswith("-")]
+        words = (*self.checker.operands, *plain)
+        graph = self.with_files(*plain).ask("", "", words) if plain else None
+        if graph is None:
+            return frozenset(plain)
+        return frozenset(name for name in plain if name in graph.targets or graph.needs(name))
+
     def values(self, *names: str, front: Mapping[str, str] | None = None) -> list[str]:
         """The values of macros, each empty where the makefile sets none. `front` has macros that
         are set before it."""
@@ -113,6 +127,14 @@ class Prober:
         if graph is None or not graph.recipes or len(graph.recipes[-1].lines) != len(texts):
             return None
         return [line[len(SAYS) :].strip() for line in graph.recipes[-1].lines]
+
+    def read_behind(self, text: str, line: str) -> str:
+        """What a line gives that is expanded where it is read, behind this text of a makefile; or
+        nothing where mkcheck refuses it."""
+        graph = self.ask_of(f"{text}{PROBE}:\n\t{SAYS}{line}\n", (*self.checker.operands, PROBE))
+        if graph is None or not graph.recipes or len(graph.recipes[-1].lines) != 1:
+            return ""
+        return graph.recipes[-1].lines[0][len(SAYS) :].strip()
 
     def after(self, texts: Mapping[str, str]) -> dict[str, str]:
         """The values of macros that have these texts before the makefile; without those for which

@@ -5,37 +5,61 @@ from __future__ import annotations
 
 import os
 import re
+from dataclasses import dataclass, field
 
 from mkcheck_tools.answers.graphs import Graph
-from mkcheck_tools.gnu.macros import PROBE, Prober
+from mkcheck_tools.gnu.macros import PROBE, Prober, escaped
 from mkcheck_tools.judge.notes import Kind, Note, Warn
 from mkcheck_tools.run.folders import is_plain_path
 
 JOINED = re.compile(r"\\\n[ \t]*")
 COMMENT = re.compile(r"(?<!\\)#.*")
 INCLUDE = re.compile(r"[ ]*-?include[ \t]+(.*)")
+# At this level a text may include none; the makefile is at level 0.
+LEVELS = 16
+
+
+@dataclass(frozen=True)
+class Reading:
+    """Reads the texts of a makefile in their order, and notes the files that they include."""
+
+    prober: Prober
+    found: dict[str, None] = field(default_factory=dict)
+
+    def read(self, name: str, before: str, level: int = 0) -> None:
+        """Reads a text, where that of the makefile goes so far, `before`."""
+        lines = lines_of(self.prober.folder, name)
+        for number, line in enumerate(lines):
+            match = INCLUDE.fullmatch(COMMENT.sub("", line))
+            if match is not None and level < LEVELS:
+                text = before + "".join(f"{line}\n" for line in lines[:number])
+                self.include(match[1], text, level + 1)
+
+    def include(self, words: str, before: str, level: int) -> None:
+        """Reads the files that an include line names."""
+        if "$" in words:
+            words = self.prober.read_behind(before, words)
+        for name in filter(is_plain_path, words.split()):
+            self.found.setdefault(name)
+            self.read(name, before, level)
+            before += f"-include {escaped(name)}\n"
+
+
+def lines_of(folder: str, name: str) -> list[str]:
+    """The lines of a text, each joined with those on which it goes on; none where there is none."""
+    try:
+        with open(os.path.join(folder, name), encoding="utf-8", errors="replace") as file:
+            return JOINED.sub(" ", file.read()).split("\n")
+    except OSError:
+        return []
 
 
 def included(prober: Prober) -> list[str]:
-    """The names of the files that the makefile includes, and those that these do, there or not."""
-    found: dict[str, None] = {}
-    waiting = [prober.makefile]
-    while waiting:
-        name = waiting.pop()
-        try:
-            with open(
-                os.path.join(prober.folder, name), encoding="utf-8", errors="replace"
-            ) as file:
-                lines = JOINED.sub(" ", file.read()).split("\n")
-        except OSError:
-            continue
-        matches = (INCLUDE.fullmatch(COMMENT.sub("", line)) for line in lines)
-        texts = [match.group(1) for match in matches if match]
-        names = [word for text in prober.expanded(*texts) for word in text.split()]
-        new = [name for name in dict.fromkeys(names) if name not in found and is_plain_path(name)]
-        found.update(dict.fromkeys(new))
-        waiting += new
-    return list(found)
+    """The names of the files that the makefile includes, and those that these do, there or not.
+    Macros have the values that they have where the line is read."""
+    reading = Reading(prober)
+    reading.read(prober.makefile, "")
+    return list(reading.found)
 
 
 def made_first(prober: Prober) -> list[str]:
@@ -84,10 +108,7 @@ def warn_of_goal(graph: Graph, prober: Prober, warn: Warn) -> None:
 def gives_goal(prober: Prober, name: str) -> bool:
     """Whether the first target of a text would be the goal: no other stands before the line that
     includes it."""
-    with open(
-        os.path.join(prober.folder, prober.makefile), encoding="utf-8", errors="replace"
-    ) as file:
-        lines = JOINED.sub(" ", file.read()).split("\n")
+    lines = lines_of(prober.folder, prober.makefile)
     matches = [INCLUDE.fullmatch(COMMENT.sub("", line)) for line in lines]
     texts = [match.group(1) if match else "" for match in matches]
     for number, text in enumerate(prober.expanded(*texts)):

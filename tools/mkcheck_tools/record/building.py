@@ -36,6 +36,8 @@ from mkcheck_tools.gnu.waits import warn_of_wait
 from mkcheck_tools.judge.notes import Kind, Note, Warn
 from mkcheck_tools.judge.refusals import check_opaque
 from mkcheck_tools.replay.verdicts import check_trust
+from mkcheck_tools.record.keeping import read_texts
+from mkcheck_tools.record.leaving import left_over, without
 from mkcheck_tools.record.request import Request
 from mkcheck_tools.run.folders import Naming, sources_in
 from mkcheck_tools.run.paths import RealPath, unbound
@@ -47,12 +49,15 @@ VARYING_HELP = "use $?, which is empty here: write $^"
 @dataclass(frozen=True)
 class Build:
     """What is to be recorded. `varying` are the targets whose commands use `$?`, and `macros` has
-    variables to which the makefile gives other values."""
+    variables to which the makefile gives other values. `texts` are those of the makefile, by the
+    paths at which they are to be kept, if they are. `left` are files that are left over."""
 
     prober: Prober
     graph: Graph
     varying: frozenset[str]
     macros: Mapping[str, str]
+    texts: Mapping[str, bytes]
+    left: frozenset[str]
 
     @property
     def unrecorded(self) -> Unrecorded:
@@ -71,6 +76,9 @@ def build_of(request: Request, scratch: RealPath, warn: Warn) -> Build:
     refuse_mark(folder, plainly_included(folder, makefile_of(request)))
     fixed, prefixes = list(choice.fixed), list(choice.prefixes)
     unrecorded, graph = asked_graph(Unrecorded(checker, fixed, sources, scratch, prefixes))
+    left = left_over(request, unrecorded, graph)
+    if left:
+        unrecorded, graph = without(left, unrecorded)
     warn_of_prefixes(folder, choice.prefixes, warn)
     if choice.makefile is None and os.path.exists(os.path.join(folder, "GNUmakefile")):
         text = "GNU make reads GNUmakefile first, which isn't judged here; -f GNUmakefile judges it"
@@ -79,7 +87,9 @@ def build_of(request: Request, scratch: RealPath, warn: Warn) -> Build:
     check_opaque(choice.opaque, graph.recipes)
     prober = Prober(unrecorded)
     refuse_predefined(graph, prober, warn)
-    refuse_mark(folder, names_of_texts(prober))
+    names = names_of_texts(prober)
+    refuse_mark(folder, names)
+    texts = {} if request.keep is None else read_texts(folder, names)
     text_of_makefile = text_of(prober)
     graph = with_shell(graph, prober, is_strict(prober, text_of_makefile), warn)
     refuse_absent_compiler(graph)
@@ -87,7 +97,7 @@ def build_of(request: Request, scratch: RealPath, warn: Warn) -> Build:
     warn_of_makes(graph, prober, choice.operands, warn)
     varying = warn_of_varying(unrecorded, warn)
     macros = handed_down(prober, choice.operands)
-    return Build(prober, graph, frozenset(varying), macros)
+    return Build(prober, graph, frozenset(varying), macros, texts, left)
 
 
 def warn_of_varying(build: Unrecorded, warn: Warn) -> list[str]:

@@ -18,7 +18,6 @@ from mkcheck_tools.book.paths import path_of_notes, path_of_state
 from mkcheck_tools.book.states import Unusable
 from mkcheck_tools.book.updating import FIRST_TIME, Conditions, Updating, believed
 from mkcheck_tools.faults import Failure, Fault, RecipeFault, failure_of, sentence_of
-from mkcheck_tools.gnu.texts import names_of_texts
 from mkcheck_tools.gnu.unlooked import warn_of_unlooked
 from mkcheck_tools.record.comparing import compare_again, compare_make
 from mkcheck_tools.replay.dates import dated, without_told
@@ -31,6 +30,7 @@ from mkcheck_tools.replay.verdicts import ReplayVerdict, judge
 from mkcheck_tools.record.answering import status_of, tell, tell_of_update, write_answer
 from mkcheck_tools.record.building import Build, build_of, makefile_of, removes_on_error
 from mkcheck_tools.record.keeping import keep_build
+from mkcheck_tools.record.leaving import with_folders
 from mkcheck_tools.record.presuming import Beginning, keep_premises
 from mkcheck_tools.record.recording import Recorded, Workshop, record
 from mkcheck_tools.record.request import Request
@@ -76,6 +76,7 @@ def record_folder(request: Request, scratch: RealPath) -> int:
     before = Beginning.of(request)
     build = build_of(request, scratch, notes.add)
     before = None if before is None else before.with_outside(request, build.graph.names)
+    request = replace(request, left=with_folders(build.left))
     shop = workshop(request, build, scratch, notes.add)
     with early_replays_of(shop, build) as early:
         status = recorded_and_written(shop, build, early, notes, before)
@@ -107,8 +108,7 @@ def recorded_and_written(
         if kept and before is not None and shop.updating is not None:
             keep_premises(shop, build, recorded, shop.updating, before)
         if status == 0 and request.keep is not None and result.text is not None:
-            texts, words = names_of_texts(build.prober), request.choice.words
-            keep_build(request.folder, request.keep, texts, result.text, words)
+            keep_build(request.keep, build.texts, result.text, request.choice.words)
         return status
     except BaseException as end:
         raise told_of_end(end, request, keep(shop, recorded, verdict, False))

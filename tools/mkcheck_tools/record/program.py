@@ -123,11 +123,12 @@ def request_of(asked: argparse.Namespace, before: Premises | None) -> Request:
     )
     output = asked.update or asked.o
     refuse_other_file(output, asked.update is not None)
+    choice = given.over(choice_of(os.path.realpath(output), before)) if asked.update else given
     if asked.keep is not None:
-        from mkcheck_tools.record.keeping import refuse_other_folder
+        from mkcheck_tools.record.keeping import refuse_other_folder, text_of_words
 
         refuse_other_folder(asked.keep)
-    choice = given.over(choice_of(os.path.realpath(output), before)) if asked.update else given
+        text_of_words(choice.words)
     taken = [word for word in choice.given() if word not in given.given()]
     if taken:
         tell(f"as before: {shlex.join(choice.given())}")
@@ -216,11 +217,11 @@ def keep_as_before(request: Request) -> None:
         return
     from mkcheck_tools.gnu.texts import plainly_included
     from mkcheck_tools.record.building import makefile_of
-    from mkcheck_tools.record.keeping import keep_build
+    from mkcheck_tools.record.keeping import keep_build, read_texts
 
-    names = plainly_included(request.folder, makefile_of(request))
+    texts = read_texts(request.folder, plainly_included(request.folder, makefile_of(request)))
     text = Path(request.book).read_text(encoding="utf-8")
-    keep_build(request.folder, request.keep, names, text, request.choice.words)
+    keep_build(request.keep, texts, text, request.choice.words)
 
 
 def answered(asked: argparse.Namespace) -> int:

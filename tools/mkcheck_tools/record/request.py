@@ -35,6 +35,9 @@ class Request:
     keep: str | None = None
     """The folder in which what the build is made from is kept."""
 
+    left: frozenset[str] = frozenset()
+    """Files of the recording before that are left over, and the folders in which they lie."""
+
     @property
     def book(self) -> str | None:
         """The footprint file, if other files may lie beside it."""
@@ -44,9 +47,11 @@ class Request:
 
     @property
     def hidden(self) -> frozenset[str]:
-        """The names of files of the recorder in the project's folder, which aren't part of it."""
+        """The names of files of the recorder in the project's folder, and of those that are left
+        over, which aren't part of it."""
         front = self.folder + "/"
-        return frozenset(path[len(front) :] for path in self.hidden_paths if path.startswith(front))
+        own = (path[len(front) :] for path in self.hidden_paths if path.startswith(front))
+        return self.left.union(own)
 
     @property
     def hidden_paths(self) -> frozenset[str]:
