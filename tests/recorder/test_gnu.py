@@ -179,6 +179,11 @@ class DifferenceTest(ProjectTest):
             self.assertEqual((copy / "out").read_text(), "2\n")
         self.write({"makefile": rules})
         self.assertEqual(self.recorded().warnings(), [])
+        self.write({"makefile": "VPATH = none:old\nb: a\n\tcp $< b\n"})
+        outcome = self.record()
+        self.assertEqual(outcome.status, 2)
+        self.assertIn("by which GNU make takes old/a for a, and mkcheck doesn't", outcome.errors)
+        self.write({"makefile": rules})
         said = self.recorded(environment={"VPATH": "old"}).warnings()
         self.assertEqual(said, [told.replace("the makefile", "the environment")])
 

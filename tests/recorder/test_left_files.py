@@ -71,7 +71,9 @@ class LeftFilesTest(ProjectTest):
         self.built(
             {"makefile": "all: o/a\no/a: x\n\tmkdir -p o; cp x o/a\n", "x": "x\n"}, "o"
         )
-        self.assertIn(WITHOUT.format("o/a"), self.update("all: o\no: x\n\tcp x o\n"))
+        said = self.update("all: o\no: x\n\tcp x o\n")
+        self.assertIn(WITHOUT.format("o/a"), said)
+        self.assertIn("makes the file o now, and a folder is there: remove it", said)
         self.assertEqual(self.answers(), ("yes", "o/a\n"))
 
     def test_a_file_that_is_still_needed(self) -> None:

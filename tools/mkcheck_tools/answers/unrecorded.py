@@ -4,6 +4,7 @@ from __future__ import annotations
 
 import json
 import os
+from collections.abc import Callable
 from dataclasses import dataclass, field, replace
 from pathlib import Path
 
@@ -97,11 +98,14 @@ class Unrecorded:
                 )
 
 
-def asked_graph(build: Unrecorded) -> tuple[Unrecorded, Graph]:
+Why = Callable[[Unrecorded, str, str], str]
+
+
+def asked_graph(build: Unrecorded, why: Why) -> tuple[Unrecorded, Graph]:
     """The build with all files that may be sources, and its graph.
 
     A file that is reached over more links than one isn't listed yet: where mkcheck asks for it, its
-    folder is.
+    folder is. `why` says of a name of the build why nothing is there, by its path.
     """
     folder = build.checker.place.folder
     while True:
@@ -115,7 +119,7 @@ def asked_graph(build: Unrecorded) -> tuple[Unrecorded, Graph]:
                 raise build.explained(refused) from None
             path = os.path.join(folder, name)
             if not os.path.isfile(path) or name in build.files:
-                raise Fault(f"{refused}: {why_missing(name, path)}") from None
+                raise Fault(f"{refused}: {why(build, name, path)}") from None
             front = os.path.dirname(name)
             beside = (os.path.join(front, other) for other in os.listdir(os.path.dirname(path)))
             more = {other for other in beside if os.path.isfile(os.path.join(folder, other))}

@@ -102,8 +102,8 @@ class Prober:
         return [name for name in names if name in made and not ancestors.any_before((user,), name)]
 
     def made(self, names: Sequence[str]) -> frozenset[str]:
-        """Those of some names that have rules, as far as a makefile can name them; all where mkcheck
-        refuses one of these."""
+        """Those of some names that have rules, as far as a makefile can name them; all where
+        mkcheck refuses one of these."""
         plain = [name for name in names if PLAIN.fullmatch(name) and not name.startswith("-")]
         words = (*self.checker.operands, *plain)
         graph = self.with_files(*plain).ask("", "", words) if plain else None

@@ -23,7 +23,7 @@ from mkcheck_tools.gnu.macros import (
 )
 from mkcheck_tools.gnu.predefined import refuse_predefined
 from mkcheck_tools.gnu.remade import warn_of_goal, warn_of_remade
-from mkcheck_tools.gnu.searched import warn_of_searched
+from mkcheck_tools.gnu.searched import warn_of_searched, why_not_found
 from mkcheck_tools.gnu.stems import warn_of_stem
 from mkcheck_tools.gnu.texts import (
     is_strict,
@@ -75,7 +75,8 @@ def build_of(request: Request, scratch: RealPath, warn: Warn) -> Build:
     sources = [name for name in sources_in(folder, naming) if name not in hidden]
     refuse_mark(folder, plainly_included(folder, makefile_of(request)))
     fixed, prefixes = list(choice.fixed), list(choice.prefixes)
-    unrecorded, graph = asked_graph(Unrecorded(checker, fixed, sources, scratch, prefixes))
+    unrecorded = Unrecorded(checker, fixed, sources, scratch, prefixes)
+    unrecorded, graph = asked_graph(unrecorded, why_not_found)
     left = left_over(request, unrecorded, graph)
     if left:
         unrecorded, graph = without(left, unrecorded)

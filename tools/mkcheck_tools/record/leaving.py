@@ -85,6 +85,8 @@ def without(left: frozenset[str], build: Unrecorded) -> tuple[Unrecorded, Graph]
         f"recorded without {listed(sorted(left))}, as a clean build begins: left by {whose} of the"
         " recording before, other or gone now, and not tracked by git"
     )
+    for name in sorted(with_folders(left) & graph.targets):
+        tell(f"a recipe makes the file {name} now, and a folder is there: remove it before a make")
     return build, graph
 
 
