@@ -63,9 +63,13 @@ class LeftFilesTest(ProjectTest):
 
     def test_a_file_that_a_pattern_would_find(self) -> None:
         self.built({"makefile": OBJECTS, "x": "x\n"}, "*.o", "b")
-        said = self.update("all: b\nb: x.o\n\tcat *.o > b\nx.o: x\n\tcp x x.o\n")
-        self.assertIn(WITHOUT.format("y.o"), said)
-        self.assertEqual(self.answers(), ("yes", "b\ny.o\n"))
+        makefile = "all: b\nb: x.o\n\tcat *.o > b\nx.o: x\n\tcp x x.o\n"
+        for text in ("x\n", "again\n"):
+            self.write({"x": text})
+            self.assertIn(WITHOUT.format("y.o"), self.update(makefile))
+            self.assertEqual(self.answers(), ("yes", "b\ny.o\n"))
+        (self.folder / "y.o").unlink()
+        self.assertNotIn("recorded without", self.update(makefile))
 
     def test_a_folder_that_is_a_file_now(self) -> None:
         self.built(

@@ -79,7 +79,7 @@ class Updating:
     kept, and whose files aren't in the copy yet. `reused` are all that are kept, `resumed` those
     that have still to be replayed. `notes` are those of this recording, by target; `refused` are
     targets whose recipes aren't kept. `orders` has a digest for each target of what is always made
-    before it.
+    before it. `left` are files that are left over of recipes that are gone.
     """
 
     book: str
@@ -93,6 +93,7 @@ class Updating:
     notes: dict[str, list[Note]] = field(default_factory=dict)
     refused: set[str] = field(default_factory=set)
     orders: Mapping[str, str] = field(default_factory=dict)
+    left: frozenset[str] = frozenset()
     warn: Warn = ignore
     saved: State | None = None
     """The state that is written."""
@@ -220,11 +221,16 @@ class Updating:
 
         Another recipe has no entry, and so has one that gives a folder a mode or takes one away: it
         is recorded again next time. Where the recording isn't `whole`, entries of before stay for
-        what it lacks.
+        what it lacks, and else those whose files are left over.
         """
         assert self.world is not None
         trials = {trial.recipe.target: trial for trial in self.world.trials}
-        entries = {} if whole or self.state is None else dict(self.state.entries)
+        before = {} if self.state is None else self.state.entries
+        entries = {
+            target: entry
+            for target, entry in before.items()
+            if not whole or self.left.intersection(entry.after)
+        }
         for footprint in footprints:
             target = footprint.recipe.target
             entries.pop(target, None)

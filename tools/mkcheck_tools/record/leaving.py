@@ -27,17 +27,14 @@ def left_over(request: Request, build: Unrecorded, graph: Graph) -> frozenset[st
     """The files that stand as a recipe of the recording before left them, that nothing makes now,
     and that git doesn't track. None where git doesn't track the makefile, which then isn't what a
     clean build begins from, or it is no update."""
-    if not request.update or request.book is None:
+    tracked = tracked_in(request.folder) if request.update else None
+    if tracked is None or build.checker.makefile not in tracked or request.book is None:
         return frozenset()
     try:
         state = states.read(path_of_state(request.book))
     except Unusable:
         return frozenset()
-    found = list(dict.fromkeys(unmade(request, state, graph)))
-    tracked = tracked_in(request.folder) if found else None
-    if tracked is None or build.checker.makefile not in tracked:
-        return frozenset()
-    found = [name for name in found if name not in tracked]
+    found = [name for name in unmade(request, state, graph) if name not in tracked]
     return frozenset(found).difference(Prober(build).made(found))
 
 

@@ -168,6 +168,7 @@ def updating_of(
         return None
     orders = build.graph.orders()
     updating = Updating(request.book, request.choice, conditions, orders=orders, warn=warn)
+    updating.left = build.left
     if request.update:
         try:
             updating.state = believed(request.book, conditions)
