@@ -56,7 +56,7 @@ def write(goal: Path, program: str, entry: str) -> None:
 
 def main(arguments: list[str]) -> int:
     """Writes all programs that are out of date."""
-    if len(arguments) != 1:
+    if len(arguments) != 1 or arguments[0].startswith("-"):
         print(__doc__, file=sys.stderr)
         return 2
     goal = Path(arguments[0])
