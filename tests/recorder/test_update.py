@@ -679,6 +679,29 @@ class ReplayedTest(UpdateTest):
         third = self.update()
         self.assertEqual((self.told(third)[0], self.count(third)), ("as before: --trust a", 1))
 
+    def test_trusted_recipes_that_pass_over_outputs_are_kept(self) -> None:
+        self.write(
+            {"makefile": "all: a b\na: s\n\tcmp -s s a || cp s a\nb: s\n\tcp s b\n", "s": "1\n"}
+        )
+        both = ("--trust", "a", "--trust", "b")
+        self.assertEqual(self.count(self.update(*both)), 2)
+        second = self.update(*both)
+        self.assertEqual(self.count(second), 0)
+        self.assertIn("trusted, and not shown to be right: the recipe of a, run", second.errors)
+        self.assertIn("trusted without need: the recipe of b left", second.errors)
+        third = self.update("--trust", "a")
+        self.assertEqual(self.count(third), 1, third.errors)
+        self.assertNotIn("the recipe of b", third.errors)
+        self.write({"s": "2\n"})
+        self.assertEqual(self.count(self.update("--trust", "a")), 2)
+
+    def test_a_recipe_that_is_trusted_now_is_recorded_again(self) -> None:
+        self.write({"makefile": "b: s\n\tcp s b\n", "s": ""})
+        self.assertEqual(self.count(self.update()), 1)
+        second = self.update("--trust", "b")
+        self.assertEqual(self.count(second), 1)
+        self.assertIn("trusted without need: the recipe of b left", second.errors)
+
     def test_what_was_not_replayed_is_recorded_again(self) -> None:
         self.write({"makefile": "a: s\n\tcat s > a\n", "s": ""})
         self.assertEqual(self.count(self.update("--no-replay")), 1)

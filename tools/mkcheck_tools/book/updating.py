@@ -21,6 +21,7 @@ from importlib.resources import files
 from mkcheck_tools.answers.graphs import Recipe
 from mkcheck_tools.book import states
 from mkcheck_tools.book.choices import Choice
+from mkcheck_tools.book.earlier import TRUSTS
 from mkcheck_tools.book.paths import path_of_stamps, path_of_state, path_of_store
 from mkcheck_tools.book.premises import OF_SESSION
 from mkcheck_tools.book.states import Entry, State, Unusable
@@ -138,6 +139,8 @@ class Updating:
             return None
         if recipe.target in self.refused or entry.order != self.orders.get(recipe.target, ""):
             return None
+        if not self.is_trusted_as_before(entry):
+            return None
         if not all(world.is_as_before(name, version) for name, version in entry.looks.items()):
             return None
         if not all(world.names_in(name) == names for name, names in entry.lists.items()):
@@ -151,6 +154,14 @@ class Updating:
         for note in entry.notes:
             self.warn(note)
         return entry.footprint
+
+    def is_trusted_as_before(self, entry: Entry) -> bool:
+        """Whether a recipe that was replayed was judged as it would be now: a trusted one as
+        trusted, with the note of that."""
+        if entry.waiting is not None or self.conditions.asked.get("replay") == "no":
+            return True
+        was_trusted = any(note.kind in TRUSTS for note in entry.notes)
+        return was_trusted == (entry.footprint.recipe.target in self.choice.trusted)
 
     def resume(self, recipe: Recipe, entry: Entry, effects: Effects, tree: Tree) -> None:
         """Takes a recipe as if it had just run, since it has still to be replayed."""

@@ -354,9 +354,8 @@ def keep(shop: Workshop, recorded: Recorded, verdict: ReplayVerdict, whole: bool
     updating = shop.updating
     if updating is None or recorded.world is None or not (recorded.footprints or whole):
         return False
-    trusted = shop.request.choice.trusted
     footprints = with_met(recorded.footprints, recorded.late, verdict.met)
-    failed = {*trusted, *(failure.target for failure in verdict.failures)}
+    failed = {*verdict.unsteady, *(failure.target for failure in verdict.failures)}
     targets = [one.recipe.target for one in footprints if one.recipe.target not in failed]
     passed = {
         target: [note for note in verdict.notes if note.target == target]

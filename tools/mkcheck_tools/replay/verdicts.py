@@ -142,6 +142,10 @@ class ReplayVerdict:
     judged: set[str] = field(default_factory=set)
     """The targets whose recipes were replayed."""
 
+    unsteady: set[str] = field(default_factory=set)
+    """The targets whose recipes are trusted, and of which nothing shows that they do the same each
+    time."""
+
     met: dict[str, Met] = field(default_factory=dict)
 
 
@@ -175,6 +179,8 @@ def judge(
         try:
             if target in trusted:
                 verdict.notes.append(note_of_trusted(outcome))
+                if not outcome.passed and not passes_over(outcome):
+                    verdict.unsteady.add(target)
             elif outcome.run == AGAIN and outcome.failed and target in once:
                 verdict.notes.append(note_of_stop(outcome, AGAIN, outcome.failed))
             elif not outcome.passed:
@@ -274,6 +280,13 @@ def split_of(outcome: Outcome, kept: str) -> list[str]:
 def is_kept(outcome: Outcome) -> bool:
     """Whether the first difference is an output that the recipe passed over."""
     return bool(outcome.differences) and outcome.differences[0].kept and outcome.run != ORDERED
+
+
+def passes_over(outcome: Outcome) -> bool:
+    """Whether all that a recipe did otherwise is that it left outputs as they were, which were
+    whole: what it leaves is the same in each run."""
+    is_all = outcome.run == AGAIN and not outcome.failed and not outcome.broken
+    return is_all and bool(outcome.differences) and all(one.kept for one in outcome.differences)
 
 
 def likely_causes(outcome: Outcome, makers: Mapping[Name, list[str]]) -> list[str]:
