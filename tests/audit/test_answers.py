@@ -2,6 +2,7 @@
 
 from __future__ import annotations
 
+import re
 import shutil
 
 import pytest
@@ -62,6 +63,14 @@ def test_the_last_lines_of_a_recipe_that_failed(project: Project) -> None:
     project.write({"makefile": "all: a\na:\n\techo > a\n"})
     assert project.audit().status == 0
     assert not (project.folder / ".mkcheck/record.log").exists()
+
+
+@can_record
+def test_the_line_in_which_two_runs_of_a_recipe_differ(project: Project) -> None:
+    project.write({"makefile": ".PHONY: all\nall: a b\na:\n\techo > a\nb:\n\tdate +%s%N > b\n"})
+    outcome = project.audit(replay=True)
+    assert "writes b with other contents: " in outcome.output
+    assert re.search(r'\n {8}line 1 was "\d+"\n {8}line 1 is  "\d+"\n', outcome.output)
 
 
 @can_import

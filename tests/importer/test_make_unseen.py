@@ -127,6 +127,16 @@ class RemadeMakefileTest(UnseenTestCase):
         self.assertEqual(self.left({"config.in": "v = 2\n"}, "x"), ["1\na\n", "2\na\n"])
         self.refused(self.SENTENCE)
 
+    def test_made_anew_in_each_run(self) -> None:
+        """As git's makefile has it: the file is written only if its contents change."""
+        rule = "config.mk: config.in FORCE\n\tcmp -s config.in $@ || cp config.in $@\nFORCE:"
+        self.macros("", rule)
+        self.assertEqual(self.left({"config.in": "v = 2\n"}, "x"), ["1\na\n", "2\na\n"])
+        answer = self.imported()
+        self.assertEqual(answer.status, 1, answer.output + answer.errors)
+        self.assertIn("x isn't made again when config.in changes", answer.output)
+        self.assertIn(self.SENTENCE.replace("when config.in changes", "in each run"), answer.output)
+
     def test_all_need_it(self) -> None:
         for needs in ("config.mk", "config.in"):
             self.macros(needs)

@@ -3,6 +3,7 @@
 from __future__ import annotations
 
 import io
+import threading
 import unittest
 
 from mkcheck_tools.imports.telling import ASKED, Telling
@@ -11,10 +12,11 @@ from mkcheck_tools.imports.telling import ASKED, Telling
 class TellingTest(unittest.TestCase):
     """Lines for texts with counts."""
 
-    def told(self, word: str, text: str, seconds: float) -> str:
-        """The line that a step prints when it has taken these seconds."""
+    def told(self, word: str, text: str, seconds: float, of_part: float | None = None) -> str:
+        """The line that a step prints when it, and the present part of it, have taken these
+        seconds."""
         stream = io.StringIO()
-        Telling(stream).progress(word, text, seconds)
+        Telling(stream).progress(word, text, seconds, seconds if of_part is None else of_part)
         return stream.getvalue()
 
     def test_which_build_it_is(self) -> None:
@@ -23,6 +25,29 @@ class TellingTest(unittest.TestCase):
         for word, name in (("second", "second"), ("third", "third")):
             line = f"{front} a {name} time, 0:10, 8 of 8\n"
             self.assertEqual(self.told("build", f"[{word} 8/8]", 10.0), line)
+
+    def test_time_left_of_a_part(self) -> None:
+        """The first build took two minutes; it says nothing of the second one."""
+        line = "mkcheck-import: building a second time, 2:10, 2 of 8, 0:30 left\n"
+        self.assertEqual(self.told("build", "[second 2/8]", 130.0, 10.0), line)
+
+    def test_parts_of_a_step(self) -> None:
+        stream, texts = io.StringIO(), iter(["[9/9]", "[second 1/2]", "[second 1/2]"])
+        ended = threading.Event()
+
+        def look() -> str:
+            text = next(texts, "")
+            if not text:
+                ended.set()
+            return text
+
+        Telling(stream, apart=0.2).during("build", look, ended.wait)
+        self.assertRegex(stream.getvalue(), r"building a second time, 0:0\d, 1 of 2, 0:0\d left\n")
+
+    def test_commands_of_a_whole_that_is_not_known(self) -> None:
+        line = "mkcheck-import: building, 0:10, 9 so far\n"
+        self.assertEqual(self.told("build", "[9/0]", 10.0), line)
+        self.assertEqual(self.told("build", "[0/0]", 10.0), "mkcheck-import: building, 0:10\n")
 
     def test_no_count_where_make_is_asked(self) -> None:
         line = "mkcheck-import: asking make what it would do, 1:30\n"

@@ -12,7 +12,7 @@ from dataclasses import dataclass
 FULL = (errno.ENOSPC, errno.EDQUOT)
 # What the sentence on a recipe that failed has behind the name of its target, and no other one.
 FAILED = " failed, status "
-# How many of the last lines are shown of what such a recipe printed.
+# How many of the last lines are shown of what such a recipe printed, and of the details of a fault.
 LINES_AT_MOST = 10
 
 
@@ -57,12 +57,14 @@ class Failure:
 
 def last_lines(text: str, log: str) -> str:
     """What is said of a recipe that failed, with the last lines of what it printed; the file `log`
-    has all. Of another fault the first line."""
+    has all. Of another fault the sentence with its details, such as the line that differs."""
     first, *rest = text.rstrip("\n").split("\n")
-    if FAILED not in first or not rest:
-        return first
-    shown = [f"        {line}" for line in rest[-LINES_AT_MOST:]]
-    return "\n".join([f"{first}; its last lines, of all in {log}:", *shown])
+    if FAILED in first and rest:
+        shown = [f"        {line}" for line in rest[-LINES_AT_MOST:]]
+        return "\n".join([f"{first}; its last lines, of all in {log}:", *shown])
+    shown = [f"        {line.removeprefix(chr(9))}" for line in rest[:LINES_AT_MOST]]
+    left = len(rest) - len(shown)
+    return "\n".join([first, *shown, *([f"        and {left} more lines in {log}"] * (left > 0))])
 
 
 def failure_of(error: Exception, target: str) -> Failure:

@@ -5,6 +5,7 @@ from __future__ import annotations
 from itertools import takewhile
 
 from mkcheck_tools.imports.builds import Build
+from mkcheck_tools.imports.grouping import grouped
 from mkcheck_tools.imports.judging import BuildVerdict
 from mkcheck_tools.imports.recorded import Recorded
 
@@ -20,7 +21,8 @@ def answer_of(
     lines = [headline(build, recorded.doubts, verdict, sentences)]
     lines += ["", *sentences] if sentences else []
     if build.problems:
-        lines += ["", "Not judged:", *(f"    {text}" for text in build.problems)]
+        texts = grouped(build.problems, build.subjects)
+        lines += ["", "Not judged:", *(f"    {text}" for text in texts)]
     if build.unjudged:
         lines += [
             "",
@@ -42,7 +44,8 @@ def answer_of(
             f" ({counted(len(build.unwritten), 'target')}): {', '.join(shown(build.unwritten))}",
         ]
     if build.notes:
-        lines += ["", "Of the translation:", *(f"    {text}" for text in shown(build.notes))]
+        texts = grouped(build.notes, build.subjects)
+        lines += ["", "Of the translation:", *(f"    {text}" for text in shown(texts))]
     return lines
 
 

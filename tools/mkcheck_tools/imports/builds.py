@@ -243,6 +243,9 @@ class Build:
     """What was left out or changed on purpose, each as a sentence. They stand in the log and are
     counted in the answer."""
 
+    subjects: dict[str, str] = field(default_factory=dict)
+    """The target of each problem, and of each note, that is about one alone."""
+
     unwritten: list[str] = field(default_factory=list)
     """Targets that aren't declared phony, and that their recipes don't write: the tool runs these
     in each build. They are named in the answer, since a recipe that fails unseen looks so too."""
@@ -251,12 +254,16 @@ class Build:
         """Adds a problem, once, and the recipes that it keeps from being judged."""
         if text not in self.problems:
             self.problems.append(text)
+        if len(recipes) == 1:
+            self.subjects[text] = recipes[0]
         self.unjudged.update(recipes)
 
-    def note(self, text: str) -> None:
-        """Adds a note, once."""
+    def note(self, text: str, recipe: str = "") -> None:
+        """Adds a note, once; `recipe` is the only one that it is about, if there is one."""
         if text not in self.notes:
             self.notes.append(text)
+        if recipe:
+            self.subjects[text] = recipe
 
     def node(self, name: str) -> Node:
         """The node of a name; a new one is a file without a rule."""

@@ -30,6 +30,7 @@ from mkcheck_tools.imports.configured import configured_files, configuring
 from mkcheck_tools.imports.copies import Copies, listing
 from mkcheck_tools.imports.desk import ANSWER, LOG, SAVED, Desk
 from mkcheck_tools.imports.gnumake import outer_environment
+from mkcheck_tools.imports.grouping import grouped
 from mkcheck_tools.imports.judging import (
     BOOK,
     FIRST,
@@ -223,7 +224,8 @@ class Import(Generic[Shown, Built]):
             return written(build, place, self.desk)
 
         translated = self.desk.step("translate", translate, word_of_translation)
-        for text in translated.build.problems if self.request.is_whole else ():
+        made = translated.build
+        for text in grouped(made.problems, made.subjects) if self.request.is_whole else ():
             self.desk.say(f"not judged: {text}")
         return translated
 
@@ -346,7 +348,8 @@ def add_configured(build: Build, place: Place, asked: tuple[str, ...]) -> None:
     for name in configuring(build):
         build.note(
             f"{name}: its recipe runs config.status, so it is of the configure step, and is"
-            " recorded as it is, and not replayed"
+            " recorded as it is, and not replayed",
+            name,
         )
 
 
@@ -364,8 +367,9 @@ def look(translated: Translated, desk: Desk, why: str) -> int:
         desk.step("graph", partial(translated.judge.graph, translated.has_first), str)
         all_of = f"{len(named)} of {counted(len(recipes), 'recipe')}"
         print(f"{all_of} will be judged, for {goals}, by {build.tool}")
-        problems = build.problems
-    for heading, texts in (("Not judged:", problems), ("Notes:", build.notes)):
+        problems = grouped(build.problems, build.subjects)
+    notes = grouped(build.notes, build.subjects)
+    for heading, texts in (("Not judged:", problems), ("Notes:", notes)):
         if texts:
             print("\n".join(["", heading, *(f"    {text}" for text in texts)]))
     return 0
@@ -526,7 +530,7 @@ def write_answer(judged: Judged, desk: Desk) -> None:
 
 def end_early(build: Build) -> int:
     """The status of a step that was asked for alone."""
-    for text in build.problems:
+    for text in grouped(build.problems, build.subjects):
         print(f"not judged: {text}")
     return AS_FAR_AS_JUDGED if build.problems else 0
 

@@ -99,7 +99,8 @@ class Probing:
                 self.build.note(
                     f"{self.where(node)}: the recipe of {node.name} reads the names in the folder"
                     f" {name}, which another recipe makes, and isn't run again when they change: it"
-                    " wrote the same with all other names that were tried"
+                    " wrote the same with all other names that were tried",
+                    node.name,
                 )
         elif what == "fails":
             self.build.problem(

@@ -107,10 +107,17 @@ class Settling:
                 continue
             if not all(all_need(self.build, one) for one in needs):
                 self.build.problem(
-                    f"{name}: make makes this makefile anew when {needs[0]} changes, commands may"
+                    f"{name}: make makes this makefile anew {self.when_remade(needs)}, commands may"
                     " be others then, and make doesn't run those again; let all that is made need"
                     f" {name}"
                 )
+
+    def when_remade(self, needs: list[str]) -> str:
+        """When make makes a makefile anew that is made from these. What is never there, as FORCE,
+        never changes."""
+        known = {*self.writers, *self.build.made}
+        is_forced = any(name not in known and not self.exists(name) for name in needs)
+        return "in each run" if is_forced else f"when {needs[0]} changes"
 
     def is_gone(self, name: str) -> bool:
         """Whether a recipe makes a file that isn't there after a build by the tool itself."""

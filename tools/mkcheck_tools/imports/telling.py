@@ -16,7 +16,8 @@ Given = TypeVar("Given")
 # How often a terminal and another file get a line, in seconds.
 SECONDS_ON_TERMINAL = 1.0
 SECONDS_ELSEWHERE = 60.0
-# A count in a line of another program, as `[replay 3/10 0:05 left] a.o` or `[3/10] `.
+# A count in a line of another program, as `[replay 3/10 0:05 left] a.o` or `[3/10] `; where the whole
+# isn't known, `[3/0]`.
 COUNT = re.compile(r"\[(?:(\w+) )?(\d+)/(\d+)(?: ([\d:]+) left)?\]")
 # In place of a count, where make is asked what it would do: it begins no commands then.
 ASKED = "[asked 0/0]"
@@ -62,8 +63,13 @@ class Telling:
         begun = time.monotonic()
 
         def tell() -> None:
+            part, since, before = doing(word, ""), begun, begun
             while not ended.wait(self.apart):
-                self.progress(word, look(), time.monotonic() - begun)
+                text, now = look(), time.monotonic()
+                if doing(word, text) != part:
+                    part, since = doing(word, text), before
+                self.progress(word, text, now - begun, now - since)
+                before = now
 
         teller = threading.Thread(target=tell, daemon=True)
         teller.start()
@@ -76,9 +82,10 @@ class Telling:
                 self.stream.write(CLEAR)
                 self.stream.flush()
 
-    def progress(self, word: str, text: str, seconds: float) -> None:
-        """A line on a step that is under way."""
-        far = f"{duration(seconds)}{how_far(text, seconds)}"
+    def progress(self, word: str, text: str, seconds: float, of_part: float) -> None:
+        """A line on a step that is under way, and the part of it that the text counts: how many
+        seconds each has taken."""
+        far = f"{duration(seconds)}{how_far(text, of_part)}"
         shown = f"{self.program}: {doing(word, text)}, {far}"
         with self.lock:
             if self.terminal:
@@ -90,12 +97,12 @@ class Telling:
 
 
 def how_far(text: str, seconds: float) -> str:
-    """The last count in a text, and the time that is left; empty where there is none, or it counts
-    nothing."""
+    """The last count in a text, and the time that is left, where the whole is known; empty where
+    there is no count, or it counts nothing."""
     counts = list(COUNT.finditer(text))
     done, total = map(int, counts[-1].group(2, 3)) if counts else (0, 0)
     if total == 0:
-        return ""
+        return f", {done} so far" if done else ""
     left = counts[-1].group(4)
     if left is None and 0 < done < total:
         left = duration(seconds / done * (total - done))

@@ -10,6 +10,7 @@ from typing import Any
 from mkcheck_tools.book.footprint_files import Footprints
 from mkcheck_tools.imports.answers import is_nothing_judged, status_of
 from mkcheck_tools.imports.builds import Build, Node
+from mkcheck_tools.imports.grouping import grouped
 from mkcheck_tools.imports.judging import UNAWARE, BuildFinding, BuildVerdict
 from mkcheck_tools.imports.sentences import OF_ONE_LINE, Sentences
 
@@ -46,10 +47,10 @@ class Teller:
             "reads": verdict.reads,
             "findings": [self.finding(group) for group in self.groups(verdict.findings)],
             "generators": {name: how for name, how in generators.items() if how},
-            "unjudged": list(build.problems),
+            "unjudged": grouped(build.problems, build.subjects),
             "given": list(build.given),
             "unwritten": list(build.unwritten),
-            "notes": list(build.notes),
+            "notes": grouped(build.notes, build.subjects),
         }
         return json.dumps(value, indent=1, ensure_ascii=False) + "\n"
 

@@ -129,13 +129,15 @@ class MakeTool:
         return to_build(shown.front, shown.makes, [])
 
     def how_far(self, shown: MakeShown) -> str:
-        """How many commands the present make has begun, of those that `make -n` showed, and which
-        build it is after the first one; no count where make is only asked."""
+        """How many commands the present make has begun, of those that `make -n` showed, unless it
+        begins more, and which build it is after the first one; no count where make is only
+        asked."""
         front, total = shown.front, shown.commands
         if "asked" in front.builds:
             return ASKED
         which = f"{front.builds[-1]} " if front.builds else ""
-        return f"[{which}{min(front.begun(), total)}/{total}]" if total else ""
+        begun = front.begun()
+        return f"[{which}{begun}/{total if begun < total else 0}]"
 
     def build(self, shown: MakeShown) -> MakeBuilt:
         """Lets make build in a copy."""

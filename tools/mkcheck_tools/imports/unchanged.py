@@ -63,7 +63,8 @@ def mark_unchanged(
         build.note(
             f"{where}: the recipe of {name} left it as it was when nothing changed. Then make"
             " doesn't make what needs it again; so it isn't replayed, and a change of what it reads"
-            f" reaches what needs {name} only where {name} changes too"
+            f" reaches what needs {name} only where {name} changes too",
+            name,
         )
 
 

@@ -1,0 +1,75 @@
+"""Sentences that differ only in the target are told as one."""
+
+from __future__ import annotations
+
+import unittest
+
+from importer.make_folder import MakeFolderTest, can_judge
+from mkcheck_tools.imports.grouping import grouped
+
+
+def told(**sentences: str) -> list[str]:
+    """What is told of sentences, each about one target; an underscore stands for a dot."""
+    subjects = {text: target.replace("_", ".") for target, text in sentences.items()}
+    return grouped(subjects, subjects)
+
+
+class GroupingTest(unittest.TestCase):
+    """Texts alone."""
+
+    def test_targets_of_one_line(self) -> None:
+        self.assertEqual(
+            told(a_o="M:3: a.o isn't made", b_o="M:3: b.o isn't made", c_o="M:3: c.o isn't made"),
+            ["M:3: a.o isn't made; so it is with b.o and c.o"],
+        )
+
+    def test_targets_of_several_lines(self) -> None:
+        self.assertEqual(
+            told(x="M:3: the recipe of x fails", y="N:5: the recipe of y fails"),
+            ["M:3: the recipe of x fails; so it is with y (N:5)"],
+        )
+
+    def test_names_made_from_that_of_the_target(self) -> None:
+        self.assertEqual(
+            told(one_o="M:3: `cc one.c -o one.o` is new", two_o="M:3: `cc two.c -o two.o` is new"),
+            ["M:3: `cc one.c -o one.o` is new; so it is with two.o"],
+        )
+
+    def test_other_causes(self) -> None:
+        texts = ["M:3: x reads h", "M:3: y reads i"]
+        self.assertEqual(told(x=texts[0], y=texts[1]), texts)
+
+    def test_a_part_of_a_word_is_no_name(self) -> None:
+        texts = ["M:3: x reads x.h and maxx", "M:3: y reads y.h and maxy"]
+        self.assertEqual(told(x=texts[0], y=texts[1]), texts)
+
+    def test_details_of_the_first_stay(self) -> None:
+        self.assertEqual(
+            told(x="M:3: x fails; its lines:\n    one", y="M:3: y fails; its lines:\n    two"),
+            ["M:3: x fails; its lines; so it is with y:\n    one"],
+        )
+
+    def test_what_is_about_no_target_stays_alone(self) -> None:
+        self.assertEqual(grouped(["x is odd", "y is odd"], {}), ["x is odd", "y is odd"])
+
+
+@can_judge
+class GroupedAnswerTest(MakeFolderTest):
+    """An import."""
+
+    def test_commands_that_are_others_after_a_build(self) -> None:
+        """Each object names itself once it is there, by one pattern rule."""
+        self.write(
+            {
+                "Makefile": "all: x.o y.o z.o\n.PHONY: all\n"
+                "%.o: %.c\n\tcat $< $(if $(wildcard $@),,/dev/null) > $@\n",
+                "x.c": "x\n",
+                "y.c": "y\n",
+                "z.c": "z\n",
+            }
+        )
+        answer = self.imported()
+        self.assertIn("Makefile:4: after a build make has other commands for x.o: ", answer.output)
+        self.assertIn("; so it is with y.o and z.o\n", answer.output)
+        self.assertEqual(answer.output.count("after a build make has other commands"), 1)
+        self.assertIn("no answer: no recipe could be judged, of 3", answer.output)
