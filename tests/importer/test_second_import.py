@@ -194,6 +194,68 @@ class EditedSourceTest(SecondImportTestCase):
 
 
 @can_judge
+class LeftAsItWasTest(SecondImportTestCase):
+    """A recipe that runs in each make, and writes its file only if its contents change."""
+
+    FLAGS = "flags: f.in FORCE\n\t@cat f.in > $@.new; cmp -s $@.new $@ || cp $@.new $@; rm $@.new\n"
+
+    def setUp(self) -> None:
+        super().setUp()
+        makefile = MAKEFILE.replace("b.o: b.c\n\tcat b.c >", "b.o: b.c flags\n\tcat b.c flags >")
+        self.write({"Makefile": makefile + self.FLAGS + "FORCE:\n", "f.in": "f\n"})
+        self.first()
+
+    def test_an_edit_beside_it(self) -> None:
+        self.write({"b.c": "other\n"})
+        self.assertEqual(self.taken(), "2 of 4")
+
+    def test_an_edit_of_what_it_reads(self) -> None:
+        self.write({"f.in": "other\n"})
+        self.assertEqual(
+            self.anew("what the recipe of flags depends on, which left it as it was, isn't the"),
+            "0 of 4",
+        )
+
+
+@can_judge
+class TriedTest(SecondImportTestCase):
+    """A recipe that was tried without a folder that another recipe makes."""
+
+    SAME = "test -d d; cat b.in > b\n"
+    OTHER = "if test -d d; then echo with; else echo without; fi > b\n"
+
+    def setUp(self) -> None:
+        super().setUp()
+        self.write(
+            {
+                "Makefile": "all: a b c\n.PHONY: all\na: a.in\n\trm -rf d; mkdir d; cp a.in a\n"
+                "b: b.in look | a\n\tsh look\nc: c.in\n\tcp c.in c\n",
+                "a.in": "a\n",
+                "b.in": "b\n",
+                "c.in": "c\n",
+                "look": self.SAME,
+            }
+        )
+
+    def test_an_edit_beside_it(self) -> None:
+        self.assertEqual(self.first().status, 0)
+        for text in ("other\n", "again\n"):
+            self.write({"c.in": text})
+            self.assertEqual(self.taken(), "1 of 3")
+
+    def test_what_is_not_judged_is_named_again(self) -> None:
+        self.write({"look": self.OTHER})
+        self.assertEqual(self.first().status, 4)
+        self.write({"c.in": "other\n"})
+        self.assertEqual(self.taken(), "1 of 3")
+
+    def test_an_edit_of_what_it_reads(self) -> None:
+        self.first()
+        self.write({"look": self.OTHER})
+        self.anew("recipes have to be tried in a copy that is built")
+
+
+@can_judge
 class AnewTest(SecondImportTestCase):
     """What may change the translation has it made anew; recipes that are the same are kept."""
 

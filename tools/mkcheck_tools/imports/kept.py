@@ -13,10 +13,11 @@ import hashlib
 import json
 import os
 from collections.abc import Iterable, Iterator, Mapping
-from dataclasses import dataclass
+from dataclasses import dataclass, field
 from pathlib import Path
 from typing import Any
 
+from mkcheck_tools.book.states import Entry as Recipe
 from mkcheck_tools.book.states import State
 from mkcheck_tools.book.updating import Conditions
 from mkcheck_tools.faults import Fault
@@ -25,7 +26,7 @@ from mkcheck_tools.imports.tools import Basis
 from mkcheck_tools.replay.versions import FILE, Version, version_of
 from mkcheck_tools.run.paths import RealPath
 
-FORMAT = 1
+FORMAT = 2
 # What is no file that lasts.
 UNLASTING = ("/proc/", "/sys/", "/dev/")
 SHOWN_AT_MOST = 5
@@ -104,6 +105,18 @@ class Answer:
 
 
 @dataclass(frozen=True)
+class Tried:
+    """What came of trying a recipe with and without folders, on what that depends, and the file
+    that it then wrote otherwise, if it did."""
+
+    folders: tuple[str, ...]
+    what: str
+    file: str
+    basis: str
+    """A digest; empty where it isn't known."""
+
+
+@dataclass(frozen=True)
 class Kept:
     """A translation, what it depends on, and the answer, if there is one."""
 
@@ -120,8 +133,17 @@ class Kept:
     reread: tuple[str, ...]
     """The files that recipes make, and that the tool reads in later builds."""
 
+    alike: tuple[str, ...] = ()
+    """The files whose recipes left them as they were when nothing had changed."""
+
     made: str = ""
     """A digest of what recipes left there, and of the names of all that they made."""
+
+    bases: Mapping[str, str] = field(default_factory=dict)
+    """For each of the files `alike` on what its recipe depends, as a digest."""
+
+    tried: Mapping[str, Tried] = field(default_factory=dict)
+    """What came of trying recipes, by their targets."""
 
     answer: Answer | None = None
 
@@ -145,6 +167,7 @@ class Now:
             basis.anew,
             build,
             tuple(sorted(basis.reread)),
+            basis.alike,
         )
 
     def entry(self, path: str) -> Entry:
@@ -213,6 +236,15 @@ def made_in(state: State, reread: Iterable[str]) -> str | None:
     return digest_of_value([sorted(names), sorted(wanted.items())])
 
 
+def basis_of(recipe: Recipe | None) -> str:
+    """A digest of all on which the recipe depends that has this recording; empty without one."""
+    if recipe is None or recipe.waiting is not None:
+        return ""
+    own = recipe.footprint.recipe
+    looks = sorted((name, entry_of(version)) for name, version in recipe.looks.items())
+    return digest_of_value([own.lines, own.shell, own.strict, looks, sorted(recipe.lists.items())])
+
+
 def digest_of_value(value: object) -> str:
     """A digest of a JSON value."""
     return hashlib.sha256(json.dumps(value).encode()).hexdigest()
@@ -241,7 +273,10 @@ def read_kept(path: str) -> Kept | None:
             tuple(body["anew"]),
             body["build"],
             tuple(body["reread"]),
+            tuple(body["alike"]),
             body["made"],
+            body["bases"],
+            {target: tried_in(one) for target, one in body["tried"].items()},
             None
             if answer is None
             else Answer(
@@ -250,6 +285,11 @@ def read_kept(path: str) -> Kept | None:
         )
     except (OSError, ValueError, KeyError, TypeError, AttributeError, RecursionError):
         return None
+
+
+def tried_in(value: dict[str, Any]) -> Tried:
+    """What came of trying a recipe, of its JSON value."""
+    return Tried(tuple(value["folders"]), value["what"], value["file"], value["basis"])
 
 
 def entry_in(value: list[Any]) -> Entry:

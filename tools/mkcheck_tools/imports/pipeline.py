@@ -10,7 +10,7 @@ import os
 import secrets
 import shutil
 import sys
-from collections.abc import Iterable, Sequence
+from collections.abc import Iterable, Mapping, Sequence
 from dataclasses import dataclass, replace
 from functools import partial
 from pathlib import Path
@@ -19,7 +19,7 @@ from typing import Generic
 from mkcheck_tools.answers.checkers import find_checker
 from mkcheck_tools.book.footprint_files import Footprints
 from mkcheck_tools.book.paths import path_of_notes, path_of_state
-from mkcheck_tools.book.states import State, Unusable
+from mkcheck_tools.book.states import Entry, State, Unusable
 from mkcheck_tools.book.states import read as read_state
 from mkcheck_tools.book.states import read_choice
 from mkcheck_tools.book.updating import Conditions
@@ -43,13 +43,15 @@ from mkcheck_tools.imports.kept import (
     Answer,
     Kept,
     Now,
+    Tried,
+    basis_of,
     change_of,
     digest_of_value,
     files_of,
     made_in,
 )
 from mkcheck_tools.imports.leftovers import tracked_files
-from mkcheck_tools.imports.probing import Probing
+from mkcheck_tools.imports.probing import Before, Probing
 from mkcheck_tools.imports.recorded import Recorded
 from mkcheck_tools.imports.request import Request
 from mkcheck_tools.imports.saving import build_of_text, recorded_of_text, text_of_build
@@ -90,21 +92,24 @@ class Translated:
 @dataclass(frozen=True)
 class Settled:
     """A build and its footprints as the recording settles them; at which folders its recipes
-    looked."""
+    looked, and what the recorder knows of each."""
 
     build: Build
     footprints: Footprints
     looked: dict[str, list[str]]
+    recordings: dict[str, Entry]
 
 
 @dataclass(frozen=True)
 class Judged:
-    """A build as the recording settles it, its footprints, and what was found of it."""
+    """A build as the recording settles it, its footprints, what was found of it, and what came of
+    trying its recipes."""
 
     build: Build
     footprints: Footprints
     verdict: BuildVerdict
     has_first: bool
+    tried: dict[str, Tried]
 
 
 @dataclass(frozen=True)
@@ -121,6 +126,11 @@ class Recording:
 
     digest: str
     """A digest of all that the recorder gave."""
+
+    def bases(self, judge: Judge, files: Iterable[str]) -> dict[str, str]:
+        """On what the recipes of some files depend, as digests."""
+        known = recordings(judge, self.state)
+        return {name: basis_of(known.get(name)) for name in files}
 
     def made(self, reread: Sequence[str]) -> str:
         """A digest of what recipes made, as `made_in` gives it; empty where it isn't known."""
@@ -241,8 +251,10 @@ class Import(Generic[Shown, Built]):
         kept = now.kept(basis, translated.text, secrets.token_hex(16))
         self.desk.keep(kept)
         recording = recorded(self.request, translated, self.desk)
-        judged = judged_by(translated, recording, self.desk, self.copies)
-        return self.answer(judged, recording, kept)
+        before = Before({}, files=now.files.entries)
+        judged = judged_by(translated, recording, self.desk, self.copies, before)
+        bases = recording.bases(judge, kept.alike)
+        return self.answer(judged, recording, replace(kept, bases=bases))
 
     def again(self, now: Now) -> int | None:
         """Does as much as the last import left to do, and gives the status; None where all has to
@@ -266,17 +278,19 @@ class Import(Generic[Shown, Built]):
             return None
         before = kept.answer
         is_same = before is not None and before.recorded == recording.digest
+        bases = recording.bases(translated.judge, kept.alike)
         if change.is_edited or (before is not None and not is_same):
-            if why := other_build(kept, recording):
+            if why := other_build(kept, recording, bases):
                 self.refuse(why)
                 return None
         elif before is not None and self.desk.digests(self.request.output) == before.files:
             return self.answer_before(before)
-        if is_probed(translated, recording):
+        known = Before({}, files=now.files.entries, tried=kept.tried)
+        if is_probed(translated, recording, known):
             self.refuse("recipes have to be tried in a copy that is built")
             return None
-        judged = judged_by(translated, recording, self.desk, self.copies)
-        return self.answer(judged, recording, replace(kept, files=now.files))
+        judged = judged_by(translated, recording, self.desk, self.copies, known)
+        return self.answer(judged, recording, replace(kept, files=now.files, bases=bases))
 
     def refuse(self, why: str) -> None:
         """Tells why the last translation isn't taken."""
@@ -298,17 +312,21 @@ class Import(Generic[Shown, Built]):
         write_answer(judged, self.desk)
         files = self.desk.digests(self.desk.drafts)
         found = Answer(tuple(lines), status, recording.digest, files) if status != 2 else None
-        self.desk.keep(replace(kept, made=recording.made(kept.reread), answer=found))
+        made = recording.made(kept.reread)
+        self.desk.keep(replace(kept, made=made, tried=judged.tried, answer=found))
         return status
 
 
-def other_build(kept: Kept, recording: Recording) -> str:
+def other_build(kept: Kept, recording: Recording, bases: Mapping[str, str]) -> str:
     """Why the translation may not be that of the files as they are now, which were recorded; empty
-    where it is."""
+    where it is. `bases` are those of the recipes that left files as they were."""
     if recording.recorded.unrecorded:
         return "a recipe can't be recorded"
     if kept.anew:
         return f"recipes do something else now, and {kept.anew[0]}"
+    others = [name for name in kept.alike if not bases[name] or bases[name] != kept.bases.get(name)]
+    if others:
+        return f"what the recipe of {others[0]} depends on, which left it as it was, isn't the same"
     made = recording.made(kept.reread)
     if not made or not kept.made:
         return "what recipes make isn't known"
@@ -456,18 +474,29 @@ def own_trusted(judge: Judge) -> list[str]:
     return [names[name] for name in [*alike, *configuring(build)] if name in names]
 
 
-def is_probed(translated: Translated, recording: Recording) -> bool:
+def is_probed(translated: Translated, recording: Recording, before: Before) -> bool:
     """Whether there are recipes that have to be tried in a copy of the project that is built."""
     settled = settled_by(translated, recording)
-    looked = recording.recorded.looked
-    return any(Probing(settled.build, settled.footprints, looked, None, {}).waiting())
+    return probing(settled, before, None, {}).needs_build()
+
+
+def probing(
+    settled: Settled, before: Before, built: Place | None, environment: dict[str, str]
+) -> Probing:
+    """What tries recipes, of which the recording tells more than was known `before`."""
+    known = replace(before, looked=settled.looked, recordings=settled.recordings)
+    return Probing(settled.build, settled.footprints, known, built, environment)
 
 
 def judged_by(
-    translated: Translated, recording: Recording, desk: Desk, copies: Copies | None
+    translated: Translated,
+    recording: Recording,
+    desk: Desk,
+    copies: Copies | None,
+    before: Before,
 ) -> Judged:
     """Settles what only the recording tells, and checks. Without copies of the project nothing is
-    tried."""
+    tried; `before` has what came of that in the import before."""
 
     def check() -> Judged:
         settled = settled_by(translated, recording)
@@ -476,12 +505,12 @@ def judged_by(
         if copies is not None and "built" in copies.made:
             place = copies.shut("built")
         said = replace(recording.recorded, looked=settled.looked)
-        Probing(settled.build, settled.footprints, settled.looked, place, judge.environment).probe()
+        tried = probing(settled, before, place, judge.environment).probe()
         if place is not None and copies is not None:
             copies.place("read")
         judge.write_book(settled.footprints, said.noted)
         has_first = save(judge, desk, said)
-        return Judged(settled.build, settled.footprints, judge.check(has_first), has_first)
+        return Judged(settled.build, settled.footprints, judge.check(has_first), has_first, tried)
 
     return desk.step("check", check, word_of_check)
 
@@ -501,7 +530,20 @@ def settled_by(translated: Translated, recording: Recording) -> Settled:
     settling.settle()
     looked = recording.recorded.looked
     renamed = {settling.renamed.get(name, name): found for name, found in looked.items()}
-    return Settled(build, footprints, renamed)
+    known = recordings(translated.judge, recording.state)
+    return Settled(
+        build,
+        footprints,
+        renamed,
+        {settling.renamed.get(name, name): entry for name, entry in known.items()},
+    )
+
+
+def recordings(judge: Judge, state: State | None) -> dict[str, Entry]:
+    """What the recorder knows of each recipe, by the names of nodes."""
+    back = {word: name for name, word in judge.names().written.items() if "\0" not in name}
+    entries = {} if state is None else state.entries
+    return {back.get(word, word): entry for word, entry in entries.items()}
 
 
 def answer(request: Request, judged: Judged, said: Recorded) -> tuple[list[str], int]:
@@ -560,7 +602,7 @@ def saved_step(request: Request, desk: Desk, copies: Copies) -> int:
         raise Fault(f"{request.output} has no footprints: import with --only record first")
     noted = judge.notes(frozenset(), frozenset())
     recording = Recording(recorded_of_text(desk.text(SAVED), noted), "", None, 0, "")
-    judged = judged_by(translated, recording, desk, None)
+    judged = judged_by(translated, recording, desk, None, Before({}))
     lines, status = answer(request, judged, recording.recorded)
     tell(lines, desk)
     write_answer(judged, desk)

@@ -12,11 +12,14 @@ import re
 import shutil
 import stat
 from collections.abc import Iterable, Iterator, Mapping
+from dataclasses import dataclass, field
 
 from mkcheck_tools.book.footprint_files import Footprints, Record
+from mkcheck_tools.book.states import Entry as Recording
 from mkcheck_tools.imports.builds import Build, Node, path_name
 from mkcheck_tools.imports.copies import run_here
 from mkcheck_tools.imports.gnumake import content
+from mkcheck_tools.imports.kept import Entry, Tried, basis_of, digest_of_value
 from mkcheck_tools.imports.plain import shell_text
 from mkcheck_tools.imports.readings import followed
 from mkcheck_tools.run.places import Place
@@ -31,19 +34,40 @@ NAME = re.compile(r"(?<![-\w])[\w.+*?][\w.+*?-]*")
 WORDS_AT_MOST = 2000
 
 
+# What comes of trying a recipe: it writes the same, it writes a file otherwise, it fails when it
+# runs again; too many others were tried, or there is no copy in which it could be.
+SAME, OTHER, FAILS, UNTRIED, UNKNOWN = "same", "other", "fails", "untried", "unknown"
+
+
+@dataclass(frozen=True)
+class Before:
+    """What is known of recipes before any is tried."""
+
+    looked: Mapping[str, list[str]]
+    """At which folders each looked."""
+
+    recordings: Mapping[str, Recording] = field(default_factory=dict)
+    files: Mapping[str, Entry] = field(default_factory=dict)
+    """What stands in the project."""
+
+    tried: Mapping[str, Tried] = field(default_factory=dict)
+    """What came of trying recipes in the import before."""
+
+
 class Probing:
     """Finds such recipes, and tries them in a copy of the project that was built, where there is
-    one."""
+    one. What came of that before holds where all on which it depends is the same."""
 
     def __init__(
         self,
         build: Build,
         footprints: Footprints,
-        looked: Mapping[str, list[str]],
+        before: Before,
         built: Place | None,
         environment: dict[str, str],
     ) -> None:
-        self.build, self.footprints, self.looked = build, footprints, looked
+        self.build, self.footprints, self.before = build, footprints, before
+        self.looked = before.looked
         self.built, self.environment = built, environment
         made = [name for name in build.made if name.endswith("/")]
         self.folders = sorted(name.rstrip("/") for name in made)
@@ -55,28 +79,52 @@ class Probing:
         for record in list(self.footprints.records.values()) if self.folders else ():
             node = self.build.nodes.get(record.target)
             found = self.met(node, record) if node is not None else []
+            # Scripts that the build makes aren't there without one, so what they spell isn't met.
+            known = self.before.tried.get(record.target)
+            found = [name for name in self.folders if name in (*found, *known_folders(known))]
             found = [name for name in found if f"{record.target} {name}" not in self.build.tried]
             if node is not None and found:
                 yield node, record, found
 
-    def probe(self) -> None:
-        """Adds a problem for each recipe to which such a folder matters."""
+    def needs_build(self) -> bool:
+        """Whether there are recipes that have to be tried in a copy of the project that is
+        built."""
+        return any(self.known(*waiting) is None for waiting in self.waiting())
+
+    def probe(self) -> dict[str, Tried]:
+        """Adds a problem for each recipe to which such a folder matters; gives what came of trying
+        recipes, now or before."""
+        results: dict[str, Tried] = {}
         left = TRIED_AT_MOST
         for node, record, found in self.waiting():
-            text = self.sentence(node, found[0])
-            if self.built is None:
-                self.build.problem(
-                    text + " isn't known without a build: import without --only", node.name
-                )
-            elif left == 0:
-                self.build.problem(
-                    text + f" wasn't tried, since {TRIED_AT_MOST} other recipes were; let it make"
-                    " the folder itself (mkdir -p), or need a file in it",
-                    node.name,
-                )
-            else:
-                left -= 1
-                self.tell(node, record, found, text)
+            one = self.known(node, record, found)
+            if one is None:
+                what, file = UNKNOWN, ""
+                if self.built is not None:
+                    what, file = self.tried(node, record, found) if left else (UNTRIED, "")
+                    left = max(left - 1, 0)
+                one = Tried(tuple(found), what, file, self.basis(node, record))
+            self.tell(node, record, one)
+            if one.what != UNKNOWN:
+                results[record.target] = one
+        return results
+
+    def known(self, node: Node, record: Record, folders: list[str]) -> Tried | None:
+        """What came of trying a recipe with these folders before, where that holds."""
+        one = self.before.tried.get(record.target)
+        if one is None or not one.basis or list(one.folders) != folders:
+            return None
+        return one if one.basis == self.basis(node, record) else None
+
+    def basis(self, node: Node, record: Record) -> str:
+        """A digest of all on which it depends what a recipe does, without some folders too: what it
+        was recorded to look at, and the files that its commands and scripts spell. Empty where that
+        isn't known."""
+        recordings = self.before.recordings
+        own = basis_of(recordings.get(record.target) or recordings.get(node.piece_of or ""))
+        spelled = self.words_in(self.build.root, node, record)
+        files = sorted((name, self.before.files.get(name)) for name in spelled)
+        return digest_of_value([own, [one for one in files if one[1] is not None]]) if own else ""
 
     def sentence(self, node: Node, folder: str) -> str:
         """The beginning of what is said of a recipe."""
@@ -89,20 +137,30 @@ class Probing:
         """Where a recipe stands."""
         return str(node.origin) if node.origin else self.build.tool
 
-    def tell(self, node: Node, record: Record, folders: list[str], text: str) -> None:
-        """Tries a recipe with and without folders, and says what came of it."""
-        what = self.tried(node, record, folders)
-        if what == "":
-            self.build.tried.update(f"{record.target} {name}" for name in folders)
+    def tell(self, node: Node, record: Record, tried: Tried) -> None:
+        """Says what came of trying a recipe with and without folders."""
+        text = self.sentence(node, tried.folders[0])
+        if tried.what == UNKNOWN:
+            self.build.problem(
+                f"{text} isn't known without a build: import without --only", node.name
+            )
+        elif tried.what == UNTRIED:
+            self.build.problem(
+                f"{text} wasn't tried, since {TRIED_AT_MOST} other recipes were; let it make the"
+                " folder itself (mkdir -p), or need a file in it",
+                node.name,
+            )
+        elif tried.what == SAME:
+            self.build.tried.update(f"{record.target} {name}" for name in tried.folders)
             looked = self.looked.get(record.target, [])
-            for name in (name for name in folders if f"{name}/" in looked):
+            for name in (name for name in tried.folders if f"{name}/" in looked):
                 self.build.note(
                     f"{self.where(node)}: the recipe of {node.name} reads the names in the folder"
                     f" {name}, which another recipe makes, and isn't run again when they change: it"
                     " wrote the same with all other names that were tried",
                     node.name,
                 )
-        elif what == "fails":
+        elif tried.what == FAILS:
             self.build.problem(
                 f"{text} couldn't be tried, since that recipe fails when it runs again; let it"
                 " succeed then, or need a file in the folder",
@@ -110,10 +168,10 @@ class Probing:
             )
         else:
             self.build.problem(
-                f"{self.where(node)}: the recipe of {node.name} writes {what} otherwise where the"
-                f" folder {folders[0]}, which another recipe makes, isn't there or holds other"
-                f" names; {node.name} isn't made again when that changes; let it look at a file"
-                " that it needs",
+                f"{self.where(node)}: the recipe of {node.name} writes {tried.file} otherwise where"
+                f" the folder {tried.folders[0]}, which another recipe makes, isn't there or holds"
+                f" other names; {node.name} isn't made again when that changes; let it look at a"
+                " file that it needs",
                 node.name,
             )
 
@@ -136,20 +194,24 @@ class Probing:
     def words_of(self, node: Node, record: Record) -> set[str]:
         """The words of a recipe, and of the scripts of the project that it reads, as paths."""
         if record.target not in self.words:
-            texts = [(node.setting.folder, command.text) for command in node.commands]
             place = self.built.folder if self.built is not None else self.build.root
-            for name in record.reads:
-                path = os.path.join(place, name)
-                if not name.startswith("/") and os.access(path, os.X_OK) and is_short(path):
-                    text = content(path).decode("utf-8", "replace")
-                    texts += [(node.setting.folder, text)] if text.startswith("#!") else []
-            self.words[record.target] = {
-                path_name(self.build.root, os.path.join(self.build.root, folder), word)
-                for folder, text in texts
-                for word in BETWEEN_WORDS.split(text)
-                if word
-            }
+            self.words[record.target] = self.words_in(place, node, record)
         return self.words[record.target]
+
+    def words_in(self, place: str, node: Node, record: Record) -> set[str]:
+        """The same, with the scripts that are in a place."""
+        texts = [(node.setting.folder, command.text) for command in node.commands]
+        for name in record.reads:
+            path = os.path.join(place, name)
+            if not name.startswith("/") and os.access(path, os.X_OK) and is_short(path):
+                text = content(path).decode("utf-8", "replace")
+                texts += [(node.setting.folder, text)] if text.startswith("#!") else []
+        return {
+            path_name(self.build.root, os.path.join(self.build.root, folder), word)
+            for folder, text in texts
+            for word in BETWEEN_WORDS.split(text)
+            if word
+        }
 
     def makers(self, folder: str) -> set[str]:
         """The recipes that may make a folder: they name it, or write files in it."""
@@ -169,10 +231,11 @@ class Probing:
             and is_named(folder, self.words_of(node, record))
         )
 
-    def tried(self, node: Node, record: Record, folders: list[str]) -> str:
+    def tried(self, node: Node, record: Record, folders: list[str]) -> tuple[str, str]:
         """Runs a recipe without these folders, and with more files in each: one for each ending,
-        and those that the recipe spells. Gives the first file that it then writes with other
-        contents; empty if there is none, or if the recipe fails then, since nobody overlooks that.
+        and those that the recipe spells. Gives what came of it, and the first file that it then
+        writes with other contents, if it does. One that fails then alone is the same, since nobody
+        overlooks that.
 
         A recipe that can't run over its own outputs, as `ln -s`, is run without them.
         """
@@ -184,7 +247,7 @@ class Probing:
         if self.run(node):
             gone = [path for path in writes if not os.path.isdir(path)]
             if self.run_without(node, gone):
-                return "fails"
+                return FAILS, ""
         before = [content(path) for path in writes]
         found = []
         for change in (without_folder, with_file):
@@ -199,7 +262,7 @@ class Probing:
                 if self.run_without(node, gone) == 0:
                     found += self.changed(record, before)
         self.run_without(node, gone)
-        return found[0] if found else ""
+        return (OTHER, found[0]) if found else (SAME, "")
 
     def changed(self, record: Record, before: list[bytes]) -> list[str]:
         """The files that a recipe writes and that hold something else than before."""
@@ -238,6 +301,11 @@ class Probing:
             if status != 0 and not command.ignored:
                 return status
         return 0
+
+
+def known_folders(tried: Tried | None) -> tuple[str, ...]:
+    """The folders with which a recipe was tried before, if it was."""
+    return () if tried is None else tried.folders
 
 
 @contextlib.contextmanager

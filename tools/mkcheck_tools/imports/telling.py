@@ -16,8 +16,8 @@ Given = TypeVar("Given")
 # How often a terminal and another file get a line, in seconds.
 SECONDS_ON_TERMINAL = 1.0
 SECONDS_ELSEWHERE = 60.0
-# A count in a line of another program, as `[replay 3/10 0:05 left] a.o` or `[3/10] `; where the whole
-# isn't known, `[3/0]`.
+# A count in a line of another program, as `[replay 3/10 0:05 left] a.o` or `[3/10] `, and `[3/0]`
+# where the whole isn't known.
 COUNT = re.compile(r"\[(?:(\w+) )?(\d+)/(\d+)(?: ([\d:]+) left)?\]")
 # In place of a count, where make is asked what it would do: it begins no commands then.
 ASKED = "[asked 0/0]"

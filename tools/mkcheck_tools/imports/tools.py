@@ -50,6 +50,10 @@ class Basis:
     anew: tuple[str, ...] = ()
     """Why all is to be translated anew after any edit."""
 
+    alike: tuple[str, ...] = ()
+    """The files whose recipes left them as they were when nothing had changed. Another edit than
+    of what these depend on doesn't matter to that."""
+
 
 class Tool(Protocol[Shown, Built]):
     """What a build tool is asked; what a step gives the next one takes."""
@@ -173,13 +177,13 @@ class MakeTool:
         reasons = {
             f"targets are there before the build ({', '.join(sorted(there)[:3])})": there,
             f"the commands are those of a real build: {why}": why,
-            f"recipes leave files as they are ({', '.join(built.unchanged[:3])})": built.unchanged,
             "make makes files when it reads its makefiles": shown.read_made,
             "what make reads beside its makefiles isn't known": readings.sentences,
             "make reads what a recipe makes": readings.outputs,
         }
         anew = tuple(text for text, holds in reasons.items() if holds)
-        return Basis(frozenset(readings.seen), frozenset(reread), anew)
+        alike = tuple(sorted(built.unchanged))
+        return Basis(frozenset(readings.seen), frozenset(reread), anew, alike)
 
 
 def text_of_make(make: Make, root: str, folder: str) -> str:
