@@ -31,6 +31,26 @@ class RefusedTest(MakeFolderTest):
         self.refused("has no makefile and no build.ninja yet: run ./configure first")
         self.refused("there is no such folder", "-S", "nowhere")
 
+    def test_the_only_configured_folder_is_taken(self) -> None:
+        """Also where another way to configure is there, which wasn't gone."""
+        configured = {"meson-private/coredata.dat": "", "Makefile": "x: ../a\n\tcp ../a x\n"}
+        self.write({"configure": "", "a": "a\n"})
+        self.write({f"build/{name}": text for name, text in configured.items()})
+        answer = self.imported("--look")
+        self.assertEqual(answer.status, 0, answer.errors)
+        self.assertIn("mkcheck-import: the build in build is taken, as by -S build\n", answer.errors)
+        self.assertIn("1 of 1 recipe will be judged, for build/x,", answer.output)
+        self.write({f"other/{name}": text for name, text in configured.items()})
+        self.refused("has several build folders (build, other): name one with -S")
+
+    def test_in_the_build_folder_of_cmake(self) -> None:
+        home = f"CMAKE_HOME_DIRECTORY:INTERNAL={self.folder}\n"
+        self.write({"build/CMakeCache.txt": home, "build/Makefile": "x:\n\techo > x\n"})
+        words = [sys.executable, str(IMPORTER), "-C", str(self.folder / "build")]
+        done = subprocess.run(words, capture_output=True, text=True, check=False)
+        self.assertEqual((done.returncode, done.stdout), (2, ""))
+        self.assertIn("give that folder with -C, and this one with -S build", done.stderr)
+
     def test_no_folder(self) -> None:
         words = [sys.executable, str(IMPORTER), "-C", str(self.scratch / "nowhere")]
         done = subprocess.run(words, capture_output=True, text=True, check=False)

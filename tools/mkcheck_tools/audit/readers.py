@@ -12,22 +12,17 @@ from mkcheck_tools.answers.checkers import Checker, find_checker
 from mkcheck_tools.answers.findings import answer_of
 from mkcheck_tools.answers.graphs import read_graph
 from mkcheck_tools.faults import Fault
+from mkcheck_tools.imports.build_folders import configured_in, first_of, refuse_build_folder
 from mkcheck_tools.run.paths import RealPath
 from mkcheck_tools.run.places import Place
 
 POSIX, MAKE, NINJA = "posix", "make", "ninja"
 READERS = (POSIX, MAKE, NINJA)
 GNU_ALONE = "GNUmakefile"
-MAKEFILES = (GNU_ALONE, "makefile", "Makefile")
-NINJA_FILE = "build.ninja"
 # A command that starts a make, which a recipe of a footprint can't.
 STARTS_MAKE = re.compile(r"(?:^|[\s;&|(])g?make(?:\s|$)")
 # A refusal of a line of a makefile, as `mkcheck graph` prints it.
 REFUSED_AT = re.compile(r"refused \d+ (?!operand:|goal:|\(default\):)(\S+:\d+)$", re.MULTILINE)
-# What a folder of a configured build holds, beside the build itself.
-CONFIGURED = ("CMakeCache.txt", os.path.join("meson-private", "coredata.dat"))
-# The line of CMake's cache that names the folder of the sources.
-HOME = re.compile(r"^CMAKE_HOME_DIRECTORY:INTERNAL=(.+)$", re.MULTILINE)
 # What has to be run where a project has no build yet.
 BEFORE = (
     ("CMakeLists.txt", "run `cmake -S . -B build`"),
@@ -92,44 +87,12 @@ def picked(wanted: Wanted) -> Reader:
     return Reader(POSIX, ".", file, "POSIX defines make")
 
 
-def refuse_build_folder(root: Path) -> None:
-    """Refuses the build folder of CMake below a project's: recipes read the sources above it."""
-    cache = root / CONFIGURED[0]
-    told = HOME.search(cache.read_text(errors="replace")) if cache.is_file() else None
-    home = Path(told[1]).resolve() if told else root
-    if home in root.resolve().parents:
-        below = root.resolve().relative_to(home)
-        raise Fault(
-            f"{root} is a build folder, whose sources lie in {home}: give that folder with -C, and"
-            f" this one with -S {below}"
-        )
-
-
 def found_below(wanted: Wanted) -> str:
     """The folder in which the tool is started: as asked, else the project's own, where it has a
     build, else the only configured one in it."""
     if wanted.below != "." or wanted.makefile or first_of(Path(wanted.root)) is not None:
         return os.path.normpath(wanted.below)
-    inside = [path for path in sorted(Path(wanted.root).iterdir()) if path.is_dir()]
-    found = [path.name for path in inside if is_configured(path)]
-    if len(found) > 1:
-        raise Fault(
-            f"{wanted.root} has several build folders ({', '.join(found[:5])}): name one with -S"
-        )
-    return found[0] if found else "."
-
-
-def is_configured(folder: Path) -> bool:
-    """Whether a folder is one in which CMake or Meson wrote a build."""
-    return first_of(folder) is not None and any((folder / name).exists() for name in CONFIGURED)
-
-
-def first_of(folder: Path) -> str | None:
-    """The file that a build tool reads first in a folder; None where there is none."""
-    for name in (*MAKEFILES, NINJA_FILE):
-        if (folder / name).is_file():
-            return name
-    return None
+    return configured_in(Path(wanted.root))
 
 
 def no_build(root: Path) -> str:

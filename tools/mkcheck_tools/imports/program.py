@@ -83,6 +83,8 @@ def main(arguments: list[str]) -> int:
 def imported(request: Request, scratch: str) -> int:
     """Imports, writes what was made however it ends, and gives the status."""
     desk = Desk(request, scratch)
+    if request.is_found:
+        desk.say(f"the build in {request.folder} is taken, as by -S {request.folder}")
     try:
         return import_folder(request, desk, scratch)
     except BuildFault as fault:

@@ -8,9 +8,8 @@ from dataclasses import dataclass
 from pathlib import Path
 
 from mkcheck_tools.faults import Fault
+from mkcheck_tools.imports.build_folders import configured_in, first_of, refuse_build_folder
 from mkcheck_tools.run.paths import RealPath, resolved
-
-MAKEFILES = ("GNUmakefile", "makefile", "Makefile")
 
 
 @dataclass(frozen=True)
@@ -42,6 +41,8 @@ class Request:
     configured: tuple[str, ...]
     trusted: tuple[str, ...]
     replay: bool
+    is_found: bool
+    """Whether the folder in which the tool is started was found, and not named."""
 
     @property
     def is_whole(self) -> bool:
@@ -62,6 +63,8 @@ def request_of(asked: argparse.Namespace) -> Request:
     folder = os.path.normpath(asked.S)
     if not os.path.isdir(os.path.join(root, folder)):
         raise Fault(f"-S {asked.S}: there is no such folder in {root}")
+    if folder == "." and asked.f is None:
+        folder = folder_of_build(Path(root))
     output = asked.o or os.path.normpath(os.path.join(asked.C, ".mkcheck"))
     return Request(
         root,
@@ -79,25 +82,32 @@ def request_of(asked: argparse.Namespace) -> Request:
         tuple(asked.configured),
         tuple(asked.trust),
         not asked.no_replay,
+        folder != os.path.normpath(asked.S),
     )
+
+
+def folder_of_build(root: Path) -> str:
+    """The folder in which the tool is started where none is named: the project's own, where it has
+    a build, else the only configured one in it."""
+    refuse_build_folder(root)
+    return "." if first_of(root) is not None else configured_in(root)
 
 
 def tool_in(place: Path, has_make: bool) -> str:
     """The build tool that a folder's files show."""
-    if has_make or any((place / name).exists() for name in MAKEFILES):
-        return "make"
-    if (place / "build.ninja").exists():
-        return "ninja"
-    raise Fault(no_build(place))
+    first = "" if has_make else first_of(place)
+    if first is None:
+        raise Fault(no_build(place))
+    return "ninja" if first.endswith(".ninja") else "make"
 
 
 def no_build(place: Path) -> str:
     """The sentence where a folder has no build, with what makes one where that is seen."""
     for name, command in (
         ("configure", "run ./configure first"),
-        ("CMakeLists.txt", "run `cmake -S . -B build` first, and import with -S build"),
+        ("CMakeLists.txt", "run `cmake -S . -B build` first"),
         ("configure.ac", "run `autoreconf -i` and ./configure first"),
-        ("meson.build", "run `meson setup build` first, and import with -S build"),
+        ("meson.build", "run `meson setup build` first"),
     ):
         if (place / name).exists():
             return f"{place} has no makefile and no build.ninja yet: {command}"
