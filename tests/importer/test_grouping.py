@@ -29,6 +29,12 @@ class GroupingTest(unittest.TestCase):
             ["M:3: the recipe of x fails; so it is with y (N:5)"],
         )
 
+    def test_a_line_that_begins_the_sentence(self) -> None:
+        self.assertEqual(
+            told(a_i="build.ninja:3 leaves a.i", b_i="build.ninja:9 leaves b.i"),
+            ["build.ninja:3 leaves a.i; so it is with b.i (build.ninja:9)"],
+        )
+
     def test_names_made_from_that_of_the_target(self) -> None:
         self.assertEqual(
             told(one_o="M:3: `cc one.c -o one.o` is new", two_o="M:3: `cc two.c -o two.o` is new"),

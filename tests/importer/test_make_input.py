@@ -38,7 +38,7 @@ class RefusedTest(MakeFolderTest):
         self.write({f"build/{name}": text for name, text in configured.items()})
         answer = self.imported("--look")
         self.assertEqual(answer.status, 0, answer.errors)
-        self.assertIn("mkcheck-import: the build in build is taken, as by -S build\n", answer.errors)
+        self.assertIn(": the build in build is taken, as by -S build\n", answer.errors)
         self.assertIn("1 of 1 recipe will be judged, for build/x,", answer.output)
         self.write({f"other/{name}": text for name, text in configured.items()})
         self.refused("has several build folders (build, other): name one with -S")

@@ -9,7 +9,7 @@ from collections.abc import Iterable, Mapping
 from mkcheck_tools.imports.sentences import listed
 
 # Where the rule of a target stands, in front of a sentence.
-PLACE = re.compile(r"([^\s:]+:\d+): ")
+PLACE = re.compile(r"([^\s:]+:\d+)(?=:? )")
 
 
 def grouped(texts: Iterable[str], subjects: Mapping[str, str]) -> list[str]:

@@ -171,17 +171,22 @@ def try_restat(
         build.note(
             f"{where} has `restat`, and its command leaves {os.path.basename(left[0])} as it was"
             " when nothing changed. Then ninja doesn't build what needs that; so a change of what"
-            " the command reads counts as reaching its outputs alone, and it isn't replayed"
+            " the command reads counts as reaching its outputs alone, and it isn't replayed",
+            os.path.basename(left[0]),
         )
         if "symbolextractor" in edge.value("command"):
             build.relinked[translation.name(edge.inputs[0])] = translation.leader(edge).name
             build.note(
                 f"{where} is Meson's: programs are linked again only when the symbols of"
                 f" {edge.inputs[0]} change, so that they aren't made again when its other contents"
-                " change is on purpose, and isn't judged"
+                " change is on purpose, and isn't judged",
+                edge.inputs[0],
             )
     else:
-        build.note(f"{where} has `restat`; its command was seen to always write its outputs")
+        build.note(
+            f"{where} has `restat`; its command was seen to always write its outputs",
+            os.path.basename(edge.outputs[0]),
+        )
 
 
 def is_mended(path: str, words: list[str], built: Place, environment: Mapping[str, str]) -> bool:

@@ -211,6 +211,7 @@ def replay_of(
         writers,
         build.graph.once,
         failing=shop.failing,
+        trusted=frozenset(shop.request.choice.trusted),
     )
 
 

@@ -128,6 +128,8 @@ class Replay:
     meetings: Meetings = field(default_factory=dict)
     failing: bool = True
     """Whether each recipe is run once more where writes to its target fail."""
+    trusted: frozenset[str] = frozenset()
+    """The targets whose recipes are taken as they are, whatever they show."""
     memory: Memory | None = None
     targets: frozenset[Name] = frozenset()
     """Files that recipes will have written in the end, where they are still recorded."""
@@ -361,20 +363,24 @@ class Replay:
         return found
 
     def alone(self, outcomes: list[Outcome], others: Iterable[Future[Any]]) -> list[Outcome]:
-        """The outcomes, where each that shows something is of a replay with no other beside it:
-        two may meet elsewhere by what no trace shows, or need all processors. So it waits for the
-        `others` first.
+        """The outcomes, where each that shows something, and isn't trusted, is of a replay with no
+        other beside it: two may meet elsewhere by what no trace shows, or need all processors. So
+        it waits for the `others` first.
 
         One that differs without its outputs is first run as it differed at last. Files that recipes
         make have later stamps.
         """
         own = replace(self, later_ones=True)
         left: set[Future[Any]] = set()
-        if not all(outcome.passed for outcome in outcomes):
+        waiting = {
+            number: one
+            for number, one in enumerate(outcomes)
+            if not one.passed and one.trial.recipe.target not in self.trusted
+        }
+        if waiting:
             left.update(others)
         while left:
             left = futures.wait(left, SECONDS_SHOWN).not_done
-        waiting = {number: one for number, one in enumerate(outcomes) if not one.passed}
         progress = Progress(len(waiting), title="alone")
         found = dict(enumerate(outcomes))
         for number, outcome in waiting.items():
