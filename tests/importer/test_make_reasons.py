@@ -308,8 +308,8 @@ class LookTest(UnseenTestCase):
         front = "only a build shows what will be judged, for all, by GNU Make"
         self.assertTrue(answer.output.startswith(front), answer.output)
         self.assertIn(
-            "`make -n` fails in .: No rule to make target 'gen.h', needed by 'x'; let it succeed"
-            " before a build, and an audit after an edit needn't build all anew\n",
+            "`make -n` fails in .: No rule to make target 'gen.h', needed by 'x'; so an import"
+            " after an edit builds all anew, unless `make -n` succeeds before a build\n",
             answer.output,
         )
         self.assertNotIn("Not judged", answer.output)
@@ -328,7 +328,7 @@ class LookTest(UnseenTestCase):
         self.assertRegex(
             answer.output,
             r"`make -n` fails in \. at the command `cd gen && make` of all: .*\bcd\b.*\bgen\b.*;"
-            r" let it succeed before a build, ",
+            r" so an import after an edit builds all anew, ",
         )
 
 

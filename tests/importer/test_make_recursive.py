@@ -370,6 +370,23 @@ class SharedTest(MakeFolderTest):
             "    Makefile:2: the recipe of all goes on when the make in lib fails", answer.output
         )
 
+    def test_makes_that_may_fail_are_one_note(self) -> None:
+        self.write(
+            {
+                "Makefile": "all:\n\t-$(MAKE) -C lib\n\t-$(MAKE) -C doc\n.PHONY: all\n",
+                "lib/Makefile": "x: y\n\tcp y x\n",
+                "lib/y": "1\n",
+                "doc/Makefile": "x: y\n\tcp y x\n",
+                "doc/y": "1\n",
+            }
+        )
+        answer = self.imported("--look")
+        self.assertIn(
+            "    Makefile:2: the recipe of all goes on when the make in doc fails (by `-`): then a"
+            " make that ends well may leave old files, which isn't judged; so it is with lib\n",
+            answer.output,
+        )
+
     def test_make_that_ignores_failures(self) -> None:
         """With `-i` each command may fail."""
         self.write(

@@ -324,7 +324,10 @@ class AnewTest(SecondImportTestCase):
         os.utime(self.folder / "Makefile", (3, 3))
         self.first("prog")
         self.write({"b.c": "other\n"})
-        self.anew("targets are there before the build (gen)", "prog")
+        self.assertEqual(self.taken("prog"), "0 of 1")
+        os.utime(self.folder / "a.c", (1, 1))
+        self.write({"a.c": "other\n"})
+        self.anew("a.c is another one now, and make goes by its time", "prog")
 
     def test_what_make_says_by_itself(self) -> None:
         makefile = "stamp := $(shell date +%s%N)\n" + MAKEFILE

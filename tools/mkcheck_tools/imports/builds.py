@@ -244,7 +244,7 @@ class Build:
     counted in the answer."""
 
     subjects: dict[str, str] = field(default_factory=dict)
-    """The target of each problem, and of each note, that is about one alone."""
+    """The target of each problem, and the target or folder of each note, that is about one."""
 
     unwritten: list[str] = field(default_factory=list)
     """Targets that aren't declared phony, and that their recipes don't write: the tool runs these
@@ -258,12 +258,13 @@ class Build:
             self.subjects[text] = recipes[0]
         self.unjudged.update(recipes)
 
-    def note(self, text: str, recipe: str = "") -> None:
-        """Adds a note, once; `recipe` is the only one that it is about, if there is one."""
+    def note(self, text: str, subject: str = "") -> None:
+        """Adds a note, once; `subject` is the only target that it is about, or the only folder, if
+        there is one."""
         if text not in self.notes:
             self.notes.append(text)
-        if recipe:
-            self.subjects[text] = recipe
+        if subject:
+            self.subjects[text] = subject
 
     def node(self, name: str) -> Node:
         """The node of a name; a new one is a file without a rule."""

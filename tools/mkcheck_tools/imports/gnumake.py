@@ -62,9 +62,13 @@ $(info {BEGINNING})
 WRAPPER = r"""#!/bin/sh
 # One line of arguments a make; each has files of its own.
 D=@SCRATCH@
-if mkdir "$D/lock" 2>/dev/null; then :; else
-    while ! mkdir "$D/lock" 2>/dev/null; do sleep 0.01; done
-fi
+while ! mkdir "$D/lock" 2>/dev/null; do
+    if [ ! -w "$D" ]; then
+        echo "mkcheck-import: a recipe starts make where $D can't be written" >&2
+        exit 2
+    fi
+    sleep 0.01
+done
 n=$(cat "$D/count"); n=$((n + 1)); echo $n > "$D/count"
 rmdir "$D/lock"
 at=$(stat -c %s "$MKIMPORT_OUT" 2>/dev/null || stat -f %z "$MKIMPORT_OUT")

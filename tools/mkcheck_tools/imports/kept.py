@@ -136,6 +136,9 @@ class Kept:
     alike: tuple[str, ...] = ()
     """The files whose recipes left them as they were when nothing had changed."""
 
+    timed: tuple[str, ...] = ()
+    """The files by whose times the tool decides about targets that are there."""
+
     made: str = ""
     """A digest of what recipes left there, and of the names of all that they made."""
 
@@ -168,6 +171,7 @@ class Now:
             build,
             tuple(sorted(basis.reread)),
             basis.alike,
+            basis.timed,
         )
 
     def entry(self, path: str) -> Entry:
@@ -214,6 +218,11 @@ def change_of(kept: Kept, now: Now) -> Change:
             return Change(
                 f"{path_name(now.root, now.root, path)} has changed, which the tool reads"
             )
+    # A makefile may name a file that is searched for in other folders.
+    timed = {os.path.basename(name) for name in kept.timed}
+    by_time = [name for name in (*edited, *touched) if os.path.basename(name) in timed]
+    if by_time:
+        return Change(f"{by_time[0]} is another one now, and make goes by its time")
     if kept.said != now.said:
         return Change("the tool says something else than then")
     if (edited or touched) and kept.anew:
@@ -274,6 +283,7 @@ def read_kept(path: str) -> Kept | None:
             body["build"],
             tuple(body["reread"]),
             tuple(body["alike"]),
+            tuple(body["timed"]),
             body["made"],
             body["bases"],
             {target: tried_in(one) for target, one in body["tried"].items()},

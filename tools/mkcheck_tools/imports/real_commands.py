@@ -8,8 +8,8 @@ from mkcheck_tools.imports.gnumake import Make
 from mkcheck_tools.imports.make_folder import MakeFolder
 from mkcheck_tools.imports.own_folders import essential_texts
 
-# What helps where `make -n` fails.
-TO_ASK = "let it succeed before a build, and an audit after an edit needn't build all anew"
+# What follows where `make -n` fails, and what helps.
+TO_ASK = "so an import after an edit builds all anew, unless `make -n` succeeds before a build"
 
 
 def ran(makes: list[Make]) -> dict[tuple[object, ...], list[Rule]]:

@@ -54,6 +54,10 @@ class Basis:
     """The files whose recipes left them as they were when nothing had changed. Another edit than
     of what these depend on doesn't matter to that."""
 
+    timed: tuple[str, ...] = ()
+    """The files by whose times the tool decides whether targets are up to date that are there
+    before the build."""
+
 
 class Tool(Protocol[Shown, Built]):
     """What a build tool is asked; what a step gives the next one takes."""
@@ -164,8 +168,8 @@ class MakeTool:
         make goes by times, or what it does was only seen in a build."""
         shown, root = built.shown, self.copies.seen
         left = shown.leftovers
-        there = targets_there(root, shown.makes, shown.files)
-        there.update(left.dependencies, left.shown_again)
+        there = {*left.dependencies, *left.shown_again}
+        timed = timed_by(root, [*shown.makes, *built.makes], shown.files)
         written = {
             name
             for name in built.makefiles.all
@@ -175,7 +179,7 @@ class MakeTool:
         readings = built.readings
         why = to_build(shown.front, shown.makes, built.makes)
         reasons = {
-            f"targets are there before the build ({', '.join(sorted(there)[:3])})": there,
+            f"files of an earlier build are there ({', '.join(sorted(there)[:3])})": there,
             f"the commands are those of a real build: {why}": why,
             "make makes files when it reads its makefiles": shown.read_made,
             "what make reads beside its makefiles isn't known": readings.sentences,
@@ -183,7 +187,28 @@ class MakeTool:
         }
         anew = tuple(text for text, holds in reasons.items() if holds)
         alike = tuple(sorted(built.unchanged))
-        return Basis(frozenset(readings.seen), frozenset(reread), anew, alike)
+        seen = frozenset(readings.seen)
+        return Basis(seen, frozenset(reread), anew, alike, tuple(sorted(timed)))
+
+
+def timed_by(root: str, makes: Iterable[Make], files: set[str]) -> set[str]:
+    """The files by whose times makes decide whether targets are up to date that are there before
+    the build: these, all that they are made from, and the makefiles."""
+    found = targets_there(root, list(makes), files)
+    needs: dict[str, set[str]] = {}
+    makefiles: set[str] = set()
+    for make in makes:
+        makefiles.update(path_name(root, make.folder, text) for text in make.makefiles)
+        for name, rules in make.base.rules.items():
+            words = [word for rule in rules for word in (*rule.needs, *rule.order_only)]
+            paths = (path_name(root, make.folder, word) for word in words)
+            needs.setdefault(path_name(root, make.folder, name), set()).update(paths)
+    waiting = list(found)
+    while waiting:
+        more = needs.get(waiting.pop(), set()) - found
+        found |= more
+        waiting += more
+    return found | makefiles if found else set()
 
 
 def text_of_make(make: Make, root: str, folder: str) -> str:

@@ -305,10 +305,12 @@ class Translation(Commands):
             for make in makes:
                 self.start(node, make)
             if command.ignored:
+                folder = self.short(makes[0].folder)
                 self.build.note(
                     f"{self.place_of(node)}: the recipe of {node.name} goes on when the make in"
-                    f" {self.short(makes[0].folder)} fails (by `-`): then a make that ends well may"
-                    " leave old files, which isn't judged"
+                    f" {folder} fails (by `-`): then a make that ends well may leave old files,"
+                    " which isn't judged",
+                    folder,
                 )
             if runs_at_once(command.text):
                 self.build.problem(
