@@ -212,7 +212,7 @@ class LeftAsItWasTest(SecondImportTestCase):
     def test_an_edit_of_what_it_reads(self) -> None:
         self.write({"f.in": "other\n"})
         self.assertEqual(
-            self.anew("what the recipe of flags depends on, which left it as it was, isn't the"),
+            self.anew("what the recipe of flags depends on isn't the same, and whether it leaves"),
             "0 of 4",
         )
 
@@ -385,11 +385,14 @@ build prog: cat a.o b.o
         self.assertEqual(self.anew("build.ninja has changed, which the tool reads"), "2 of 3")
 
     def test_an_edit_beside_restat(self) -> None:
-        manifest = self.MANIFEST.replace("rule cat\n", "rule cat\n  restat = 1\n")
-        self.write({"build.ninja": manifest})
+        rule = "rule keep\n  command = cmp -s $in $out || cp $in $out\n  restat = 1\n"
+        manifest = self.MANIFEST.replace("prog: cat a.o b.o", "prog: cat a.o b.o kept")
+        self.write({"build.ninja": f"{rule}{manifest}build kept: keep k.in\n", "k.in": "k\n"})
         self.first()
         self.write({"b.c": "other\n"})
-        self.anew("a build line has `restat`")
+        self.assertEqual(self.taken(), "2 of 4")
+        self.write({"k.in": "other\n"})
+        self.anew("what the recipe of kept depends on isn't the same")
 
 
 @can_judge

@@ -134,7 +134,8 @@ class Kept:
     """The files that recipes make, and that the tool reads in later builds."""
 
     alike: tuple[str, ...] = ()
-    """The files whose recipes left them as they were when nothing had changed."""
+    """The files whose recipes were seen to leave them as they were when nothing had changed, or not
+    to."""
 
     timed: tuple[str, ...] = ()
     """The files by whose times the tool decides about targets that are there."""

@@ -23,7 +23,7 @@ from mkcheck_tools.book.states import Entry, State, Unusable
 from mkcheck_tools.book.states import read as read_state
 from mkcheck_tools.book.states import read_choice
 from mkcheck_tools.book.updating import Conditions
-from mkcheck_tools.faults import Fault
+from mkcheck_tools.faults import FAILED, Fault
 from mkcheck_tools.imports.answers import AS_FAR_AS_JUDGED, answer_of, counted, status_of
 from mkcheck_tools.imports.builds import Build
 from mkcheck_tools.imports.configured import configured_files, configuring
@@ -248,6 +248,9 @@ class Import(Generic[Shown, Built]):
             raise Fault(translated.build.failed)
         judge = translated.judge
         self.desk.step("graph", partial(judge.graph, translated.has_first), str)
+        nodes = translated.build.nodes
+        own = (name for name in basis.alike if name in nodes and nodes[name].commands)
+        basis = replace(basis, alike=tuple(own))
         kept = now.kept(basis, translated.text, secrets.token_hex(16))
         self.desk.keep(kept)
         recording = recorded(self.request, translated, self.desk)
@@ -326,7 +329,10 @@ def other_build(kept: Kept, recording: Recording, bases: Mapping[str, str]) -> s
         return f"recipes do something else now, and {kept.anew[0]}"
     others = [name for name in kept.alike if not bases[name] or bases[name] != kept.bases.get(name)]
     if others:
-        return f"what the recipe of {others[0]} depends on, which left it as it was, isn't the same"
+        return (
+            f"what the recipe of {others[0]} depends on isn't the same, and whether it leaves"
+            f" {others[0]} as it is was tried"
+        )
     made = recording.made(kept.reread)
     if not made or not kept.made:
         return "what recipes make isn't known"
@@ -443,8 +449,16 @@ def record_build(request: Request, translated: Translated, desk: Desk) -> Record
 
 def digest_of_recording(book: str, found: Recorded, replay: bool) -> str:
     """A digest of all that the recorder gave. An update tells its notes in another order."""
-    said = sorted(found.unrecorded.items()), sorted(map(str, found.noted.notes))
+    unrecorded = sorted((name, without_details(text)) for name, text in found.unrecorded.items())
+    said = unrecorded, sorted(map(str, found.noted.notes))
     return digest_of_value([book, *said, found.noted.missing, replay])
+
+
+def without_details(text: str) -> str:
+    """What is said of a recipe without a record, but for the details in which two runs of it
+    differ: these are others each time."""
+    first = text.split("\n", 1)[0]
+    return text if FAILED in first else first
 
 
 def state_of(book: str) -> State | None:

@@ -6,6 +6,7 @@ import hashlib
 import json
 import os
 import shutil
+from collections import Counter
 from collections.abc import Iterable
 from dataclasses import asdict, dataclass, field, replace
 from typing import Any, Protocol, TypeVar
@@ -51,8 +52,9 @@ class Basis:
     """Why all is to be translated anew after any edit."""
 
     alike: tuple[str, ...] = ()
-    """The files whose recipes left them as they were when nothing had changed. Another edit than
-    of what these depend on doesn't matter to that."""
+    """The files whose recipes were seen to leave them as they were when nothing had changed, or,
+    with `restat` of ninja, not to. Another edit than of what these depend on doesn't matter to
+    that."""
 
     timed: tuple[str, ...] = ()
     """The files by whose times the tool decides whether targets are up to date that are there
@@ -318,14 +320,22 @@ class NinjaTool:
             and not edge.value("generator")
             and os.path.lexists(place.real(SeenPath(os.path.normpath(os.path.join(folder, path)))))
         ]
+        outputs = Counter(
+            path_name(self.copies.seen, folder, path)
+            for edge in manifest.edges
+            for path in edge.outputs
+        )
+        restat = [edge.outputs[0] for edge in manifest.edges if edge.restat]
+        tried = [path_name(self.copies.seen, folder, path) for path in restat]
+        is_odd = any(name.startswith("/") or outputs[name] > 1 for name in tried)
         reasons = {
             f"targets are there before the build ({', '.join(there[:3])})": there,
-            "a build line has `restat`": any(edge.restat for edge in manifest.edges),
+            "a build line with `restat` has an output that another one has too": is_odd,
             "the first build fails, and the second one doesn't": built.is_late,
         }
         anew = tuple(text for text, holds in reasons.items() if holds)
         names = (path_name(self.copies.seen, folder, path) for path in told)
-        return Basis(frozenset(own), frozenset(names), anew)
+        return Basis(frozenset(own), frozenset(names), anew, tuple(sorted(tried)))
 
 
 def tool_of(request: Request, copies: Copies, scratch: str) -> MakeTool | NinjaTool:
