@@ -64,7 +64,9 @@ def last_lines(text: str, log: str) -> str:
         return "\n".join([f"{first}; its last lines, of all in {log}:", *shown])
     shown = [f"        {line.removeprefix(chr(9))}" for line in rest[:LINES_AT_MOST]]
     left = len(rest) - len(shown)
-    return "\n".join([first, *shown, *([f"        and {left} more lines in {log}"] * (left > 0))])
+    if left:
+        shown.append(f"        and {left} more line{'s' * (left > 1)} in {log}")
+    return "\n".join([first, *shown])
 
 
 def failure_of(error: Exception, target: str) -> Failure:
