@@ -606,6 +606,15 @@ class NotTranslatedTest(NinjaFolderTest):
             self.assertEqual((answer.findings, answer.problems), ([], []))
             self.assertEqual(self.left_by_edit(), "t\n")
 
+    def test_second_output_of_a_recipe_without_a_record(self) -> None:
+        """What it writes is no source, though it was there before the build."""
+        lines = COPY + "rule tell\n  command = date +%N > c; date +%N > h\n"
+        lines += "build c h: tell s\nbuild b: copy h\n"
+        self.write({"build.ninja": lines, "s": "s\n", "c": "0\n", "h": "0\n"})
+        answer = self.answer(replay=True)
+        self.assertEqual(answer.findings, [])
+        self.assertIn("writes c with other contents", answer.problems[0])
+
     def left_by_edit(self) -> str:
         """What b holds when s says `t` after a build."""
         built = self.built()

@@ -282,8 +282,8 @@ class Judge:
         return {name: text for name, text in found.items() if name in self.build.nodes}
 
     def complete(self, footprints: Footprints, first: bool, unrecorded: Mapping[str, str]) -> None:
-        """Gives recipes without a record one by which they write their targets alone, and names
-        them; `unrecorded` has what the recorder says of some."""
+        """Gives recipes without a record one by which they write their targets alone, which are no
+        sources then, and names them; `unrecorded` has what the recorder says of some."""
         names = self.names()
         run_first = {*self.build.reached(False)}
         lines = {}
@@ -298,6 +298,7 @@ class Judge:
                 own = [] if node.kind is Kind.PHONY else [name, *also_made(self.build, name)]
                 record = Record(name, lines[names[name]], [], own)
                 footprints.records[name] = record
+                footprints.sources = [one for one in footprints.sources if one not in own]
                 why = self.why_unrecorded(node, name in run_first, unrecorded)
                 self.build.problem(why, name)
 
