@@ -56,6 +56,7 @@ def finding_value(finding: Finding, judgement: Judgement) -> Value:
     """A finding."""
     return {
         "kind": finding.kind,
+        "also": list(finding.also),
         "file": finding.spot.file,
         "line": finding.spot.line,
         "sentence": finding.sentence,
@@ -75,7 +76,7 @@ def mend_value(mend: Mend) -> Value:
 
 def item_value(item: Item) -> Value:
     """A single finding."""
-    return {"targets": list(item.targets), "file": item.file or None}
+    return {"kind": item.kind, "targets": list(item.targets), "file": item.file or None}
 
 
 def github_text(judgement: Judgement) -> str:
@@ -88,7 +89,7 @@ def github_text(judgement: Judgement) -> str:
         lines_to_add = [f"add: {mend.text}" for mend in finding.mends]
         said = [finding.sentence, *(lines_to_add if why is None else filter(None, [why]))]
         place = {"file": prefix + finding.spot.file, "line": str(finding.spot.line or 1)}
-        lines.append(command("error", "\n".join(said), {**place, "title": f"{finding.kind}"}))
+        lines.append(command("error", "\n".join(said), {**place, "title": finding.word}))
     lines += [command("warning", f"not judged: {text}", {}) for text in audited.unjudged]
     if audited.refused:
         lines.append(command("error", audited.refused, {"file": prefix + audited.makefile}))

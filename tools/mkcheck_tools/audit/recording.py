@@ -155,7 +155,14 @@ def finding_of(group: Group, makefile: str) -> Finding:
     spot = spot_of(group, makefile)
     mends = tuple(mend_of(line, spot) for line in group.adds)
     return Finding(
-        group.kind, spot, group.sentence, group.targets, group.files, mends, group.advice
+        group.kind,
+        spot,
+        group.sentence,
+        group.targets,
+        group.files,
+        mends,
+        group.advice,
+        also=group.also,
     )
 
 

@@ -81,7 +81,7 @@ class Writer:
         for group in together.values():
             for finding in group:
                 front = self.paint(visible(f"{finding.spot}: "), BOLD)
-                kind = self.paint(f" [{finding.kind}]", SOFT)
+                kind = self.paint(f" [{finding.word}]", SOFT)
                 self.lines.append(f"{front}{visible(finding.sentence)}{kind}")
                 names = (" ".join([*item.targets, item.file]) for item in finding.accepted)
                 self.lines += [f"    accepted: {visible(name)}" for name in names]
@@ -112,12 +112,12 @@ class Writer:
 
 def sentences(findings: Iterable[Finding]) -> Iterable[str]:
     """Findings as a line each."""
-    return (f"{one.spot}: {one.sentence} [{one.kind}]" for one in findings)
+    return (f"{one.spot}: {one.sentence} [{one.word}]" for one in findings)
 
 
 def accepted_line(finding: Finding) -> str:
     """A finding that was accepted, with the reason."""
-    return f"{finding.spot}: {finding.sentence} [{finding.kind}] ({'; '.join(finding.reasons)})"
+    return f"{finding.spot}: {finding.sentence} [{finding.word}] ({'; '.join(finding.reasons)})"
 
 
 def grouped(notes: Iterable[Note]) -> list[str]:

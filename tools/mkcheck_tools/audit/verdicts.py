@@ -50,12 +50,13 @@ class Mend:
         """The line."""
         return f"{' '.join(self.targets)}: {' '.join(self.words)}"
 
-    def without(self, kind: str, items: frozenset[Item]) -> Mend:
-        """The same without the words that no target lacks when some findings don't count."""
+    def without(self, kinds: tuple[str, ...], items: frozenset[Item]) -> Mend:
+        """The same without the words that no target lacks when some findings of these kinds don't
+        count."""
         kept = (
             word
             for word in self.words
-            if not all(Item(kind, (target,), word) in items for target in self.targets)
+            if not all(Item(kind, (one,), word) in items for kind in kinds for one in self.targets)
         )
         return replace(self, words=tuple(kept))
 
@@ -80,6 +81,19 @@ class Finding:
     reasons: tuple[str, ...] = ()
     """The reasons for that, each once."""
 
+    also: tuple[str, ...] = ()
+    """The other kinds of its single findings: a race and a stale read may be told together."""
+
+    @property
+    def kinds(self) -> tuple[str, ...]:
+        """The kinds of its single findings."""
+        return (self.kind, *self.also)
+
+    @property
+    def word(self) -> str:
+        """The kinds, as they stand behind its sentence."""
+        return ", ".join(self.kinds)
+
     @property
     def items(self) -> list[Item]:
         """The single findings."""
@@ -88,7 +102,8 @@ class Finding:
             return [Item(self.kind, self.targets, file) for file in files]
         if self.kind == "loose":
             return [Item(self.kind, (target,), target) for target in self.targets]
-        return [Item(self.kind, (target,), file) for target in self.targets for file in files]
+        pairs = [(target, file) for target in self.targets for file in files]
+        return [Item(kind, (target,), file) for kind in self.kinds for target, file in pairs]
 
     @property
     def is_accepted(self) -> bool:
@@ -98,7 +113,7 @@ class Finding:
     def with_accepted(self, accepted: Iterable[Item], reasons: Iterable[str]) -> Finding:
         """The same where some of it is accepted, and isn't mended by the lines to add."""
         items = frozenset(accepted)
-        mends = (mend.without(self.kind, items) for mend in self.mends)
+        mends = (mend.without(self.kinds, items) for mend in self.mends)
         return replace(
             self,
             accepted=tuple(item for item in self.items if item in items),
