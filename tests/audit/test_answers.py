@@ -44,7 +44,7 @@ def test_the_same_line_mends_a_race_and_a_stale_read(project: Project) -> None:
     outcome = project.audit()
     assert "add: b: a\n" in outcome.output
     assert outcome.output.count("    add: ") == 1
-    assert "[race]\n" in outcome.output and "[stale]\n" in outcome.output
+    assert "[race, stale]\n" in outcome.output
     assert "no: 2 findings" in outcome.output
     assert outcome.status == 1
 
