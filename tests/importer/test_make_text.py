@@ -192,8 +192,9 @@ class AdviceTest(unittest.TestCase):
             self.assertNotIn("mkcheck-record", text)
 
     def test_other_reasons(self) -> None:
-        failure = Failure("x", "the recipe of x failed\n\tcc x.c")
-        self.assertEqual(sentence(failure, "log"), "the recipe of x failed")
+        failure = Failure("x", "the recipe of x differs\n\tline 1 was 3")
+        wanted = "the recipe of x differs\n        line 1 was 3"
+        self.assertEqual(sentence(failure, "log"), wanted)
 
 
 class ConditionTest(unittest.TestCase):
