@@ -16,7 +16,7 @@ from mkcheck_tools.audit.logs import sarif_text
 from mkcheck_tools.audit.makefile_lines import Sources
 from mkcheck_tools.audit.mending import mending_of
 from mkcheck_tools.audit.readers import MAKE, Reader
-from mkcheck_tools.audit.verdicts import Audited, Finding, Mend, Spot
+from mkcheck_tools.audit.verdicts import Audited, Finding, Item, Mend, Spot
 from mkcheck_tools.faults import Fault
 from mkcheck_tools.judge.notes import Kind, Note
 from report.schema import wrong_parts
@@ -62,11 +62,25 @@ def test_json(tmp_path: Path) -> None:
     )
     assert (value["status"], value["open"], value["accepted"]) == (1, 1, 1)
     accepted, other = value["findings"]
-    assert accepted["accepted"] == [{"targets": ["a"], "file": "h"}]
+    assert accepted["accepted"] == [{"kind": "stale", "targets": ["a"], "file": "h"}]
+    assert accepted["also"] == []
     assert accepted["reasons"] == ["it is old"] and accepted["add"] == []
     assert other["add"] == [{"file": "Makefile", "line": 4, "text": "b: h"}]
     assert value["lines"] == [{"file": "Makefile", "behind": 5, "lines": ["b: h"]}]
     assert value["doubts"][0]["kind"] == "date"
+
+
+def test_a_race_and_a_stale_read_are_accepted_each(tmp_path: Path) -> None:
+    """They are two findings in one sentence, and the line to add mends both."""
+    spot = Spot("Makefile", 4)
+    mends = (Mend(spot, ("b",), ("h",)),)
+    both = Finding("race", spot, "b reads h", ("b",), ("h",), mends, also=("stale",))
+    race, stale = Item("race", ("b",), "h"), Item("stale", ("b",), "h")
+    assert both.items == [race, stale]
+    half = both.with_accepted([stale], ["it is old"])
+    assert not half.is_accepted and half.mends == mends
+    whole = both.with_accepted([race, stale], ["it is old"])
+    assert whole.is_accepted and whole.mends == ()
 
 
 def test_commands_for_github_name_files_from_the_top_of_the_repository(tmp_path: Path) -> None:
