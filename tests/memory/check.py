@@ -59,6 +59,10 @@ PLACES = {
         "return Err(AllocError);",
     ): "behind the test that the fault is out of memory",
     (
+        "mk_sentences/src/wider.rt",
+        "return Err(AllocError);",
+    ): "behind the test that the fault is out of memory",
+    (
         "mkcheck_run/src/running.rt",
         "return Err(AllocError);",
     ): "behind the test that the fault is out of memory",
