@@ -50,6 +50,9 @@ class Appended:
         assert isinstance(found, bytes)
         return found + self.text
 
+    def why(self, name: bytes) -> bytes:
+        return self.files.why(name)
+
 
 def judged(request: Request, files: Files) -> tuple[Subject, bytes]:
     """What `check` judges, and the name of its makefile."""

@@ -22,6 +22,9 @@ class Below:
     def read(self, name: bytes) -> Found:
         return self.files.read(below(self.folder, name))
 
+    def why(self, name: bytes) -> bytes:
+        return self.files.why(below(self.folder, name))
+
 
 def below(folder: bytes, name: bytes) -> bytes:
     """The name of a file of a folder, as seen from outside."""
