@@ -133,7 +133,7 @@ pub promised : (told : Told) (asked : Invocation) (fits : Told → Type 0) (old 
     → IfOk answer (λ shown. shown.status ≡ 0 → Promises told asked shown.text) → Shows fits old new asked answer w → w.status ≡ 0 → Promises told asked w.out
 promised told asked fits old new (Ok shown) w h (same, shows) e =
     subst (λ (x : Written). Promises told asked x.out) (sym shows) (h (sym (ap (λ (x : Written). x.status) shows) ∙ e))
-promised told asked fits old new (Err fault) w h (known, line, finds, shows) e =
+promised told asked fits old new (Err fault) w h (known, cause, line, finds, shows) e =
     let bad : 2 ≡ 0 = sym (refusal_status asked _) ∙ (sym (ap (λ (x : Written). x.status) shows) ∙ e) in absurd (true≢false (ap (λ (n : ℕ). nat_eq n 2) bad))
 
 -- what two steps leave as it was stays
