@@ -19,13 +19,11 @@ LATER = 1 << 62
 PATCH = """\
 --- a/makefile
 +++ b/makefile
-@@ -2,5 +2,6 @@
- \tcc -o prog main.o part.o
- main.o: main.c
+@@ -4,3 +4,4 @@
  \tcc -c main.c
-+main.o part.o: part.h
  part.o: part.c
  \tcc -c part.c
++main.o part.o: part.h
 """
 
 

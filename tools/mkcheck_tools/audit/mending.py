@@ -119,15 +119,25 @@ def place_of(mend: Mend, audited: Audited, sources: Sources) -> tuple[str, int |
 
     A file that has no rule for a goal may be included before the first one: a line in it would
     change what make makes without a goal. The line then stands in the makefile that make reads
-    first, if that lies in the same folder; else no place is known.
+    first, if that lies in the same folder; else no place is known. Before the rule of one of its
+    targets a line would give that another first prerequisite, and so another `$<`: it comes last.
     """
     name = mend.spot.file
     layout = Layout.of(sources.lines(name))
     if layout.first_goal is not None or name == audited.makefile:
-        return name, layout.place_after(mend.spot.line)
+        place = layout.place_after(mend.spot.line)
+        return name, None if has_rule_behind(mend, sources.lines(name), place) else place
     if os.path.dirname(name) == os.path.dirname(audited.makefile):
         return audited.makefile, None
     return None
+
+
+def has_rule_behind(mend: Mend, lines: list[str], place: int | None) -> bool:
+    """Whether a rule for one of several targets of a line stands behind its place."""
+    if place is None or len(mend.targets) == 1:
+        return False
+    fronts = (line.partition(":")[0].split() for line in lines[place:] if ":" in line)
+    return any(target in front for front in fronts for target in mend.targets)
 
 
 def addition_of(mend: Mend, audited: Audited, sources: Sources) -> Addition | None:
