@@ -59,7 +59,7 @@ class MakeFailingTest(FailingTest):
                 "said",
                 "warned",
                 "make: *** [Makefile:6: b] Error 7",
-                "mend it until `make` in . succeeds, and import again",
+                "mend it until `make` in the project's folder succeeds, and import again",
                 HAS_ALL,
             ],
         )
@@ -77,7 +77,7 @@ class MakeFailingTest(FailingTest):
                 "(85 lines left out, see @LOG@)",
                 *(f"checking for late{number}... yes" for number in (97, 98, 99, 100)),
                 "make: *** [Makefile:2: config.h] Error 3",
-                "mend it until `make` in . succeeds, and import again",
+                "mend it until `make` in the project's folder succeeds, and import again",
                 HAS_ALL,
             ],
         )
@@ -187,7 +187,7 @@ class NinjaFailingTest(FailingTest):
                 "said",
                 f"{name} is bad",
                 f"(1 more failed: {other})",
-                "mend it until `ninja` in . succeeds, and import again",
+                "mend it until `ninja` in the project's folder succeeds, and import again",
                 HAS_ALL,
             ],
         )

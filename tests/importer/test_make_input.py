@@ -67,7 +67,11 @@ class RefusedTest(MakeFolderTest):
         self.write({"Makefile": "x: missing\n\tcp missing x\n"})
         self.refused("the build failed, so it can't be recorded:\nmake: *** No rule to make target")
         self.write({"Makefile": "x: a\n\tcp a x\n", "a": "a\n"})
-        self.refused("mend it until `make X=y none` in . succeeds, and import again", "X=y", "none")
+        self.refused(
+            "mend it until `make X=y none` in the project's folder succeeds, and import again",
+            "X=y",
+            "none",
+        )
 
     def test_build_that_fails(self) -> None:
         self.write({"Makefile": "x: a\n\tcp a x; echo no such luck >&2; false\n", "a": "a\n"})
@@ -76,7 +80,7 @@ class RefusedTest(MakeFolderTest):
             "\tcp a x; echo no such luck >&2; false\n"
             "no such luck\n"
             "make: *** [Makefile:2: x] Error 1\n"
-            "mend it until `make` in . succeeds, and import again"
+            "mend it until `make` in the project's folder succeeds, and import again"
         )
 
     def test_build_that_asks(self) -> None:

@@ -32,7 +32,7 @@ class LeavingTest(MakeFolderTest):
         self.try_answer(answer)
 
     def test_configured_stamp(self) -> None:
-        """A recipe that runs config.status only where its target is there: it isn't replayed."""
+        """A recipe that runs config.status only where its target is there: it is trusted."""
         self.write(
             {
                 "Makefile": "p: config.h main\n\tcat config.h main > p\nconfig.h: stamp-h\n"
@@ -48,7 +48,7 @@ class LeavingTest(MakeFolderTest):
         self.assertEqual(answer.status, 0, answer.output + answer.errors)
         self.assertIn(
             "    stamp-h: its recipe runs config.status, so it is of the configure step, and is"
-            " recorded as it is, and not replayed\n",
+            " recorded as it is, whatever its replay shows\n",
             answer.output,
         )
         (self.folder / "config.status").rename(self.folder / "configure.sh")

@@ -308,12 +308,21 @@ class LookTest(UnseenTestCase):
         front = "only a build shows what will be judged, for all, by GNU Make"
         self.assertTrue(answer.output.startswith(front), answer.output)
         self.assertIn(
-            "`make -n` fails in .: No rule to make target 'gen.h', needed by 'x'; so an import"
-            " after an edit builds all anew, unless `make -n` succeeds before a build\n",
+            "`make -n` fails in the project's folder: No rule to make target 'gen.h', needed by"
+            " 'x'; so an import after an edit builds all anew, unless `make -n` succeeds before a"
+            " build\n",
             answer.output,
         )
         self.assertNotIn("Not judged", answer.output)
         self.assertNotIn("not judged", answer.errors)
+        heading = "\n\nLeft open by `make -n` (a build may show it):\n"
+        _, _, rest = answer.output.partition(heading)
+        failed, unrun = rest.splitlines()
+        front = "    make failed in the project's folder with status 2: "
+        self.assertTrue(failed.startswith(front), failed)
+        self.assertTrue(failed.endswith("No rule to make target 'gen.h', needed by 'x'."), failed)
+        front = "    below.mk:2: make didn't run the recipe of x, "
+        self.assertTrue(unrun.startswith(front), unrun)
 
     def test_a_command_that_fails_where_nothing_is_built(self) -> None:
         """It enters a folder that a recipe makes."""
@@ -327,8 +336,8 @@ class LookTest(UnseenTestCase):
         answer = self.imported("--look")
         self.assertRegex(
             answer.output,
-            r"`make -n` fails in \. at the command `cd gen && make` of all: .*\bcd\b.*\bgen\b.*;"
-            r" so an import after an edit builds all anew, ",
+            r"`make -n` fails in the project's folder at the command `cd gen && make` of all:"
+            r" .*\bcd\b.*\bgen\b.*; so an import after an edit builds all anew, ",
         )
 
 

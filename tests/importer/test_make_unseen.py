@@ -538,9 +538,9 @@ class ReadingTest(UnseenTestCase):
         self.by_name()
         self.assertEqual(self.left({"version": "2.0\n"}, "x"), ["1.0\na\n", "2.0\na\n"])
         self.refused(
-            "    the make in the folder . reads version beside its makefiles, and whether its"
-            " commands depend on it can't be asked, since a recipe starts it by its name: start it"
-            " by $(MAKE)"
+            "    the make in the project's folder reads version beside its makefiles, and whether"
+            " its commands depend on it can't be asked, since a recipe starts it by its name: start"
+            " it by $(MAKE)"
         )
 
     def test_make_by_its_name_that_reads_nothing(self) -> None:
@@ -630,8 +630,8 @@ class OptionsTest(UnseenTestCase):
         self.write({"c": "1\n"})
         self.assertEqual(self.left({"a": "2\n"}, "x"), ["1\n", "1\n"])
         self.refused(
-            "    a recipe starts make in . with -o c, by which it runs nothing or passes over"
-            " files: what it does then isn't judged; leave that option out\n",
+            "    a recipe starts make in the project's folder with -o c, by which it runs nothing"
+            " or passes over files: what it does then isn't judged; leave that option out\n",
             "--keep",
         )
 

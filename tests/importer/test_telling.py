@@ -6,7 +6,7 @@ import io
 import threading
 import unittest
 
-from mkcheck_tools.imports.telling import ASKED, Telling
+from mkcheck_tools.imports.telling import ASKED, Far, Telling
 
 
 class TellingTest(unittest.TestCase):
@@ -60,8 +60,36 @@ class TellingTest(unittest.TestCase):
 
     def test_replays_with_no_other_beside_them(self) -> None:
         text = "[replay 8/8] a.o\n[alone 1/3 0:20 left] a.o goes on\n"
-        line = "mkcheck-import: replaying alone what differed, 0:10, 1 of 3, 0:20 left\n"
-        self.assertEqual(self.told("record", text, 10.0), line)
+        front = "mkcheck-import: replaying alone what differed, 0:10, 1 of 3"
+        self.assertEqual(self.told("record", text, 10.0), f"{front}, 0:20 left, a.o goes on\n")
+
+    def test_a_recipe_that_goes_on(self) -> None:
+        """Who waits for a long recipe is told for which one."""
+        text = "[1/9] a.o: cc\n[7/9 0:41 left] test/regress.o goes on, 3:10\n"
+        line = "mkcheck-import: recording, 3:20, 7 of 9, 0:41 left, test/regress.o goes on\n"
+        self.assertEqual(self.told("record", text, 200.0), line)
+        text += "[8/9 0:12 left] b.o: cc\n"
+        line = "mkcheck-import: recording, 3:30, 8 of 9, 0:12 left\n"
+        self.assertEqual(self.told("record", text, 210.0), line)
+
+    def test_runs_behind_the_replays(self) -> None:
+        front = "mkcheck-import: replaying"
+        for part, name in (
+            ("alike", "each of those that are alike"),
+            ("folders", "with the folders of other recipes"),
+        ):
+            text = f"[replay 8/8] a.o\n[{part} 1/2 0:20 left] a.o\n"
+            line = f"{front} {name}, 0:10, 1 of 2, 0:20 left\n"
+            self.assertEqual(self.told("record", text, 10.0), line)
+
+    def test_recipes_that_the_importer_runs_again(self) -> None:
+        far, texts = Far(), []
+        for _ in far.each("tried", ["a", "b"], str.upper):
+            texts.append(self.told("translate", far.text(), 10.0))
+        front = "mkcheck-import: trying recipes again, 0:10"
+        lines = [f"{front}, 0 of 2, A goes on\n", f"{front}, 1 of 2, 0:10 left, B goes on\n"]
+        self.assertEqual(texts, lines)
+        self.assertEqual(far.text(), "")
 
 
 if __name__ == "__main__":

@@ -62,6 +62,7 @@ COMMITS = (
             "main.c": main("util.h", "config.h", value="util(SIZE)"),
             "config.h": "#define SIZE 3\n",
         },
+        ("main.o",),
     ),
     Commit(
         "a header less",
@@ -100,6 +101,7 @@ COMMITS = (
             "main.c": main("util.h", "version.h", value="util(VERSION)"),
             "version.txt": "7\n",
         },
+        ("main.o",),
     ),
     Commit("an edit of what the header is made from", {"version.txt": "8\n"}),
     Commit(
@@ -118,6 +120,7 @@ COMMITS = (
             "makefile": makefile(flags="-O1", goal="app", other="tools", more=["version.h"]),
             "main.c": main("version.h", value="VERSION"),
         },
+        ("main.o",),
     ),
     Commit(
         "the flags of before",

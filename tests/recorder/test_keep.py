@@ -2,6 +2,7 @@
 
 from __future__ import annotations
 
+import json
 import os
 import subprocess
 import sys
@@ -9,11 +10,14 @@ import tempfile
 import time
 import unittest
 from pathlib import Path
+from typing import Any
 from unittest import mock
 
 from mkcheck_tools.record import keeping
-from recorder.project import MKCHECK, OF_MAKE, RECORDER, ProjectTest, traced
+from mkcheck_tools.record.keeping import Made
+from recorder.project import MKCHECK, OF_MAKE, RECORDER, Environment, ProjectTest, traced
 
+OWN = ("footprint.json", "words", "options", "conditions.json")
 MAKEFILE = "include rules.mk\nall: a\na: s\n\tcp s a $(F)\n"
 
 
@@ -44,9 +48,55 @@ class KeepTest(ProjectTest):
 
     def test_what_a_build_is_made_from(self) -> None:
         self.recorded("--keep", str(self.kept), "all")
-        texts = {"makefile": MAKEFILE, "rules.mk": "F =\n", "words": "all\n"}
-        self.assertEqual(self.texts(), {**texts, "footprint.json": self.book.read_text()})
+        texts = {"makefile": MAKEFILE, "rules.mk": "F =\n", "words": "all\n", "options": ""}
+        found = self.texts()
+        del found["conditions.json"]
+        self.assertEqual(found, {**texts, "footprint.json": self.book.read_text()})
         self.assertEqual(self.since(), ("", "", 0))
+
+    def conditions(self, *words: str, environment: Environment | None = None) -> dict[str, Any]:
+        """What is kept of that on which recipes go beside their commands."""
+        words = ("--update", str(self.book), "--keep", str(self.kept), *words)
+        outcome = self.record_plainly(*words, environment=environment)
+        self.assertEqual(outcome.status, 0, outcome.errors)
+        found: dict[str, Any] = json.loads((self.kept / "conditions.json").read_text())
+        return found
+
+    def test_what_was_given(self) -> None:
+        """The words are those of this recording alone, since the make had no others."""
+        (self.folder / "makefile").rename(self.folder / "build.mk")
+        given = ("-f", "build.mk", "-r", "MODE=a", "all")
+        conditions = self.conditions(*given)
+        self.assertEqual(self.texts()["options"], "-f\nbuild.mk\n-r\n")
+        self.assertEqual(self.texts()["words"], "MODE=a\nall\n")
+        self.assertEqual(conditions["operands"], ["MODE=a"])
+        (self.folder / "build.mk").rename(self.folder / "makefile")
+        self.assertEqual(self.conditions()["operands"], [])
+        self.assertEqual((self.texts()["options"], self.texts()["words"]), ("", ""))
+
+    def test_conditions_are_the_same_text(self) -> None:
+        """Where only texts and sources are others; also where nothing is recorded anew."""
+        before = self.conditions("all")
+        self.assertEqual(self.conditions("all"), before)
+        self.write({"rules.mk": "F = 2>&1\n", "s": "other\n", "more": "more\n"})
+        self.assertEqual(self.conditions("all"), before)
+
+    def test_conditions_differ(self) -> None:
+        """Each of them is what the same commands may go by."""
+        (self.folder / "cur").symlink_to("s")
+        before = self.conditions("all", environment={"MODE": "a", "COLUMNS": "80"})
+        self.assertEqual(before["links"], {"cur": "s"})
+        secret = "a value that nobody should read"
+        now = self.conditions("all", environment={"MODE": secret, "COLUMNS": "80"})
+        self.assertNotEqual(now["variables"]["MODE"], before["variables"]["MODE"])
+        self.assertNotIn(secret, json.dumps(now))
+        texts = "SHELL = /bin/bash\n.SHELLFLAGS = -uc\nCOLUMNS = 30\n"
+        (self.folder / "cur").unlink()
+        (self.folder / "cur").symlink_to("rules.mk")
+        self.write({"makefile": texts + MAKEFILE})
+        last = self.conditions("all", environment={"MODE": secret, "COLUMNS": "80"})
+        self.assertEqual(last["shells"], ["/bin/bash -uc"])
+        self.assertEqual((last["macros"], last["links"]), ({"COLUMNS": "30"}, {"cur": "rules.mk"}))
 
     def test_what_was_kept_before_is_gone(self) -> None:
         self.recorded("--keep", str(self.kept), "all")
@@ -54,7 +104,7 @@ class KeepTest(ProjectTest):
         self.recorded("all")
         self.assertEqual(self.since(), ("a\n", "", 0))
         self.recorded("--keep", str(self.kept), "all")
-        self.assertEqual(set(self.texts()), {"makefile", "more.mk", "footprint.json", "words"})
+        self.assertEqual(set(self.texts()), {"makefile", "more.mk", *OWN})
         self.assertEqual(self.since(), ("", "", 0))
 
     def test_a_build_of_which_nothing_has_changed(self) -> None:
@@ -107,8 +157,7 @@ class KeepTest(ProjectTest):
         )
         self.recorded("--keep", str(self.kept), "all")
         names = ("makefile", "early/rules.mk", "deep/rules.mk", "late/rules.mk")
-        own = {"footprint.json", "words"}
-        self.assertEqual(set(self.texts()), own.union(names))
+        self.assertEqual(set(self.texts()), {*names, *OWN})
         # The old build has b, which is old where its commands are others.
         self.write({"deep/rules.mk": "GOALS = b\nb: s\n\tcat s s > b\n"})
         self.recorded("all")
@@ -163,7 +212,7 @@ class WritingTest(unittest.TestCase):
     def test_the_end_comes_while_the_build_before_is_removed(self) -> None:
         with tempfile.TemporaryDirectory() as folder:
             kept = Path(folder, "built")
-            keeping.keep_build(str(kept), {"makefile": b"all:\n"}, "{}", ["all"])
+            keeping.keep_build(str(kept), Made({"makefile": b"all:\n"}, "{}", ["all"], [], ""))
 
             def end(path: Path, **_options: bool) -> None:
                 Path(path, "words").unlink(missing_ok=True)
@@ -171,8 +220,8 @@ class WritingTest(unittest.TestCase):
 
             with mock.patch("mkcheck_tools.record.keeping.shutil.rmtree", end):
                 with self.assertRaises(KeyboardInterrupt):
-                    keeping.keep_build(str(kept), {"makefile": b"more:\n"}, "{}", ["more"])
+                    made = Made({"makefile": b"more:\n"}, "{}", ["more"], ["-r"], "{}\n")
+                    keeping.keep_build(str(kept), made)
             found = {path.name: path.read_text() for path in kept.iterdir()}
-        self.assertEqual(
-            found, {"makefile": "more:\n", "footprint.json": "{}", "words": "more\n"}
-        )
+        own = {"footprint.json": "{}", "words": "more\n", "options": "-r\n"}
+        self.assertEqual(found, {"makefile": "more:\n", "conditions.json": "{}\n", **own})

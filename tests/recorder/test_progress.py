@@ -2,6 +2,7 @@
 
 from __future__ import annotations
 
+import contextlib
 import io
 import os
 import pty
@@ -9,10 +10,16 @@ import subprocess
 import sys
 import time
 import unittest
+from collections.abc import Callable
 from concurrent.futures import ThreadPoolExecutor
+from types import SimpleNamespace
+from typing import Any
 from unittest import mock
 
 from mkcheck_tools.replay import halves
+from mkcheck_tools.replay.replays import Replay
+from mkcheck_tools.replay.runs import BARE
+from mkcheck_tools.run import progress as progress_module
 from mkcheck_tools.run.progress import CLEAR, SECONDS_APART, Progress, duration
 from recorder.project import MKCHECK, RECORDER, ProjectTest, traced
 
@@ -26,6 +33,13 @@ def read_all(terminal: int) -> str:
     except OSError:
         pass
     return text.decode()
+
+
+def wait_for(is_so: Callable[[], bool]) -> None:
+    """Waits until something is so; a test that waits for too long fails behind it."""
+    until = time.monotonic() + 60.0
+    while not is_so() and time.monotonic() < until:
+        time.sleep(0.01)
 
 
 class LinesTest(unittest.TestCase):
@@ -85,6 +99,20 @@ class LinesTest(unittest.TestCase):
         line = "[replay 0/2] a goes on\n"
         self.assertEqual(stream.getvalue(), line + line)
 
+    def test_a_recipe_for_which_the_program_waits(self) -> None:
+        stream = io.StringIO()
+        with mock.patch.object(progress_module, "SECONDS_SHOWN", 0.05):
+            with Progress(2, stream, 0.0) as progress:
+                progress.begin("a.o")
+                progress.step("cc -c a.c")
+                wait_for(lambda: stream.getvalue().count("\n") >= 3)
+                progress.clear()
+                progress.begin("b.o")
+        lines = stream.getvalue().splitlines()
+        self.assertEqual(lines[0], "[1/2] a.o: cc -c a.c")
+        self.assertRegex(lines[1], r"^\[1/2\] a\.o goes on, 0:0\d$")
+        self.assertEqual([line for line in lines if "b.o" in line], [])
+
     def test_a_long_command(self) -> None:
         """Who reads the end of what is told finds the count."""
         stream = io.StringIO()
@@ -135,6 +163,44 @@ class FailingWritesTest(unittest.TestCase):
         self.assertRegex(self.told([1.5, 0.0]), r"^\[failing 1/2 0:0\d left\] 1\.o\n$")
 
 
+class RunsBehindTest(unittest.TestCase):
+    """The replays that are run once more when all have ended: they are counted too."""
+
+    def told(self, run: Callable[[ThreadPoolExecutor], object]) -> str:
+        """What is written while replays are run once more."""
+        stream = io.StringIO()
+        with ThreadPoolExecutor() as pool, contextlib.redirect_stderr(stream):
+            with mock.patch.object(halves, "SECONDS_SHOWN", 0.1):
+                run(pool)
+        return stream.getvalue()
+
+    def outcome(self, name: str, **more: object) -> Any:
+        """An outcome of a recipe, and a replay that takes a while."""
+        trial = SimpleNamespace(recipe=SimpleNamespace(target=name), known=frozenset({"obj"}))
+        return SimpleNamespace(trial=trial, lean=True, shows_nothing=False, **more)
+
+    def replay(self) -> Any:
+        """What replays, where each replay takes a while."""
+        layout = SimpleNamespace(folders_of=lambda _: (), taken_away=lambda _: ())
+        ancestors = SimpleNamespace(any_before=lambda above, own: above == ("a",) and own == "b")
+        return SimpleNamespace(
+            in_turn=lambda *_: time.sleep(0.5), layout=layout, ancestors=ancestors
+        )
+
+    def test_recipes_that_are_alike(self) -> None:
+        outcomes = [self.outcome("a.o"), self.outcome("b.o")]
+        told = self.told(lambda pool: Replay.with_alike(self.replay(), pool, outcomes, [[0, 1]]))
+        self.assertEqual(told, "[alike 0/2] a.o goes on\n")
+
+    def test_recipes_that_fail_without_folders_of_others(self) -> None:
+        outcomes = [
+            self.outcome("a", run="", passed=True, folders=frozenset({"obj"})),
+            self.outcome("b", run=BARE, passed=False, folders=frozenset()),
+        ]
+        told = self.told(lambda pool: Replay.with_folders(self.replay(), pool, outcomes))
+        self.assertEqual(told, "[folders 0/1] b goes on\n")
+
+
 @traced
 class TerminalTest(ProjectTest):
     """The recorder on a terminal."""
@@ -159,7 +225,7 @@ class TerminalTest(ProjectTest):
         os.close(writer)
         self.assertEqual((done.returncode, done.stdout), (0, b""))
         lines = [line for line in read_all(reader).split(CLEAR) if line]
-        lines = [line for line in lines if not line.endswith(" goes on")]
+        lines = [line for line in lines if " goes on" not in line]
         self.assertEqual(len(lines), 4, lines)
         self.assertEqual(lines[0], "[1/2] a: echo > a; echo a long line > /"[:39])
         self.assertRegex(lines[1], r"^\[2/2 0:0\d left\] b: cp a b; echo unseen$")

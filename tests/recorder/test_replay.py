@@ -9,18 +9,21 @@ import sys
 import tempfile
 import time
 import unittest
+from dataclasses import replace
 from pathlib import Path
+from unittest import mock
 
 from mkcheck_tools.answers.graphs import Ancestors, Recipe
 from mkcheck_tools.replay import runs
-from mkcheck_tools.replay.differences import lines_that_differ
+from mkcheck_tools.replay.differences import Difference, lines_that_differ
 from mkcheck_tools.replay.orders import DAY
-from mkcheck_tools.replay.replays import Replay
+from mkcheck_tools.replay.replays import Bench, Replay
 from mkcheck_tools.replay.runs import AGAIN, BARE, DAMAGED, ORDERED, Outcome
 from mkcheck_tools.replay.stamps import LEAST, made_since, with_other_stamps
 from mkcheck_tools.replay.versions import Store, Version, version_of
 from mkcheck_tools.replay.worlds import Effects, World
 from mkcheck_tools.run import places
+from mkcheck_tools.run.paths import Name
 from recorder.project import Environment
 from recorder.project import Outcome as Recording
 from recorder.project import ProjectTest, traced
@@ -535,6 +538,38 @@ class DamagedTest(ReplayTest):
 
 @traced
 @namespaces
+class TrustTest(unittest.TestCase):
+    """Why a trusted recipe passes over its output, or lacks something, nobody asks: so no run is
+    made to find it."""
+
+    def calls(self, trusted: set[str], outcome: Outcome) -> int:
+        """How often the runs of a recipe are made that show this each time."""
+        replay = mock.Mock(
+            spec=Replay, trusted=trusted, ahead=None, runner=None, late={}, lean=False
+        )
+        replay.is_trusted = lambda trial: trial.recipe.target in trusted
+        with mock.patch.object(Bench, "tried", return_value=outcome) as tried:
+            Replay.tried(replay, outcome.trial, mock.Mock(), frozenset())
+        return tried.call_count
+
+    def test_a_recipe_that_passes_over_its_output(self) -> None:
+        trial = mock.Mock(recipe=Recipe("out", [], strict=False))
+        kept = Difference(Name("out"), "doesn't write out anew", (), True)
+        passing_over = Outcome(trial, AGAIN, differences=(kept,))
+        self.assertEqual(self.calls({"out"}, passing_over), 1)
+        self.assertEqual(self.calls(set(), passing_over), 2)
+        other = Outcome(trial, AGAIN, differences=(kept, replace(kept, kept=False)))
+        self.assertEqual(self.calls({"out"}, other), 2)
+
+    def test_nothing_is_tried_ahead(self) -> None:
+        trial = mock.Mock(recipe=Recipe("out", [], strict=False))
+        replay = mock.Mock(spec=Replay, trusted={"out"}, layout=mock.Mock())
+        replay.is_trusted = lambda trial: True
+        found = Replay.look_ahead(replay, trial, 0)
+        self.assertIsNone(found.passed)
+        replay.in_memory.assert_not_called()
+
+
 class PassTest(ReplayTest):
     """What a recipe may do."""
 

@@ -342,10 +342,10 @@ class KeptTest(RightTest):
         self.assertEqual(outcome.status, 1)
         self.assertIn(
             "doesn't write conf.h anew: it writes that only where it finds that it has to, as a"
-            " make in a subfolder, cmp -s or test -nt do. A recipe that reads what it is made"
-            " from, and learns of a change by it alone, then isn't run, so that change is lost."
-            " Let the recipe write all its outputs each time, or split it as shown here, or give"
-            " --trust conf.h to take the recipe as it is\n"
+            " make in a subfolder, cmp -s, cp -u or test -nt do. A recipe that reads what it is"
+            " made from, and learns of a change by it alone, then isn't run, so that change is"
+            " lost. Let the recipe write all its outputs each time, or split it as shown here, or"
+            " give --trust conf.h to take the recipe as it is\n"
             "\tconf.h@made: a\n"
             "\t    the commands of conf.h, which write conf.h@made in each run\n"
             "\tconf.h: conf.h@made\n"

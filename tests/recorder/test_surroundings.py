@@ -159,6 +159,27 @@ class AmidTest(SurroundingsTest):
                 f"out: d/a\n\t{command}\n", "folders have other stamps", files={"d/a": "1\n"}
             )
 
+    def test_files_that_an_edit_leaves_behind(self) -> None:
+        """After an edit by which the recipe writes fewer files, it reads those of before."""
+        makefile = "out: a\n\tsplit -l 1 a part.; cat part.* > out\n"
+        left = "run where an earlier run left one more file like those that it writes, writes out"
+        self.doubt(makefile, left, files=MANY)
+        self.write({"a": "1\n2\n"})
+        self.made()
+        self.write({"a": "3\n"})
+        self.assertEqual(self.made(), "3\n2\n")
+        each = "for f in *.in; do cp $$f $${f%.in}.o; done; cat *.o > out"
+        self.doubt(f"out: a.in b.in\n\t{each}\n", left, files={"a.in": "1", "b.in": "2"})
+
+    def test_files_that_no_edit_leaves_behind(self) -> None:
+        """The recipe takes away what it wrote before, or doesn't use it."""
+        for command in (
+            "rm -f part.*; split -l 1 a part.; cat part.* > out",
+            "rm -rf d; mkdir d; split -l 1 a d/x; cat d/* > out",
+            "cp a x.h; cat *.in > out",
+        ):
+            self.passes(f"out: a b.in\n\t{command}\n", {"a": "1\n2\n", "b.in": "3\n"})
+
     def test_two_doubts_of_one_recipe(self) -> None:
         self.write({"makefile": "out: a\n\tcat - > out; stat -c %h a >> out; cat a\n", "a": ""})
         told = self.recorded().warnings()

@@ -299,7 +299,9 @@ def since_case(rng: Random) -> Case:
         options += ["-f", name.decode()]
     goals = rng.sample(list(new.recipes), 1) if rng.random() < 0.15 else []
     if rng.random() < 0.01:
-        options += rng.choice([["-c"], ["-w"], ["-e", "1"], ["-b", "B"]])
+        options += rng.choice([["-c"], ["-e", "1"], ["-b", "B"]])
+    if rng.random() < 0.2:
+        options += rng.choice([["-w"], ["--json"], ["-w", "--json"]])
     words = [folder, *goals] if rng.random() < 0.99 else []
     draw = rng.random()
     if draw < 0.5:
@@ -321,7 +323,8 @@ def loosely_compared(rng: Random) -> Case:
             lines = data.split(b"\n")
             lines[rng.randrange(len(lines))] = rng.choice([b"", b"\tx", b"x", b"a: b", b"include q"])
             old[name] = b"\n".join(lines)
-    return Case({**put_below("old", old), **case.files}, ["since", "old", *kept])
+    form = rng.choice([["-w"], ["--json"]]) if rng.random() < 0.4 else []
+    return Case({**put_below("old", old), **case.files}, ["since", "old", *form, *kept])
 
 
 def case_in_words(rng: Random) -> Case:

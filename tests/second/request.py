@@ -69,7 +69,7 @@ class Request:
         "check": "rcw",
         "repair": "rw",
         "verify": "rw",
-        "since": "r",
+        "since": "rw",
         "simulate": "rw",
     }
     NEEDED = {

@@ -35,8 +35,7 @@ def answer(request: Request, files: Files) -> tuple[bytes, int]:
         text, status = repaired(request, files)
         return (shown(repair_value(text, status)) if request.in_json else text), status
     if request.command == "since":
-        out, err, status = compared(request, files)
-        return out + err, status
+        return compared(request, files)
     graph, book, passed_over = prepared(request, files)
     if request.command == "graph":
         return printed_text(request, graph.text("c" in request.flags)), 0

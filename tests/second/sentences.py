@@ -16,6 +16,7 @@ PAGE = Path(__file__).resolve().parents[2] / "docs" / "FAULTS.md"
 FAULT = re.compile(rb"^\| (\d+) \| `([\w:]+)` \| (.*) \|$", re.MULTILINE)
 
 RENAME = b"rename the file: a makefile can't hold its name"
+AGAIN = b"record again, with the goals and macros that are checked"
 RENAME_ALL = b"rename the files: a makefile can't hold their names"
 PSEUDO = (b"operand", b"goal", b"(default)")
 SHOWN = 200
@@ -56,7 +57,8 @@ class Group:
 
     The kind is the word of the findings. `beside` has two more names: those of two writers, or what
     is made and from what, or the recipe that writes the files where that is what the names lack, or
-    the first two of several targets that may make files of unknown origin.
+    the first two of several targets that may make files of unknown origin; or nothing and `record`
+    where such files have recipes without records.
     """
 
     def __init__(
@@ -104,27 +106,45 @@ def told_of(subject: Subject, finding: Finding) -> Claim:
         writer = needed
     if kind == b"loose" and writes_its_own(subject, file, name):
         return Claim(Alike(kind, False, (b"own", b"")), name, file)
+    if kind == b"unknown" and needed is None and has_no_record(subject, file):
+        return Claim(Alike(kind, False, (b"", b"record")), name, file)
     if kind == b"unknown" and len(makers(subject, file)) > 1:
         first, second = makers(subject, file)[:2]
         return Claim(Alike(kind, False, (first, second)), name, file)
     return Claim(Alike(kind, word is not None, (writer, b"")), name, file)
 
 
+def has_no_record(subject: Subject, file: bytes) -> bool:
+    """Whether the goals reach a file that has a recipe without a record."""
+    return file in subject.recipes and file not in subject.records
+
+
 def wider(subject: Subject, claims: list[Claim]) -> Graph:
-    """The graph of the goals and of the targets in the lines of the claims which these don't reach;
-    that of the goals alone where these targets have rules that make would refuse."""
+    """The graph of the goals and of the names in the lines of the claims which rules make and which
+    these don't reach; that with the targets among them where they have rules that make would
+    refuse, and that of the goals alone where the targets have such rules."""
     graph = subject.graph
     named = {line[1]: None for line in (claim.line() for claim in claims) if line}
-    far = [name for name in named if name in graph.rules.targets and name not in graph.nodes]
-    if not far:
+    far = [name for name in named if name not in graph.nodes]
+    targets = [name for name in far if name in graph.rules.targets]
+    inferred = [name for name in far if graph.rules.choice(name, graph.there) is not None]
+    made = [name for name in far if name in targets or name in inferred]
+    for names in (made, targets):
+        try:
+            return with_names(graph, names)
+        except Refused:
+            continue
+    return graph
+
+
+def with_names(graph: Graph, names: list[bytes]) -> Graph:
+    """The graph of the goals and of these names, whose commands have no fault."""
+    if not names:
         return graph
-    try:
-        widest = Graph(graph.rules, goal_names(graph.rules, [*graph.goals, *far]), graph.there)
-        for node in widest.serial:
-            graph.rules.expanded(node, graph.there)
-    except Refused:
-        return graph
-    return widest
+    wide = Graph(graph.rules, goal_names(graph.rules, [*graph.goals, *names]), graph.there)
+    for node in wide.serial:
+        graph.rules.expanded(node, graph.there)
+    return wide
 
 
 def first_cycle(graph: Graph, claims: list[Claim]) -> list[bytes]:
@@ -271,6 +291,11 @@ def of_own(group: Group, names: bytes, files: bytes) -> bytes:
     )
 
 
+def is_unrecorded(group: Group) -> bool:
+    """Whether a group is about files that have recipes without records."""
+    return group.kind == b"unknown" and (group.first, group.second) == (b"", b"record")
+
+
 def of_unknown(group: Group, names: bytes, files: bytes) -> bytes:
     if group.has_lines or group.cycle:
         return b"%s %s %s, which the recipe of %s makes, but %s depend on %s, so %s" % (
@@ -281,6 +306,15 @@ def of_unknown(group: Group, names: bytes, files: bytes) -> bytes:
             group.one(b"doesn't", b"don't"),
             group.first,
             b"these goals don't run that recipe",
+        )
+    if is_unrecorded(group):
+        return b"%s %s, whose %s" % (
+            recipes(group, names, b"reads", b"read"),
+            files,
+            group.each(
+                b"recipe has no record, so nothing is known of what it writes",
+                b"recipes have no records, so nothing is known of what they write",
+            ),
         )
     return b"%s %s, which %s" % (
         recipes(group, names, b"reads", b"read"),
@@ -379,7 +413,9 @@ def of_loose_name(group: Group) -> bytes:
 
 
 def of_unknown_origin(group: Group) -> bytes:
-    """What to do about files that no recipe which the goals reach writes."""
+    """What to do about files that no recipe which the goals reach is known to write."""
+    if is_unrecorded(group):
+        return AGAIN
     if group.first:
         return (
             b"the recipes of %s and %s were recorded to write %s, and these goals reach neither: "
@@ -398,8 +434,8 @@ def advice(group: Group) -> bytes:
             b"these recipes in two, or take a prerequisite away" % group.cycle
         )
     told = {
-        b"record": b"record again, with the goals and macros that are checked",
-        b"commands": b"record again, with the goals and macros that are checked",
+        b"record": AGAIN,
+        b"commands": AGAIN,
         b"varying": b"write $^ in place of $?, and make the whole file anew in each run",
         b"target": group.one(
             b"let the recipe write its target, and record again; if another recipe writes it, "

@@ -2,14 +2,21 @@
 
 from __future__ import annotations
 
-from judge import Subject
+from answers import finding_value, refusal_value, shown
+from judge import Finding, Subject
 from lines import Refused
 from reading import Files, Found
 from repair import printed
 from request import Request, prepared
+from sentences import in_words_with_cause
 
 WORDS = b"words"
 BOOK = b"footprint.json"
+OLD = b"this is the old build, in %b: begin with a clean build\n"
+NOTHING_KEPT = (
+    b"there is no makefile of an old build in %b: mkcheck-record --keep DIR keeps one; "
+    b"begin with a clean build\n"
+)
 
 
 class Below:
@@ -56,15 +63,18 @@ def old_subject(files: Files, request: Request) -> Subject:
     return Subject(graph, book, passed_over)
 
 
-def seen_from_outside(fault: Refused, folder: bytes) -> bytes:
-    """The line of a refusal of the old build. What is a file there has its folder before it."""
+def seen_from_outside(fault: Refused, folder: bytes) -> Refused:
+    """A refusal of the old build. What is a file there has its folder before it."""
     if fault.name == "BadMakefileName":
-        return fault.line()
-    where = None if fault.where is None else below(folder, fault.where)
+        return fault
     words = list(fault.words)
     if fault.number in (32, 35, 37, 38):
         words = [below(folder, name) for name in words]
-    return Refused(fault.number, *words, where=where).line()
+    where = None if fault.where is None else below(folder, fault.where)
+    near = None if fault.shown is None else below(folder, fault.shown)
+    return Refused(
+        fault.number, *words, where=where, name=fault.name, about=fault.about, near=near
+    )
 
 
 def is_file(subject: Subject, file: bytes) -> bool:
@@ -84,7 +94,7 @@ def cant_stay(old: Subject, new: Subject, recipe: bytes) -> bool:
         recipe not in old.recipes
         or old.commands[recipe].texts != new.commands[recipe].texts
         or set(old.writes(recipe)) != set(new.writes(recipe))
-        or any(not is_file(new, file) for file in old.reads(recipe))
+        or set(old.reads(recipe)) != set(new.reads(recipe))
         or any(file in new.rules.makefile.texts for file in old.reads(recipe))
     )
 
@@ -103,24 +113,42 @@ def named(old: Subject, new: Subject) -> list[bytes]:
     return sorted(set(found))
 
 
-def compared(request: Request, files: Files) -> tuple[bytes, bytes, int]:
-    """Standard output, standard error, and the status."""
-    folder = request.folder
-    tail = b"this is the old build, in %b: begin with a clean build\n" % folder
+def refused(request: Request, files: Files, fault: Refused) -> bytes:
+    """What is printed where the old build is refused."""
+    if request.in_json:
+        return shown({**refusal_value(fault, files), "build": "old", "source": None})
+    line = in_words_with_cause(fault, files) if request.in_words else fault.line()
+    if fault.number == 37:
+        return line + b"\n" + NOTHING_KEPT % request.folder
+    return line + b"\n" + OLD % request.folder
+
+
+def told(request: Request, found: list[Finding], build: str) -> bytes:
+    """What is printed of a build with findings."""
+    if request.in_json:
+        findings = [finding_value(0, 0, words) for words in found]
+        for finding in findings:
+            del finding["number"], finding["group"]
+        return shown({"answer": "no", "build": build, "findings": findings, "format": 1})
+    return printed(found) + (OLD % request.folder if build == "old" else b"")
+
+
+def compared(request: Request, files: Files) -> tuple[bytes, int]:
+    """What is printed, to whichever stream, and the status."""
     try:
-        old = old_subject(Below(files, folder), request)
+        old = old_subject(Below(files, request.folder), request)
     except Refused as fault:
-        return b"", seen_from_outside(fault, folder) + b"\n" + tail, 2
+        return refused(request, files, seen_from_outside(fault, request.folder)), 2
     found = old.findings()
     if found:
-        return b"", printed(found) + tail, 1
-    try:
-        graph, book, passed_over = prepared(request, files)
-        new = Subject(graph, book, passed_over)
-    except Refused as fault:
-        return b"", fault.line() + b"\n", 2
+        return told(request, found, "old"), 1
+    graph, book, passed_over = prepared(request, files)
+    new = Subject(graph, book, passed_over)
     findings = new.findings()
     if findings:
-        return b"", printed(findings), 1
-    lines = [file + b"\n" for file in named(old, new)]
-    return b"".join(lines), b"", 0
+        return told(request, findings, "new"), 1
+    names = named(old, new)
+    if request.in_json:
+        files_named = [name.decode("utf-8") for name in names]
+        return shown({"answer": "yes", "files": files_named, "format": 1}), 0
+    return b"".join(name + b"\n" for name in names), 0

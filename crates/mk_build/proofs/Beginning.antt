@@ -2,17 +2,20 @@
 use Rattle.std.proofs.Common.{◌≡◌, ℕ, ◌∷◌, true, Option, Some, None, ◌⊎◌, inl, inr, ⊎_elim, refl, sym, ◌∙◌, ap, subst, arith}
 use Rattle.std.proofs.lemmas.Bool.{cases_eq}
 use Rattle.mk_graph.specs.Membership.{Has}
-use Rattle.mk_graph.specs.Graph.{Graph, node}
+use Rattle.mk_graph.specs.Graph.{Graph, node, IsGraph}
 use Rattle.mk_build.specs.Setting.{FileName, Setting}
 use Rattle.mk_build.specs.World.{Disk, Making, Busy}
 use Rattle.mk_graph.specs.Schedules.{Before}
+use Rattle.mk_build.specs.Ways.{Carries}
+use Rattle.mk_build.specs.Right.{AreSound}
+use Rattle.mk_build.proofs.Sound.{carried_is_before}
 use Rattle.mk_build.specs.Steps.{Begin, Ready, begun}
 use Rattle.mk_build.specs.Runs.{Runs, runs_after}
 use Rattle.mk_build.proofs.Changes.{changed_at_here, changed_at_there}
 use Rattle.mk_build.proofs.InOrder.{runs_not_done, begun_in_order}
 use Rattle.mk_build.proofs.Invariant.{WasThrough, AreOld, Fits, InMake, AreUpToDate, Holds, ran_moved, up_moved}
 
-module _ (g : Graph) (s : Setting) (epoch : ℕ) (p : Runs) (start : ℕ) (m : Making) (d : Disk) (fits : Fits g s epoch p m.running d) (is : InMake g s epoch p start m d) (x : ℕ) (ready : Ready g m x) (recipe : (node g x).recipe ≡ true) where
+module _ (g : Graph) (s : Setting) (graph : IsGraph g) (sound : AreSound g s) (epoch : ℕ) (p : Runs) (start : ℕ) (m : Making) (d : Disk) (fits : Fits g s epoch p m.running d) (is : InMake g s epoch p start m d) (x : ℕ) (ready : Ready g m x) (recipe : (node g x).recipe ≡ true) where
   -- the runs after the begin
   abbrev now : Runs
   now = runs_after (Busy m d) (Begin x) p
@@ -48,9 +51,10 @@ module _ (g : Graph) (s : Setting) (epoch : ℕ) (p : Runs) (start : ℕ) (m : M
   moved : (o t : ℕ) → ¬ (x ≡ t) → WasThrough g s (p.last o) (x ∷ m.running) d o (p.began t) (p.begin_step t) → WasThrough g s (p.last o) (x ∷ m.running) d o (now.began t) (now.begin_step t)
   moved o t differ was = subst (λ (k : ℕ). WasThrough g s (p.last o) (x ∷ m.running) d o (now.began t) k) (sym (step_there t differ)) (subst (λ (k : ℕ). WasThrough g s (p.last o) (x ∷ m.running) d o k (p.begin_step t)) (sym (began_there t differ)) was)
 
-  -- of two of which one is before the other, one was through when the other last began
-  apart_begun : (o t : ℕ) → Before g o t → WasThrough g s (p.last o) (x ∷ m.running) d o (now.began t) (now.begin_step t) ⊎ WasThrough g s (p.last t) (x ∷ m.running) d t (now.began o) (now.begin_step o) ⊎ AreOld epoch now (x ∷ m.running) o t
-  apart_begun o t before =
+  -- of two of which the first writes a direct prerequisite of the second, one was through when the other last began
+  apart_begun : (o t : ℕ) → Carries g s t o → WasThrough g s (p.last o) (x ∷ m.running) d o (now.began t) (now.begin_step t) ⊎ WasThrough g s (p.last t) (x ∷ m.running) d t (now.began o) (now.begin_step o) ⊎ AreOld epoch now (x ∷ m.running) o t
+  apart_begun o t carries =
+      let before : Before g o t = carried_is_before g s graph sound t o carries in
       ⊎_elim (λ same. let o_done : Has m.done o = subst (λ (k : ℕ). Before g o k) (sym same) before recipe
       m.goals m.done is.order.part is.order.turns ready.0 in inl
       (through_now o (now.began t) (now.begin_step t) (λ here. ready.0.not_done
@@ -62,7 +66,7 @@ module _ (g : Graph) (s : Setting) (epoch : ℕ) (p : Runs) (start : ℕ) (m : M
       (is.order.running t runs)))) (began_here o same) (step_here o same))))
       (λ apart. ⊎_elim (λ one. inl (moved o t differ (through_there o (p.began t) (p.begin_step t) apart one)))
       (λ rest. inr (⊎_elim (λ two. inl (moved t o apart (through_there t (p.began o) (p.begin_step o) differ two)))
-      (λ old. inr (record { first_stopped = λ h. ⊎_elim apart old.first_stopped h; second_stopped = λ h. ⊎_elim differ old.second_stopped h; in_order = old.in_order })) rest)) (fits.apart o t before))
+      (λ old. inr (record { first_stopped = λ h. ⊎_elim apart old.first_stopped h; second_stopped = λ h. ⊎_elim differ old.second_stopped h; in_order = old.in_order })) rest)) (fits.apart o t carries))
       (cases_eq x o)) (cases_eq x t)
 
   -- the disk fits the runs after the begin

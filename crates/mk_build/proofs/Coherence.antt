@@ -4,7 +4,7 @@ use Rattle.std.proofs.lemmas.Bool.{cases_Bool, true≢false}
 use Rattle.mk_lemmas.proofs.Members.{cases_Has}
 use Rattle.mk_graph.specs.Membership.{Has}
 use Rattle.mk_graph.specs.Graph.{Graph, node}
-use Rattle.mk_graph.specs.Schedules.{Before}
+use Rattle.mk_build.specs.Ways.{Carries}
 use Rattle.mk_build.specs.Setting.{Setting}
 use Rattle.mk_build.specs.World.{Disk}
 use Rattle.mk_build.specs.Runs.{WholeRun, Runs}
@@ -95,8 +95,8 @@ module _ (g : Graph) (s : Setting) (d : Disk) (is : IsCoherent g s d) where
     end_step = λ run e. let same : run_at t ≡ run = cc in let step : 2 * (is.last t).ended ≡ run.end_step = ap (λ (r : WholeRun). r.end_step) same in omega arith;
   }
 
-  -- of two of which one is before the other, one was through when the other last began
-  apart_in : (o t : ℕ) (a : State o) (b : State t) (q : Runs) → q.last o ≡ last_in o a → q.last t ≡ last_in t b → Before g o t → WasThrough g s (last_in o a) [] d o (began_in t b) (step_in t b) ⊎ WasThrough g s (last_in t b) [] d t (began_in o a) (step_in o a) ⊎ AreOld d.clock q [] o t
+  -- of two of which the first writes a direct prerequisite of the second, one was through when the other last began
+  apart_in : (o t : ℕ) (a : State o) (b : State t) (q : Runs) → q.last o ≡ last_in o a → q.last t ≡ last_in t b → Carries g s t o → WasThrough g s (last_in o a) [] d o (began_in t b) (step_in t b) ⊎ WasThrough g s (last_in t b) [] d t (began_in o a) (step_in o a) ⊎ AreOld d.clock q [] o t
   apart_in o t (inl first) (inl second) q last_o last_t before =
       ⊎_elim (λ early. inr (inr (record {
         first_stopped = λ h. h;
@@ -149,8 +149,8 @@ module _ (g : Graph) (s : Setting) (epoch : ℕ) (p : Runs) (running : List ℕ)
       inr (record { written = ran.1.whole.written; known = ran.1.whole.known; holds = ran.1.whole.holds; during = λ f stamp wrote has. (ran.1.after_begin f stamp wrote has, ran.1.whole.early f stamp wrote has) }, λ f read. fits.saw t ran.0 ran.1.is_last f read)
   left_of t (inr bound) recipe stopped = inl (bound recipe stopped)
 
-  -- of two of which one is before the other, the last run of the first ended no later, or began after the second
-  apart_of : (o t : ℕ) (a : Status o) (b : Status t) → Before g o t → ((last_of o a).ended ≤ (last_of t b).ended) ⊎ ((last_of t b).ended ≤ (last_of o a).began)
+  -- of two of which the first writes a direct prerequisite of the second, the last run of the first ended no later, or began after the second
+  apart_of : (o t : ℕ) (a : Status o) (b : Status t) → Carries g s t o → ((last_of o a).ended ≤ (last_of t b).ended) ⊎ ((last_of t b).ended ≤ (last_of o a).began)
   apart_of o t (inl first) (inl second) before =
       ⊎_elim (λ early. inl (let first_ended = early.ended first.0 first.1.is_last in let order = second.1.in_order in omega arith)) (λ rest. ⊎_elim (λ early. inr (early.ended second.0 second.1.is_last)) (λ old. inl (old.in_order first.0 second.0 first.1.is_last second.1.is_last).0) rest) (fits.apart o t before)
   apart_of o t (inl first) (inr bound) before = inr (omega arith)

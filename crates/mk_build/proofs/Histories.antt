@@ -117,7 +117,7 @@ module _ (g : Graph) (s : Setting) (graph : IsGraph g) (sound : AreSound g s) (e
     step_keeps p start (Idle d) EndMake is may = absurd may
     step_keeps p start (Busy m d) (Edit f c) is may = absurd may
     step_keeps p start (Busy m d) (Make jobs goals) is may = absurd may
-    step_keeps p start (Busy m d) (Begin t) is may = begin_holds g s epoch p start m d is.fits is.make t may.0 may.1
+    step_keeps p start (Busy m d) (Begin t) is may = begin_holds g s graph sound epoch p start m d is.fits is.make t may.0 may.1
     step_keeps p start (Busy m d) (Look t f) is may = holds_later g s epoch p start (looked m t f (content d f)) d (look_holds g s epoch p start m d is.fits is.make t f)
     step_keeps p start (Busy m d) (Put t f c) is may = holds_later g s epoch p start (has_put m t f c) (written d f c) (put_holds g s graph sound no_race epoch p start m d is.fits is.make t f c may.0 may.1)
     step_keeps p start (Busy m d) (End t) is may = end_holds g s epoch p start m d is.fits is.make t may
@@ -165,7 +165,7 @@ module _ (g : Graph) (s : Setting) (graph : IsGraph g) (sound : AreSound g s) (e
     step_settles passes p start (Idle d) EndMake is may = absurd may
     step_settles passes p start (Busy m d) (Edit f c) is may = absurd may
     step_settles passes p start (Busy m d) (Make jobs goals) is may = absurd may
-    step_settles passes p start (Busy m d) (Begin t) is may = begin_settled g s epoch p start m d is.0.fits is.0.make t may.0 may.1 is.1
+    step_settles passes p start (Busy m d) (Begin t) is may = begin_settled g s graph sound epoch p start m d is.0.fits is.0.make t may.0 may.1 is.1
     step_settles passes p start (Busy m d) (Look t f) is may = up_later g s p start (looked m t f (content d f)) d is.1
     step_settles passes p start (Busy m d) (Put t f c) is may = up_later g s p start (has_put m t f c) (written d f c) (put_settled g s graph sound no_race epoch p start m d is.0.fits is.0.make t f c may.0 may.1 is.1)
     step_settles passes p start (Busy m d) (End t) is may = end_settled g s epoch p start m d is.0.fits is.0.make t may is.1

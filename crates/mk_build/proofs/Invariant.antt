@@ -4,9 +4,9 @@ use Rattle.mk_graph.specs.Membership.{Has}
 use Rattle.mk_graph.specs.Graph.{Graph, node}
 use Rattle.mk_build.specs.Setting.{FileName, Setting, reads, writes}
 use Rattle.mk_build.specs.World.{Disk, Making, World, Idle, Busy, content, HasStamp, outcome}
-use Rattle.mk_graph.specs.Schedules.{Before}
 use Rattle.mk_build.specs.Steps.{Step, Make, MustRun}
 use Rattle.mk_build.specs.Runs.{WholeRun, Runs, one_later}
+use Rattle.mk_build.specs.Ways.{Carries}
 use Rattle.mk_build.specs.Coherent.{IsBoundToRun, ContainsOrChanged}
 use Rattle.mk_build.proofs.InOrder.{InOrder}
 
@@ -46,8 +46,8 @@ pub record AreOld (epoch : ℕ) (p : Runs) (running : List ℕ) (o t : ℕ) : Ty
 
 -- The disk fits the runs so far, while these recipes run: stamps, begins and ends have come; a recipe that doesn't run is
 -- bound to run or is as its last whole run left it; what last runs saw is there or has changed since; and of two of
--- which one is before the other, one was through when the other last began, or both last ran before the epoch, the first no
--- later than the second.
+-- which the first writes a direct prerequisite of the second, one was through when the other last began, or both last ran
+-- before the epoch, the first no later than the second.
 pub record Fits (g : Graph) (s : Setting) (epoch : ℕ) (p : Runs) (running : List ℕ) (d : Disk) : Type 0 where
   pub stamped : (f : FileName) (stamp : ℕ) → HasStamp d f stamp → stamp ≤ d.clock
   pub began : (t : ℕ) → p.began t ≤ d.clock
@@ -56,7 +56,7 @@ pub record Fits (g : Graph) (s : Setting) (epoch : ℕ) (p : Runs) (running : Li
   pub whole : (t : ℕ) → (node g t).recipe ≡ true → ¬ (Has running t) → IsBoundToRun g s d t ⊎ ((run : WholeRun) × RanWhole g s p run d t)
   pub saw : (t : ℕ) (run : WholeRun) → p.last t ≡ Some run → SawOrLater g s run d t
   pub epoch_came : epoch ≤ d.clock
-  pub apart : (o t : ℕ) → Before g o t → WasThrough g s (p.last o) running d o (p.began t) (p.begin_step t) ⊎ WasThrough g s (p.last t) running d t (p.began o) (p.begin_step o) ⊎ AreOld epoch p running o t
+  pub apart : (o t : ℕ) → Carries g s t o → WasThrough g s (p.last o) running d o (p.began t) (p.begin_step t) ⊎ WasThrough g s (p.last t) running d t (p.began o) (p.begin_step o) ⊎ AreOld epoch p running o t
 
 -- A done recipe is up to date: it is as its last whole run left it, each file that it read holds what it saw, and it
 -- need not run or has run since the make began.

@@ -74,7 +74,7 @@ module _ (g : Graph) (s : Setting) (graph : IsGraph g) (sound : AreSound g s) (n
   inside_settles p start (Idle d) other inside none is may = absurd none
   inside_settles p start (Busy m d) (Edit f c) inside none is may = absurd inside
   inside_settles p start (Busy m d) (Make jobs goals) inside none is may = absurd inside
-  inside_settles p start (Busy m d) (Begin t) inside none is may = begin_settled g s 0 p start m d is.0.fits is.0.make t may.0 may.1 is.1
+  inside_settles p start (Busy m d) (Begin t) inside none is may = begin_settled g s graph sound 0 p start m d is.0.fits is.0.make t may.0 may.1 is.1
   inside_settles p start (Busy m d) (Look t f) inside none is may = up_later g s p start (looked m t f (content d f)) d is.1
   inside_settles p start (Busy m d) (Put t f c) inside none is may = up_later g s p start (has_put m t f c) (written d f c) (put_settled g s graph sound no_race 0 p start m d is.0.fits is.0.make t f c may.0 may.1 is.1)
   inside_settles p start (Busy m d) (End t) inside none is may = end_settled g s 0 p start m d is.0.fits is.0.make t may is.1

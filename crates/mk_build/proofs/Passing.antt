@@ -113,7 +113,7 @@ module _ (g : Graph) (s : Setting) (graph : IsGraph g) (sound : AreSound g s) (e
     carried_apart =
         let target = target_is_there g d t passed.need_not in
         let bound = no_later g d t carries.0 target.0 link_is_there.0 passed.need_not carries.1 target.1 link_is_there.1 in
-        ⊎_elim (λ one. inl one) (λ rest. ⊎_elim (λ other. let early = other.early (name g t) target.0 (own_target t passed) target.1 in let late = link_is_late.0 in absurd (omega arith)) (λ old. inr old) rest) (fits.apart o t (carried_is_before g s graph sound t o carries))
+        ⊎_elim (λ one. inl one) (λ rest. ⊎_elim (λ other. let early = other.early (name g t) target.0 (own_target t passed) target.1 in let late = link_is_late.0 in absurd (omega arith)) (λ old. inr old) rest) (fits.apart o t carries)
 
     -- if it was through then, it last began before the recipe
     began_before : WasThrough g s (p.last o) m.running d o (p.began t) (p.begin_step t) → p.began o < p.began t

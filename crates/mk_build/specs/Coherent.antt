@@ -3,11 +3,10 @@
 use Rattle.std.specs.Prelude.{◌≡◌, ℕ, ◌<◌, ◌≤◌, List, [], Option, Some, None, map, true, ◌⊎◌}
 use Rattle.mk_graph.specs.Membership.{Has}
 use Rattle.mk_graph.specs.Graph.{Graph, node, prerequisites}
-use Rattle.mk_graph.specs.Schedules.{Before}
 use Rattle.mk_build.specs.Setting.{FileName, Setting, name, reads, writes}
 use Rattle.mk_build.specs.World.{Disk, World, Idle, Busy, content, HasStamp, WasWrittenAfter, outcome}
 use Rattle.mk_build.specs.Steps.{MustRun}
-use Rattle.mk_build.specs.Ways.{CanChange}
+use Rattle.mk_build.specs.Ways.{CanChange, Carries}
 
 -- A whole run of a recipe: the clocks at its begin and at its end, and what it saw in each file.
 pub record LastRun : Type 0 where
@@ -48,15 +47,15 @@ IsAsLeft g s run d t =
     ((f : FileName) → Has (reads g s t) f → ContainsOrChanged g s d f (run.saw f) run.ended)
 
 -- The disk is coherent while these recipes run: no stamp is later than the clock; each other recipe
--- is bound to run, or is as its last whole run left it; and of two recipes of which one runs before
--- the other, the first one's last run ended no later than the second one's, or began after it.
+-- is bound to run, or is as its last whole run left it; and where one recipe writes a direct
+-- prerequisite of another, its last run ended no later than the other's, or began after it.
 pub record IsCoherentWhile (g : Graph) (s : Setting) (running : List ℕ) (d : Disk) : Type 0 where
   pub last : ℕ → LastRun
   pub stamped : (f : FileName) (stamp : ℕ) → HasStamp d f stamp → stamp ≤ d.clock
   pub came : (t : ℕ) → ((last t).began ≤ (last t).ended) × ((last t).ended ≤ d.clock)
   pub left : (t : ℕ) → (node g t).recipe ≡ true → ¬ (Has running t) → IsBoundToRun g s d t ⊎
       IsAsLeft g s (last t) d t
-  pub apart : (o t : ℕ) → Before g o t → ((last o).ended ≤ (last t).ended) ⊎ ((last t).ended ≤
+  pub apart : (o t : ℕ) → Carries g s t o → ((last o).ended ≤ (last t).ended) ⊎ ((last t).ended ≤
       (last o).began)
 
 -- The disk is coherent, with no recipe running.

@@ -5,7 +5,7 @@ use Rattle.mk_lemmas.proofs.Members.{cases_Has}
 use Rattle.mk_graph.proofs.Nodes.{recipe_is_node}
 use Rattle.mk_graph.specs.Membership.{Has}
 use Rattle.mk_graph.specs.Graph.{Graph, node, IsGraph}
-use Rattle.mk_graph.specs.Schedules.{Before}
+use Rattle.mk_build.specs.Ways.{Carries}
 use Rattle.mk_build.specs.Setting.{FileName, Setting, reads}
 use Rattle.mk_build.specs.World.{Outcome, Disk, World, Idle, Busy, IsStartDisk, outcome}
 use Rattle.mk_build.specs.Steps.{Step}
@@ -119,8 +119,8 @@ module _ (g : Graph) (s : Setting) (b : Behaviours) (d : Disk) (is : IsCoherentB
     end_step = λ run e. let same : run_at t ≡ run = cc in let step : 2 * (is.last t).ended ≡ run.end_step = ap (λ (r : WholeRun). r.end_step) same in omega arith;
   }
 
-  -- of two of which one is before the other, one was through when the other last began
-  apart_in : (o t : ℕ) (a : In o) (c : In t) (q : Runs) → q.last o ≡ last_in o a → q.last t ≡ last_in t c → Before g o t → WasThrough g (without_reads s) (last_in o a) [] now o (began_in t c) (step_in t c) ⊎ WasThrough g (without_reads s) (last_in t c) [] now t (began_in o a) (step_in o a) ⊎ AreOld d.clock q [] o t
+  -- of two of which the first writes a direct prerequisite of the second, one was through when the other last began
+  apart_in : (o t : ℕ) (a : In o) (c : In t) (q : Runs) → q.last o ≡ last_in o a → q.last t ≡ last_in t c → Carries g s t o → WasThrough g (without_reads s) (last_in o a) [] now o (began_in t c) (step_in t c) ⊎ WasThrough g (without_reads s) (last_in t c) [] now t (began_in o a) (step_in o a) ⊎ AreOld d.clock q [] o t
   apart_in o t (inl first) (inl second) q last_o last_t before =
       ⊎_elim (λ early. inr (inr (record {
         first_stopped = λ h. h;
@@ -198,8 +198,8 @@ module _ (g : Graph) (s : Setting) (b : Behaviours) (epoch : ℕ) (p : Runs) (ru
       })
   left_of t (inr bound) recipe stopped = inl (bound recipe stopped)
 
-  -- of two of which one is before the other, the last run of the first ended no later, or began after the second
-  apart_of : (o t : ℕ) (a : Status o) (c : Status t) → Before g o t → ((last_of o a).ended ≤ (last_of t c).ended) ⊎ ((last_of t c).ended ≤ (last_of o a).began)
+  -- of two of which the first writes a direct prerequisite of the second, the last run of the first ended no later, or began after the second
+  apart_of : (o t : ℕ) (a : Status o) (c : Status t) → Carries g s t o → ((last_of o a).ended ≤ (last_of t c).ended) ⊎ ((last_of t c).ended ≤ (last_of o a).began)
   apart_of o t (inl first) (inl second) before =
       ⊎_elim (λ early. inl (let first_ended = early.ended first.0 first.1.is_last in let order = second.1.in_order in omega arith)) (λ rest. ⊎_elim (λ early. inr (early.ended second.0 second.1.is_last)) (λ old. inl (old.in_order first.0 second.0 first.1.is_last second.1.is_last).0) rest) (fits.apart o t before)
   apart_of o t (inl first) (inr bound) before = inr (omega arith)

@@ -3,9 +3,9 @@
 use Rattle.std.specs.Prelude.{◌≡◌, ℕ, ◌<◌, ◌≤◌, List, [], Some, map, true, ◌⊎◌}
 use Rattle.mk_graph.specs.Membership.{Has}
 use Rattle.mk_graph.specs.Graph.{Graph, node}
-use Rattle.mk_graph.specs.Schedules.{Before}
 use Rattle.mk_build.specs.Setting.{FileName, Setting, writes}
 use Rattle.mk_build.specs.World.{Disk, World, Idle, Busy, content, HasStamp}
+use Rattle.mk_build.specs.Ways.{Carries}
 use Rattle.mk_build.specs.Coherent.{LastRun, IsBoundToRun, ContainsOrChanged}
 use Rattle.mk_build_behaviours.specs.Behaviours.{Behaviours, behaviour, path, result}
 
@@ -30,8 +30,8 @@ pub record IsAsLeftBy (g : Graph) (s : Setting) (b : Behaviours) (run : LastRun)
       ContainsOrChanged g s d f (run.saw f) run.ended
 
 -- The disk is coherent while these recipes run: no stamp is later than the clock; each other recipe
--- is bound to run, or is as its last whole run left it; and of two recipes of which one runs before
--- the other, the first one's last run ended no later than the second one's, or began after it.
+-- is bound to run, or is as its last whole run left it; and where one recipe writes a direct
+-- prerequisite of another, its last run ended no later than the other's, or began after it.
 pub record IsCoherentWhileBy (g : Graph) (s : Setting) (b : Behaviours) (running : List ℕ)
     (d : Disk) : Type 0 where
   pub last : ℕ → LastRun
@@ -39,7 +39,7 @@ pub record IsCoherentWhileBy (g : Graph) (s : Setting) (b : Behaviours) (running
   pub came : (t : ℕ) → ((last t).began ≤ (last t).ended) × ((last t).ended ≤ d.clock)
   pub left : (t : ℕ) → (node g t).recipe ≡ true → ¬ (Has running t) → IsBoundToRun g s d t ⊎
       IsAsLeftBy g s b (last t) d t
-  pub apart : (o t : ℕ) → Before g o t → ((last o).ended ≤ (last t).ended) ⊎ ((last t).ended ≤
+  pub apart : (o t : ℕ) → Carries g s t o → ((last o).ended ≤ (last t).ended) ⊎ ((last t).ended ≤
       (last o).began)
 
 -- The disk is coherent, with no recipe running.

@@ -17,7 +17,7 @@ use Rattle.mk_build.proofs.ChainWays.{one_number}
 use Rattle.mk_build_behaviours.specs.Behaviours.{behaviour, path, result}
 use Rattle.mk_build_behaviours.specs.CleanBy.{ArePresent}
 use Rattle.mk_build_behaviours.specs.CoherentBy.{IsAsLeftBy, IsCoherentBy}
-use Rattle.mk_build_since.specs.Named.{Build, IsWritten, HasFile, WasRecipe, AreSameFiles, Rule, NewRecipe, OtherCommands, OtherWrites, ReadGone, ReadText, all_rules, HoldsOf, CantStay, IsNamed}
+use Rattle.mk_build_since.specs.Named.{Build, IsWritten, HasFile, WasRecipe, AreSameFiles, Rule, NewRecipe, OtherCommands, OtherWrites, OtherReads, ReadText, all_rules, HoldsOf, CantStay, IsNamed}
 use Rattle.mk_build_since.specs.Alike.{HoldAlike, BehaveAlike}
 use Rattle.mk_build_since.specs.Next.{IsAccepted, IsFinished, MayBecome, IsNext}
 use Rattle.mk_build_since.proofs.Deciding.{cases_always, cases_owned, Stays, stay_cases}
@@ -53,7 +53,7 @@ module _ (old new : Build) (alike : BehaveAlike old new) (accepted : IsAccepted 
     no_rule NewRecipe none = none stays.was stays.is
     no_rule OtherCommands other = other.2 (subst (λ (k : ℕ). old.commands (name old.graph k) ≡ new.commands (name new.graph t)) (sym (same_recipe other.0 other.1)) stays.commands)
     no_rule OtherWrites other = other.2 (subst (λ (k : ℕ). AreSameFiles (writes old.graph old.setting k) (writes new.graph new.setting t)) (sym (same_recipe other.0 other.1)) stays.files)
-    no_rule ReadGone gone = gone.2.2 (stays.known gone.2.0 (subst (λ (k : ℕ). Has (reads old.graph old.setting k) gone.2.0) (same_recipe gone.0 gone.1) gone.2.1))
+    no_rule OtherReads other = other.2 (subst (λ (k : ℕ). AreSameFiles (reads old.graph old.setting k) (reads new.graph new.setting t)) (sym (same_recipe other.0 other.1)) stays.same_reads)
     no_rule ReadText text = stays.no_text text.2.0 (subst (λ (k : ℕ). Has (reads old.graph old.setting k) text.2.0) (same_recipe text.0 text.1) text.2.1) text.2.2
 
     can_stay : ¬ (CantStay all_rules old new t)
@@ -112,6 +112,10 @@ module _ (old new : Build) (alike : BehaveAlike old new) (accepted : IsAccepted 
         more) rest)
         (next.others f (inr (stays.was, was_written f wrote)) (not_named t sometimes stays f wrote))
 
+    -- the new build has what the old recipe read
+    known : (f : FileName) → Has (reads old.graph old.setting stays.was) f → HasFile new f
+    known f read = ⊎_elim (λ given. inl given) (λ wrote. inr wrote) (sound.known t f ((stays.same_reads f).0 read))
+
     -- the old build has what the old recipe read
     was_there : (f : FileName) → Has (reads old.graph old.setting stays.was) f → HasFile old f
     was_there f read = ⊎_elim (λ given. inl given) (λ wrote. inr wrote) (accepted.sound.known stays.was f read)
@@ -125,18 +129,18 @@ module _ (old new : Build) (alike : BehaveAlike old new) (accepted : IsAccepted 
         (λ wrote. ⊎_elim (λ none. inr (inr (none, wrote)))
         (λ unnamed. from_written f wrote (sound.not_given wrote.0 f wrote.1) no_text (next.others f has unnamed))
         (written_cases f has wrote.0 wrote.1))
-        (stays.known f read)
+        (known f read)
 
     -- it walks as the old one did
     walked : HoldAlike (writes old.graph old.setting stays.was) (result (behaviour old.graph old.behaviours stays.was) (content before)) (writes new.graph new.setting t) (result (behaviour new.graph new.behaviours t) (content before)) × ((f : FileName) → Has (path (behaviour new.graph new.behaviours t) (content before)) f → Has (path (behaviour old.graph old.behaviours stays.was) (content before)) f ⊎ (¬ (HasFile old f)))
-    walked = alike_walk old new (writes old.graph old.setting stays.was) (writes new.graph new.setting t) (alike stays.was t (stays.is, stays.commands) stays.files) (content before)
-        (λ f on. stays.known f (made.within stays.was stays.is.0 f on))
-        (λ f on not. ap (λ (o : Option File). option_map (λ (file : File). file.content) o) (next.coming stays.was t f (stays.is, stays.commands) on not).0)
+    walked = alike_walk old new (writes old.graph old.setting stays.was) (writes new.graph new.setting t) (alike stays.was t (stays.is, stays.commands, stays.files, stays.same_reads)) (content before)
+        (λ f on. known f (made.within stays.was stays.is.0 f on))
+        (λ f on not. ap (λ (o : Option File). option_map (λ (file : File). file.content) o) (next.coming stays.was t f (stays.is, stays.commands, stays.files, stays.same_reads) on not).0)
 
     -- what it looked for in vain isn't there or came since
     in_vain : (f : FileName) → Has (path (behaviour new.graph new.behaviours t) (content before)) f → ¬ (HasFile old f) → ContainsOrChanged new.graph new.setting now f (content before f) before.clock
     in_vain f on not =
-        let comes = next.coming stays.was t f (stays.is, stays.commands) on not in
+        let comes = next.coming stays.was t f (stays.is, stays.commands, stays.files, stays.same_reads) on not in
         ⊎_elim (λ none. inl (ap (λ (o : Option File). option_map (λ (file : File). file.content) o) (none ∙ sym comes.0))) (λ new_source. inr (inl (inl new_source.0, new_source.1))) comes.1
 
     -- so it is as its last run left it

@@ -8,7 +8,7 @@ use Rattle.mk_build.specs.Setting.{FileName, is_given, name, reads, writes, IsAl
 use Rattle.mk_build.proofs.Changes.{cases_name}
 use Rattle.mk_build.proofs.CleanEnd.{cases_among}
 use Rattle.mk_build.proofs.Sound.{writer_has_recipe}
-use Rattle.mk_build_since.specs.Named.{Build, IsWritten, HasFile, OwnsFile, WasRecipe, AreSameFiles, NewRecipe, OtherCommands, OtherWrites, ReadGone, ReadText, all_rules, CantStay}
+use Rattle.mk_build_since.specs.Named.{Build, IsWritten, HasFile, OwnsFile, WasRecipe, AreSameFiles, NewRecipe, OtherCommands, OtherWrites, OtherReads, ReadText, all_rules, CantStay}
 
 -- it holds or it doesn't
 abbrev pub Cases : Type 0 → Type 0
@@ -88,13 +88,13 @@ module _ (x : Build) where
       (cases_among x.setting.sources f)
 
 module _ (old new : Build) (t : ℕ) where
-  -- The recipe was there with its commands and writes, and read only files that the new build has, none of them a makefile text.
+  -- The recipe was there with its commands, writes and reads, and none of these is a makefile text.
   pub record Stays : Type 0 where
     pub was : ℕ
     pub is : WasRecipe old new was t
     pub commands : old.commands (name old.graph was) ≡ new.commands (name new.graph t)
     pub files : AreSameFiles (writes old.graph old.setting was) (writes new.graph new.setting t)
-    pub known : (f : FileName) → Has (reads old.graph old.setting was) f → HasFile new f
+    pub same_reads : AreSameFiles (reads old.graph old.setting was) (reads new.graph new.setting t)
     pub no_text : (f : FileName) → Has (reads old.graph old.setting was) f → ¬ (Has new.setting.texts f)
 
   -- the recipe with its target
@@ -108,18 +108,11 @@ module _ (old new : Build) (t : ℕ) where
     -- what it read stays or not
     read_cases : old.commands (name old.graph o) ≡ new.commands (name new.graph t) → AreSameFiles (writes old.graph old.setting o) (writes new.graph new.setting t) → Stays ⊎ CantStay all_rules old new t
     read_cases commands files =
-        ⊎_elim (λ gone. inr (ReadGone, inr (inr (inr (inl refl))), (o, was, (gone.0, gone.1, gone.2))))
-        (λ known. ⊎_elim (λ text. inr (ReadText, inr (inr (inr (inr (inl refl)))), (o, was, (text.0, text.1, text.2))))
-        (λ no_text. inl (record {
-          was = o;
-          is = was;
-          commands = commands;
-          files = files;
-          known = λ f read. ⊎_elim (λ has. has) (λ not. absurd (known f read not)) (cases_file_of new f);
-          no_text = no_text;
-        }))
+        ⊎_elim (λ same. ⊎_elim (λ text. inr (ReadText, inr (inr (inr (inr (inl refl)))), (o, was, (text.0, text.1, text.2))))
+        (λ no_text. inl (record { was = o; is = was; commands = commands; files = files; same_reads = same; no_text = no_text }))
         (first_among (λ f. Has new.setting.texts f) (λ f. cases_among new.setting.texts f) (reads old.graph old.setting o)))
-        (first_among (λ f. ¬ (HasFile new f)) (λ f. ⊎_elim (λ has. inr (λ not. not has)) (λ not. inl not) (cases_file_of new f)) (reads old.graph old.setting o))
+        (λ differ. inr (OtherReads, inr (inr (inr (inl refl))), (o, was, differ)))
+        (cases_same (reads old.graph old.setting o) (reads new.graph new.setting t))
 
     was_cases : Stays ⊎ CantStay all_rules old new t
     was_cases =

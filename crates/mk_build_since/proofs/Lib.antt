@@ -8,4 +8,4 @@ mod NewRecipe
 mod OtherCommands
 mod ReadText
 mod OtherWrites
-mod ReadGone
+mod OtherReads

@@ -13,7 +13,7 @@ use Rattle.mk_build_behaviours.specs.Behaviours.{Behaviours, Write}
 use Rattle.mk_build_behaviours.specs.StepsBy.{after_all_by}
 use Rattle.mk_build_behaviours.proofs.Coherence.{start_is_coherent_by}
 use Rattle.mk_build_behaviours.proofs.Traces.{sound_without_reads}
-use Rattle.mk_build_since.specs.Named.{Build, Rule, NewRecipe, OtherCommands, OtherWrites, ReadGone, ReadText, HoldsOf, IsNamed}
+use Rattle.mk_build_since.specs.Named.{Build, Rule, NewRecipe, OtherCommands, OtherWrites, OtherReads, ReadText, HoldsOf, IsNamed}
 use Rattle.mk_build_since.specs.Next.{IsNext}
 use Rattle.mk_build_since.specs.Needed.{FallShort}
 use Rattle.mk_build_since.proofs.OneNode.{target, one, only_recipe, only_writes, accepted, present, can_start, is_part, passes, not_built, making_in, in_one}
@@ -66,13 +66,13 @@ no_recipe o recipe = false≢true (only_recipe false o recipe).1
 
 -- the other rules name nothing
 abbrev rules : List Rule
-rules = OtherCommands ∷ OtherWrites ∷ ReadGone ∷ ReadText ∷ []
+rules = OtherCommands ∷ OtherWrites ∷ OtherReads ∷ ReadText ∷ []
 
 none_holds : (rule : Rule) → Has rules rule → (t : ℕ) → ¬ (HoldsOf rule old new t)
 none_holds NewRecipe among t holds = ⊎_elim (λ e. absurd (cc)) (λ rest. ⊎_elim (λ e. absurd (cc)) (λ more. ⊎_elim (λ e. absurd (cc)) (λ last. ⊎_elim (λ e. absurd (cc)) (λ none. none) last) more) rest) among
 none_holds OtherCommands among t holds = no_recipe holds.0 holds.1.0
 none_holds OtherWrites among t holds = no_recipe holds.0 holds.1.0
-none_holds ReadGone among t holds = no_recipe holds.0 holds.1.0
+none_holds OtherReads among t holds = no_recipe holds.0 holds.1.0
 none_holds ReadText among t holds = no_recipe holds.0 holds.1.0
 
 unnamed : (f : FileName) → ¬ (IsNamed rules old new f)
@@ -98,7 +98,7 @@ pub without_new_recipe : FallShort rules
 without_new_recipe = record {
   old = old;
   new = new;
-  alike = λ o t same_recipe files. absurd (no_recipe o same_recipe.0.0);
+  alike = λ o t same_recipe. absurd (no_recipe o same_recipe.0.0);
   old_accepted = accepted source false (λ e. absurd (false≢true e)) (λ f wrote. absurd wrote) (λ f read. absurd read) (λ f read can. read) (λ f. []) writing;
   new_accepted = accepted made true (λ e. inl refl) (λ f wrote. refl) (λ f read. absurd read) (λ f read can. read) (λ f. []) writing;
   first = disk;

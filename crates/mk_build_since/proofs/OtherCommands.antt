@@ -1,14 +1,14 @@
 -- A recipe whose commands change.
 use Rattle.std.proofs.Common.{◌≡◌, ℕ, List, [], ◌∷◌, true, Some, None, inl, inr, ⊎_elim, refl, sym, ◌∙◌, subst, arith}
 use Rattle.mk_graph.specs.Membership.{Has}
-use Rattle.mk_build.specs.Setting.{FileName, Setting, name, writes}
+use Rattle.mk_build.specs.Setting.{FileName, Setting, name, reads, writes}
 use Rattle.mk_build.specs.World.{File, Disk, Making, Idle, changed, written}
 use Rattle.mk_build.specs.Steps.{Step, Make, Begin, Put, End, Pass}
 use Rattle.mk_build_behaviours.specs.Behaviours.{Behaviours, Write}
 use Rattle.mk_build_behaviours.specs.StepsBy.{after_all_by}
 use Rattle.mk_build_behaviours.proofs.Coherence.{start_is_coherent_by}
 use Rattle.mk_build_behaviours.proofs.Traces.{sound_without_reads}
-use Rattle.mk_build_since.specs.Named.{Commands, Build, AreSameFiles, Rule, NewRecipe, OtherCommands, OtherWrites, ReadGone, ReadText, HoldsOf, IsNamed}
+use Rattle.mk_build_since.specs.Named.{Commands, Build, AreSameFiles, Rule, NewRecipe, OtherCommands, OtherWrites, OtherReads, ReadText, HoldsOf, IsNamed}
 use Rattle.mk_build_since.specs.Next.{IsAccepted, IsNext}
 use Rattle.mk_build_since.specs.Needed.{FallShort}
 use Rattle.mk_build_since.proofs.OneNode.{target, one, only_recipe, only_writes, only_reads, accepted, present, can_start, is_part, passes, not_built, making_in, in_one, not_none, empty, empty_start, empty_stamped, written_stamped}
@@ -50,13 +50,13 @@ has_put f wrote = subst (λ (k : FileName). ¬ (ending.put 0 k ≡ None)) (in_on
 
 -- the other rules name nothing
 abbrev rules : List Rule
-rules = NewRecipe ∷ OtherWrites ∷ ReadGone ∷ ReadText ∷ []
+rules = NewRecipe ∷ OtherWrites ∷ OtherReads ∷ ReadText ∷ []
 
 none_holds : (rule : Rule) → Has rules rule → (t : ℕ) → t ≡ 0 → ¬ (HoldsOf rule old new t)
 none_holds NewRecipe among t first none = none 0 (refl, subst (λ (k : ℕ). target ≡ name (one true) k) (sym first) refl)
 none_holds OtherCommands among t first holds = ⊎_elim (λ e. absurd (cc)) (λ rest. ⊎_elim (λ e. absurd (cc)) (λ more. ⊎_elim (λ e. absurd (cc)) (λ last. ⊎_elim (λ e. absurd (cc)) (λ none. none) last) more) rest) among
 none_holds OtherWrites among t first holds = holds.2 (subst (λ (k : ℕ). AreSameFiles (writes (one true) made k) (writes (one true) made t)) (first ∙ sym (only_recipe true holds.0 holds.1.0).0) (λ f. (λ h. h, λ h. h)))
-none_holds ReadGone among t first holds = (only_reads made true holds.0 holds.2.0 holds.2.1).2
+none_holds OtherReads among t first holds = holds.2 (subst (λ (k : ℕ). AreSameFiles (reads (one true) made k) (reads (one true) made t)) (first ∙ sym (only_recipe true holds.0 holds.1.0).0) (λ f. (λ h. h, λ h. h)))
 none_holds ReadText among t first holds = (only_reads made true holds.0 holds.2.0 holds.2.1).2
 
 unnamed : (f : FileName) → ¬ (IsNamed rules old new f)
@@ -78,7 +78,7 @@ pub without_other_commands : FallShort rules
 without_other_commands = record {
   old = old;
   new = new;
-  alike = λ o t same_recipe files. let same = same_recipe.1 in absurd (cc);
+  alike = λ o t same_recipe. let same = same_recipe.1 in absurd (cc);
   old_accepted = is_accepted old.commands old.behaviours;
   new_accepted = is_accepted new.commands new.behaviours;
   first = empty;

@@ -1,9 +1,9 @@
 -- A recipe that writes another file with the same commands.
-use Rattle.std.proofs.Common.{◌≡◌, ℕ, List, [], ◌∷◌, true, Some, None, ◌⊎◌, inl, inr, ⊎_elim, refl, sym, subst, arith}
+use Rattle.std.proofs.Common.{◌≡◌, ℕ, List, [], ◌∷◌, true, Some, None, ◌⊎◌, inl, inr, ⊎_elim, refl, sym, ◌∙◌, subst, arith}
 use Rattle.std.proofs.lemmas.Bool.{false≢true}
 use Rattle.std.proofs.lemmas.Slice.Eq.{bytes_eq-Decides}
 use Rattle.mk_graph.specs.Membership.{Has}
-use Rattle.mk_build.specs.Setting.{FileName, Setting, name, writes}
+use Rattle.mk_build.specs.Setting.{FileName, Setting, name, reads, writes}
 use Rattle.mk_build.specs.World.{File, Disk, Making, Idle, changed, written, without}
 use Rattle.mk_build.specs.Steps.{Step, Make, Begin, Put, End, Pass}
 use Rattle.mk_build.specs.Clean.{Contents}
@@ -11,10 +11,10 @@ use Rattle.mk_build_behaviours.specs.Behaviours.{Behaviours, Write}
 use Rattle.mk_build_behaviours.specs.StepsBy.{after_all_by}
 use Rattle.mk_build_behaviours.proofs.Coherence.{start_is_coherent_by}
 use Rattle.mk_build_behaviours.proofs.Traces.{sound_without_reads}
-use Rattle.mk_build_since.specs.Named.{Build, HasFile, OwnsFile, AreSameFiles, Rule, NewRecipe, OtherCommands, OtherWrites, ReadGone, ReadText, HoldsOf, IsNamed}
+use Rattle.mk_build_since.specs.Named.{Build, HasFile, OwnsFile, AreSameFiles, Rule, NewRecipe, OtherCommands, OtherWrites, OtherReads, ReadText, HoldsOf, IsNamed}
 use Rattle.mk_build_since.specs.Next.{IsAccepted, MayBecome, IsNext}
 use Rattle.mk_build_since.specs.Needed.{FallShort}
-use Rattle.mk_build_since.proofs.OneNode.{target, one, only_named, only_writes, only_reads, accepted, present, can_start, is_part, passes, not_built, making_in, in_two, not_none, empty, empty_start, empty_stamped, written_stamped, without_stamped}
+use Rattle.mk_build_since.proofs.OneNode.{target, one, only_recipe, only_named, only_writes, only_reads, accepted, present, can_start, is_part, passes, not_built, making_in, in_two, not_none, empty, empty_start, empty_stamped, written_stamped, without_stamped}
 
 -- its second file
 abbrev was : FileName
@@ -71,13 +71,13 @@ lacks has = ⊎_elim (λ given. false≢true given) (λ wrote. ⊎_elim target_w
 
 -- the other rules name nothing
 abbrev rules : List Rule
-rules = NewRecipe ∷ OtherCommands ∷ ReadGone ∷ ReadText ∷ []
+rules = NewRecipe ∷ OtherCommands ∷ OtherReads ∷ ReadText ∷ []
 
 none_holds : (rule : Rule) → Has rules rule → (t : ℕ) → t ≡ 0 → ¬ (HoldsOf rule (writing was) (writing is) t)
 none_holds NewRecipe among t first none = none 0 (refl, subst (λ (k : ℕ). target ≡ name (one true) k) (sym first) refl)
 none_holds OtherCommands among t first holds = holds.2 refl
 none_holds OtherWrites among t first holds = ⊎_elim (λ e. absurd (cc)) (λ rest. ⊎_elim (λ e. absurd (cc)) (λ more. ⊎_elim (λ e. absurd (cc)) (λ last. ⊎_elim (λ e. absurd (cc)) (λ none. none) last) more) rest) among
-none_holds ReadGone among t first holds = (only_reads (with_second was) true holds.0 holds.2.0 holds.2.1).2
+none_holds OtherReads among t first holds = holds.2 (subst (λ (k : ℕ). AreSameFiles (reads (one true) (with_second was) k) (reads (one true) (with_second is) t)) (first ∙ sym (only_recipe true holds.0 holds.1.0).0) (λ f. (λ h. h, λ h. h)))
 none_holds ReadText among t first holds = (only_reads (with_second was) true holds.0 holds.2.0 holds.2.1).2
 
 -- so what is named is left over, and gone
@@ -126,7 +126,7 @@ pub without_other_writes : FallShort rules
 without_other_writes = record {
   old = writing was;
   new = writing is;
-  alike = λ o t same_recipe files. absurd (not_same o t (only_named true o t same_recipe.0.0 same_recipe.0.1) files);
+  alike = λ o t same_recipe. absurd (not_same o t (only_named true o t same_recipe.0.0 same_recipe.0.1) same_recipe.2);
   old_accepted = is_accepted was;
   new_accepted = is_accepted is;
   first = empty;

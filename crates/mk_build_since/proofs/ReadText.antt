@@ -3,7 +3,7 @@ use Rattle.std.proofs.Common.{◌≡◌, ℕ, List, [], ◌∷◌, true, false, 
 use Rattle.std.specs.Prelude.{unwrap_or}
 use Rattle.std.proofs.lemmas.Bool.{true≢false, false≢true}
 use Rattle.mk_graph.specs.Membership.{Has}
-use Rattle.mk_build.specs.Setting.{FileName, Setting, is_given, is_editable, name, writes}
+use Rattle.mk_build.specs.Setting.{FileName, Setting, is_given, is_editable, name, reads, writes}
 use Rattle.mk_build.specs.World.{File, Disk, Making, Idle, IsStartDisk, changed, written}
 use Rattle.mk_build.specs.Steps.{Step, Make, Begin, Look, Put, End, Pass}
 use Rattle.mk_build.specs.Clean.{given_contents}
@@ -13,7 +13,7 @@ use Rattle.mk_build_behaviours.specs.Behaviours.{Behaviours, Read, Write}
 use Rattle.mk_build_behaviours.specs.StepsBy.{after_all_by}
 use Rattle.mk_build_behaviours.proofs.Coherence.{start_is_coherent_by}
 use Rattle.mk_build_behaviours.proofs.Traces.{sound_without_reads}
-use Rattle.mk_build_since.specs.Named.{Build, AreSameFiles, Rule, NewRecipe, OtherCommands, OtherWrites, ReadGone, ReadText, HoldsOf, IsNamed}
+use Rattle.mk_build_since.specs.Named.{Build, AreSameFiles, Rule, NewRecipe, OtherCommands, OtherWrites, OtherReads, ReadText, HoldsOf, IsNamed}
 use Rattle.mk_build_since.specs.Alike.{both, ends}
 use Rattle.mk_build_since.specs.Next.{IsAccepted, MayBecome, IsNext}
 use Rattle.mk_build_since.specs.Needed.{FallShort}
@@ -93,13 +93,13 @@ has_seen f same = subst (λ (k : FileName). ¬ (ending.seen 0 k ≡ None)) same 
 
 -- the other rules name nothing
 abbrev rules : List Rule
-rules = NewRecipe ∷ OtherCommands ∷ OtherWrites ∷ ReadGone ∷ []
+rules = NewRecipe ∷ OtherCommands ∷ OtherWrites ∷ OtherReads ∷ []
 
 none_holds : (rule : Rule) → Has rules rule → (t : ℕ) → t ≡ 0 → ¬ (HoldsOf rule build build t)
 none_holds NewRecipe among t is none = none 0 (refl, subst (λ (k : ℕ). target ≡ name (one true) k) (sym is) refl)
 none_holds OtherCommands among t is holds = holds.2 refl
 none_holds OtherWrites among t is holds = holds.2 (subst (λ (k : ℕ). AreSameFiles (writes (one true) made k) (writes (one true) made t)) (is ∙ sym (only_recipe true holds.0 holds.1.0).0) (λ f. (λ h. h, λ h. h)))
-none_holds ReadGone among t is holds = holds.2.2 (inl (given holds.2.0 (in_one makefile holds.2.0 (only_reads made true holds.0 holds.2.0 holds.2.1).2)))
+none_holds OtherReads among t is holds = holds.2 (subst (λ (k : ℕ). AreSameFiles (reads (one true) made k) (reads (one true) made t)) (is ∙ sym (only_recipe true holds.0 holds.1.0).0) (λ f. (λ h. h, λ h. h)))
 none_holds ReadText among t is holds = ⊎_elim (λ e. absurd (cc)) (λ rest. ⊎_elim (λ e. absurd (cc)) (λ more. ⊎_elim (λ e. absurd (cc)) (λ last. ⊎_elim (λ e. absurd (cc)) (λ none. none) last) more) rest) among
 
 unnamed : (f : FileName) → ¬ (IsNamed rules build build f)
@@ -125,7 +125,7 @@ pub without_read_text : FallShort rules
 without_read_text = record {
   old = build;
   new = build;
-  alike = λ o t same_recipe files. both (λ c. ends (hold_at made made o t (unwrap_or c 0 ∷ []) (unwrap_or c 0 ∷ []) (only_named true o t same_recipe.0.0 same_recipe.0.1) (λ at e. e)));
+  alike = λ o t same_recipe. both (λ c. ends (hold_at made made o t (unwrap_or c 0 ∷ []) (unwrap_or c 0 ∷ []) (only_named true o t same_recipe.0.0 same_recipe.0.1) (λ at e. e)));
   old_accepted = is_accepted;
   new_accepted = is_accepted;
   first = first;

@@ -1,6 +1,6 @@
 -- Recipes that stay the same where the makefile changes.
 use Rattle.std.specs.Prelude.{◌≡◌, ℕ, List, Option, Some, None, map}
-use Rattle.mk_build.specs.Setting.{FileName, name, writes}
+use Rattle.mk_build.specs.Setting.{FileName, name, reads, writes}
 use Rattle.mk_build.specs.Clean.{Contents}
 use Rattle.mk_build_behaviours.specs.Behaviours.{Behaviour, Read, Write, behaviour}
 use Rattle.mk_build_since.specs.Named.{Build, HasFile, WasRecipe, AreSameFiles}
@@ -27,16 +27,19 @@ pub data AreAlike (old new : Build) (files others : List FileName) : Behaviour �
     ends : {contents values : List ℕ} → HoldAlike files contents others values →
         AreAlike old new files others (Write contents) (Write values)
 
--- o and t are the same recipe: they have the same target and the same commands.
+-- o and t are the same recipe: they have the same target and commands, and write and read the same
+-- files. So whatever makes commands do something else, such as another program of the same name,
+-- has to show in what they read.
 abbrev pub IsSameRecipe : (old new : Build) → (o t : ℕ) → Type 0
 IsSameRecipe old new o t =
     WasRecipe old new o t ×
-    (old.commands (name old.graph o) ≡ new.commands (name new.graph t))
+    (old.commands (name old.graph o) ≡ new.commands (name new.graph t)) ×
+    AreSameFiles (writes old.graph old.setting o) (writes new.graph new.setting t) ×
+    AreSameFiles (reads old.graph old.setting o) (reads new.graph new.setting t)
 
--- The same recipe behaves alike in both builds, if it writes the same files.
+-- The same recipe behaves alike in both builds.
 abbrev pub BehaveAlike : (old new : Build) → Type 0
 BehaveAlike old new =
     (o t : ℕ) → IsSameRecipe old new o t →
-    AreSameFiles (writes old.graph old.setting o) (writes new.graph new.setting t) →
     AreAlike old new (writes old.graph old.setting o) (writes new.graph new.setting t)
     (behaviour old.graph old.behaviours o) (behaviour new.graph new.behaviours t)

@@ -44,16 +44,15 @@ pub data Rule : Type 0 where
   NewRecipe : Rule
   OtherCommands : Rule
   OtherWrites : Rule
-  ReadGone : Rule
+  OtherReads : Rule
   ReadText : Rule
 
 -- All rules.
 abbrev pub all_rules : List Rule
-all_rules = NewRecipe ∷ OtherCommands ∷ OtherWrites ∷ ReadGone ∷ ReadText ∷ []
+all_rules = NewRecipe ∷ OtherCommands ∷ OtherWrites ∷ OtherReads ∷ ReadText ∷ []
 
 -- The rule holds of the recipe t of the new build. The old build has no recipe with its target; or
--- that has other commands, writes other files, read a file that the new build doesn't have, or read
--- a makefile text.
+-- that has other commands, writes other files, reads other files, or read a makefile text.
 abbrev pub HoldsOf : Rule → (old new : Build) → ℕ → Type 0
 HoldsOf NewRecipe old new t = (o : ℕ) → ¬ (WasRecipe old new o t)
 HoldsOf OtherCommands old new t =
@@ -62,9 +61,9 @@ HoldsOf OtherCommands old new t =
 HoldsOf OtherWrites old new t =
     (o : ℕ) × WasRecipe old new o t ×
     (¬ (AreSameFiles (writes old.graph old.setting o) (writes new.graph new.setting t)))
-HoldsOf ReadGone old new t =
+HoldsOf OtherReads old new t =
     (o : ℕ) × WasRecipe old new o t ×
-    ((f : FileName) × Has (reads old.graph old.setting o) f × (¬ (HasFile new f)))
+    (¬ (AreSameFiles (reads old.graph old.setting o) (reads new.graph new.setting t)))
 HoldsOf ReadText old new t =
     (o : ℕ) × WasRecipe old new o t ×
     ((f : FileName) × Has (reads old.graph old.setting o) f × Has new.setting.texts f)

@@ -6,7 +6,7 @@ use Rattle.mk_build_behaviours.specs.BehaviourLaws.{StayPresent}
 use Rattle.mk_build_behaviours.specs.CleanBy.{IsRightBy, ArePresent}
 use Rattle.mk_build_behaviours.specs.CoherentBy.{IsCoherentBy}
 use Rattle.mk_build_behaviours.specs.StepsBy.{IsLegalBy, after_all_by}
-use Rattle.mk_build_since.specs.Named.{Build, Rule, NewRecipe, OtherCommands, OtherWrites, ReadGone, ReadText}
+use Rattle.mk_build_since.specs.Named.{Build, Rule, NewRecipe, OtherCommands, OtherWrites, OtherReads, ReadText}
 use Rattle.mk_build_since.specs.Alike.{BehaveAlike}
 use Rattle.mk_build_since.specs.Next.{IsAccepted, IsFinished, IsNext}
 
@@ -35,8 +35,8 @@ pub record FallShort (rules : List Rule) : Type 0 where
 -- Without one of the rules the others fall short.
 abbrev pub RulesAreNeeded : Type 0
 RulesAreNeeded =
-    FallShort (OtherCommands ∷ OtherWrites ∷ ReadGone ∷ ReadText ∷ []) ×
-    FallShort (NewRecipe ∷ OtherWrites ∷ ReadGone ∷ ReadText ∷ []) ×
-    FallShort (NewRecipe ∷ OtherCommands ∷ ReadGone ∷ ReadText ∷ []) ×
+    FallShort (OtherCommands ∷ OtherWrites ∷ OtherReads ∷ ReadText ∷ []) ×
+    FallShort (NewRecipe ∷ OtherWrites ∷ OtherReads ∷ ReadText ∷ []) ×
+    FallShort (NewRecipe ∷ OtherCommands ∷ OtherReads ∷ ReadText ∷ []) ×
     FallShort (NewRecipe ∷ OtherCommands ∷ OtherWrites ∷ ReadText ∷ []) ×
-    FallShort (NewRecipe ∷ OtherCommands ∷ OtherWrites ∷ ReadGone ∷ [])
+    FallShort (NewRecipe ∷ OtherCommands ∷ OtherWrites ∷ OtherReads ∷ [])

@@ -53,7 +53,7 @@ HasItsRecipesIn h g =
 -- named.
 abbrev pub PrerequisitesNameNothing : Type 0
 PrerequisitesNameNothing =
-    (old new : Build) → AreSound old.graph old.setting → new.setting ≡ old.setting →
+    (old new : Build) → new.setting ≡ old.setting →
     ((target : FileName) → new.commands target ≡ old.commands target) →
     HasItsRecipesIn old.graph new.graph → HasItsRecipesIn new.graph old.graph →
     ((o : ℕ) (f : FileName) → Has (reads old.graph old.setting o) f →

@@ -105,12 +105,12 @@ repair_command =
     (makefile_option ∷ no_defaults_option ∷ needed_book_option ∷ in_words_option ∷
     in_json_option ∷ words_argument ∷ [])
 
--- `since DIR [-f F] [-r] -b BOOK [WORD..]`
+-- `since DIR [-f F] [-r] -b BOOK [-w] [--json] [WORD..]`
 abbrev pub since_command : App
 since_command =
     subcommand (codes "since")
     (makefile_option ∷ no_defaults_option ∷ needed_book_option ∷ folder_argument ∷
-    words_argument ∷ [])
+    in_words_option ∷ in_json_option ∷ words_argument ∷ [])
 
 -- `simulate [-f F] [-r] -b BOOK -p PLAN [-w] [--json] [WORD..]`
 abbrev pub simulate_command : App

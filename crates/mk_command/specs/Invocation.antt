@@ -105,7 +105,7 @@ invocation_by name rows =
     (if bytes_eq name (codes "verify")
     then Verify (requested rows) (needed (codes "certificate") rows) (form_by rows) else
     (if bytes_eq name (codes "since")
-    then Since (requested rows) (needed (codes "folder") rows) else
+    then Since (requested rows) (needed (codes "folder") rows) (form_by rows) else
     (if bytes_eq name (codes "simulate")
     then Simulate (requested rows) (needed (codes "plan") rows) (form_by rows)
     else Graph (requested rows) (form_by rows))))))
@@ -129,7 +129,7 @@ request_in (CheckInJson request) = request
 request_in (Repair request form) = request
 request_in (Explain what) = requested []
 request_in (Verify request certificate form) = request
-request_in (Since request folder) = request
+request_in (Since request folder form) = request
 request_in (Simulate request plan form) = request
 
 -- How the answer of a command is printed.
@@ -141,7 +141,7 @@ form_of (CheckInJson request) = Json
 form_of (Repair request form) = form
 form_of (Explain what) = Lines
 form_of (Verify request certificate form) = form
-form_of (Since request folder) = Lines
+form_of (Since request folder form) = form
 form_of (Simulate request plan form) = form
 
 -- The request of a command; `explain` has none.

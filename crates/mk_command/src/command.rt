@@ -261,7 +261,7 @@ fn named_since<'a>(alloc: Global) -> Command<'a>
 {
     Command::new(alloc, "since")
         .about("Prints the files of an old build to remove before the new one is made")
-        .override_usage("mkcheck since DIR [-f F] [-r] -b BOOK [WORD]...")
+        .override_usage("mkcheck since DIR [-f F] [-r] -b BOOK [-w] [--json] [WORD]...")
         .after_help(BEHIND_SINCE)
 }
 
@@ -352,10 +352,10 @@ fn since_command<'a>(alloc: Global) -> Result<Command<'a>, AllocError>
     ensures app { IfOk result (λ c. app_of c ≡ since_command) }
     ensures local { IfOk result (λ c. (fields_of c).has_globals ≡ false) }
 {
-    with_reading(alloc, named_since(alloc))?
+    let comparing = with_reading(alloc, named_since(alloc))?
         .arg(needed_book_option(alloc))?
-        .arg(folder_argument(alloc))?
-        .arg(words_argument(alloc))
+        .arg(folder_argument(alloc))?;
+    with_form(alloc, comparing)?.arg(words_argument(alloc))
 }
 
 fn simulate_command<'a>(alloc: Global) -> Result<Command<'a>, AllocError>
@@ -423,9 +423,9 @@ fn with_telling<'a>(alloc: Global, command: Command<'a>) -> Result<Command<'a>, 
 /// The command line of the program, which reads the words after the program's name: `graph [-f F]
 /// [-r] [-b BOOK] [-c] [-w] [--json] [WORD..]`, `check [-f F] [-r] -b BOOK [-c] [-w] [-e N] [--json]
 /// [WORD..]`, `repair [-f F] [-r] -b BOOK [-w] [--json] [WORD..]`, `verify [-f F] [-r] -b BOOK -k
-/// CERT [-w] [--json] [WORD..]`, `since DIR [-f F] [-r] -b BOOK [WORD..]`, `simulate [-f F] [-r] -b
-/// BOOK -p PLAN [-w] [--json] [WORD..]`, `explain [WORD..]`, `--help` and `--version`. The only
-/// error is out of memory.
+/// CERT [-w] [--json] [WORD..]`, `since DIR [-f F] [-r] -b BOOK [-w] [--json] [WORD..]`, `simulate
+/// [-f F] [-r] -b BOOK -p PLAN [-w] [--json] [WORD..]`, `explain [WORD..]`, `--help` and
+/// `--version`. The only error is out of memory.
 pub fn command_line<'a>(alloc: Global) -> Result<Command<'a>, AllocError>
     ensures app { IfOk result (λ c. app_of c ≡ command_line) }
     ensures local { IfOk result (λ c. (fields_of c).has_globals ≡ false) }

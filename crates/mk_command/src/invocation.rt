@@ -72,6 +72,8 @@ pub enum Invocation {
         request: Request,
         /// The folder that holds what the old build was made from.
         folder: Name,
+        /// How the answer is printed.
+        form: Form,
     },
     /// `explain`: says what the first of the words that is explained means; without words it lists
     /// all.
@@ -94,10 +96,11 @@ pub fn form_of(asked: &Invocation) -> Form
     match asked {
         Invocation::CheckInWords { .. } => Form::Words,
         Invocation::CheckInJson(_) => Form::Json,
-        Invocation::Check { .. } | Invocation::Explain(_) | Invocation::Since { .. } => Form::Lines,
+        Invocation::Check { .. } | Invocation::Explain(_) => Form::Lines,
         Invocation::Graph { form, .. }
         | Invocation::Repair { form, .. }
         | Invocation::Verify { form, .. }
+        | Invocation::Since { form, .. }
         | Invocation::Simulate { form, .. } => *form,
     }
 }
@@ -306,6 +309,7 @@ pub fn invocation_by(
         "since" => Ok(Invocation::Since {
             request,
             folder: needed(alloc, matches, "folder")?,
+            form,
         }),
         "simulate" => Ok(Invocation::Simulate {
             request,

@@ -4,4 +4,5 @@ mod NoTexts
 mod FindingLists
 mod FindingTexts
 mod PlainTexts
+mod SinceTexts
 mod YesInJson

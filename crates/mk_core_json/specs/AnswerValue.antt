@@ -56,3 +56,16 @@ refusal_value fault cause line =
     (codes "sentence", string (utf8_lossy (caused_words fault cause))) ∷
     (codes "source", line_value line) ∷
     (codes "text", string (utf8_lossy (fault_text fault))) ∷ [])
+
+-- The refusal of an old build: the same, and that it is the old one. No line of a file is shown.
+abbrev pub old_refusal_value : Fault → Cause → Data
+old_refusal_value fault cause =
+    object_of ((codes "answer", string (codes "refused")) ∷
+    (codes "build", string (codes "old")) ∷
+    (codes "format", number (unsigned 1)) ∷
+    (codes "name", string ((fault_name fault).1)) ∷
+    (codes "number", number (unsigned ((fault_name fault).0))) ∷
+    (codes "place", place_value (in_file (place_of fault))) ∷
+    (codes "sentence", string (utf8_lossy (caused_words fault cause))) ∷
+    (codes "source", null) ∷
+    (codes "text", string (utf8_lossy (fault_text fault))) ∷ [])

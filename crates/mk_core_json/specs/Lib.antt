@@ -7,3 +7,4 @@ pub mod NotRead
 pub mod NoValue
 pub mod OtherValues
 pub mod PlainText
+pub mod SinceValues

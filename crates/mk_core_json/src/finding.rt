@@ -15,7 +15,7 @@ use mk_find::Finding;
 use std::alloc::{AllocError, Global};
 
 /// The word of a finding, as it is printed.
-fn kind_of(finding: &Finding) -> &'static str
+pub fn kind_of(finding: &Finding) -> &'static str
     ensures { result.now ≡ kind_of finding.now }
 {
     match finding {
@@ -35,7 +35,7 @@ fn kind_of(finding: &Finding) -> &'static str
 }
 
 /// Appends the text of the names of a finding, in the order in which they are printed.
-fn push_names_of(alloc: Global, out: &mut String, finding: &Finding) -> Result<(), AllocError>
+pub fn push_names_of(alloc: Global, out: &mut String, finding: &Finding) -> Result<(), AllocError>
     ensures { OnOk result (string_bytes out.new ≡
         string_bytes out.old ++ compact_text (names_value (names_of finding.now))) }
 {
@@ -78,7 +78,7 @@ fn push_names_of(alloc: Global, out: &mut String, finding: &Finding) -> Result<(
 }
 
 /// Appends the text of the line that `check` prints for a finding.
-fn push_line(alloc: Global, out: &mut String, finding: &Finding) -> Result<(), AllocError>
+pub fn push_line(alloc: Global, out: &mut String, finding: &Finding) -> Result<(), AllocError>
     ensures { OnOk result (string_bytes out.new ≡
         string_bytes out.old ++ compact_text (string (codes "no " ++ text finding.now))) }
 {

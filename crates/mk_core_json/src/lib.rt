@@ -2,6 +2,7 @@
 #![tactic(auto)]
 
 mod checking;
+mod comparing;
 mod fault_name;
 mod finding;
 mod group;
@@ -13,5 +14,6 @@ mod writing;
 mod yes;
 
 pub use checking::{InJson, check_in_json};
+pub use comparing::{named_in_json, told_in_json};
 pub use other::{mended_in_json, printed_in_json, run_in_json, unmended_in_json};
-pub use refusal::refusal_text;
+pub use refusal::{old_refusal_in_json, refusal_text};

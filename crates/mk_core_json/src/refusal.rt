@@ -8,10 +8,10 @@ ghost use Rattle.serde_json.specs.Written.{compact_text};
 ghost use Rattle.mk_core_text.specs.Causes.{caused_words};
 ghost use Rattle.mk_core_text.specs.FaultText.{fault_text};
 ghost use Rattle.mk_core_sentences.specs.RefusedLine.{in_file, place_of};
-ghost use Rattle.mk_core_json.specs.AnswerValue.{bare_line, line_value, place_value, refusal_value};
+ghost use Rattle.mk_core_json.specs.AnswerValue.{answer_text, bare_line, line_value, old_refusal_value, place_value, refusal_value};
 
 use crate::fault_name::fault_name;
-use crate::writing::push_value;
+use crate::writing::{line_of, push_value};
 use mk_core::{Fault, fault_text};
 use mk_core_sentences::line_in_file;
 use mk_core_text::caused_words;
@@ -117,4 +117,40 @@ pub fn refusal_text(
     let mut text = String::new(alloc);
     push_value(alloc, &mut text, &value)?;
     Ok(text.into_bytes())
+}
+
+/// Makes the JSON value of a refusal of an old build.
+fn old_refusal_value(alloc: Global, fault: &Fault, cause: Cause) -> Result<Value, AllocError>
+    ensures { IfOk result (λ value. view value ≡ old_refusal_value fault.now cause) }
+{
+    let (number, name) = fault_name(fault);
+    let place = place_value(alloc, fault)?;
+    let sentence = sentence_of(alloc, fault, cause)?;
+    let text = text_of(alloc, fault)?;
+    json!(in alloc; {
+        "answer": "refused",
+        "build": "old",
+        "format": 1u32,
+        "name": name,
+        "number": number,
+        "place": place,
+        "sentence": sentence.as_str(),
+        "source": null,
+        "text": text.as_str()
+    })
+}
+
+/// What `since` prints where the old build is refused by this fault, given the cause of the last
+/// failed read. The only error is out of memory.
+pub fn old_refusal_in_json(
+    alloc: Global,
+    fault: &Fault,
+    cause: Cause,
+) -> Result<Vec<u8>, AllocError>
+    ensures { IfOk result (λ line. line.items ≡ answer_text (old_refusal_value fault.now cause)) }
+{
+    let value = old_refusal_value(alloc, fault, cause)?;
+    let mut text = String::new(alloc);
+    push_value(alloc, &mut text, &value)?;
+    line_of(text)
 }

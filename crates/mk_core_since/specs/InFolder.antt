@@ -45,6 +45,10 @@ infer_fault_in folder (infer.GoalIsMember place) = infer.GoalIsMember (place_in 
 infer_fault_in folder (infer.InferencePrerequisites place) =
     infer.InferencePrerequisites (place_in folder place)
 infer_fault_in folder (infer.Macro place fault) = infer.Macro (place_in folder place) fault
+infer_fault_in folder (infer.NoRule name place) =
+    infer.NoRule name (option_map (place_in folder) place)
+infer_fault_in folder (infer.Graph fault place) =
+    infer.Graph fault (option_map (place_in folder) place)
 infer_fault_in folder fault = fault
 
 -- The fault of a build in the folder.

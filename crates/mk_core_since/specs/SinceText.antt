@@ -1,8 +1,13 @@
 -- What `since` prints.
-use Rattle.std.specs.Prelude.{ℕ, List, [], ◌∷◌, ◌++◌, codes}
+use Rattle.std.specs.Prelude.{ℕ, List, [], ◌∷◌, ◌++◌, codes, Option, None, Some}
 use Rattle.std.specs.List.{flat_map}
+use Rattle.mk_read.specs.declared.fault.ReadFault.TheVariants.{NoMakefile}
+use Rattle.mk_read_files.specs.declared.cause.Cause.{Cause}
+use Rattle.mk_core_text.specs.Causes.{caused_words}
 use Rattle.mk_core_text.specs.FaultText.{fault_text}
 use Rattle.mk_core_text.specs.VerdictText.{findings_text}
+use Rattle.mk_core_text.specs.declared.fault.Fault.{Fault}
+use Rattle.mk_core_text.specs.declared.fault.Fault.TheVariants.{Read}
 use Rattle.mk_core_since.specs.declared.outcome.Since.{Since}
 use Rattle.mk_core_since.specs.declared.outcome.Since.TheVariants.{Named, No, Unsure, Refused}
 
@@ -21,9 +26,27 @@ old_message text folder =
     ((text ++ codes "this is the old build, in ") ++ folder) ++
     codes ": begin with a clean build\n"
 
--- What standard error gets: findings or a refusal, and whether they are of the old build.
-abbrev pub since_message : List ℕ → Since → List ℕ
-since_message folder (Named names) = []
-since_message folder (No found) = findings_text found
-since_message folder (Unsure found) = old_message (findings_text found) folder
-since_message folder (Refused fault) = old_message (fault_text fault ++ 10 ∷ []) folder
+-- The text, and a line that says that nothing was kept in this folder.
+abbrev pub nothing_kept : List ℕ → List ℕ → List ℕ
+nothing_kept text folder =
+    ((text ++ codes "there is no makefile of an old build in ") ++ folder) ++
+    codes ": mkcheck-record --keep DIR keeps one; begin with a clean build\n"
+
+-- The text of a refusal, and a line that says whose it is.
+abbrev pub refused_message : Fault → List ℕ → List ℕ → List ℕ
+refused_message (Read (NoMakefile name)) text folder = nothing_kept text folder
+refused_message fault text folder = old_message text folder
+
+-- The text of a fault: with numbers, or in words with the cause of a failed read.
+abbrev pub said : Option Cause → Fault → List ℕ
+said None fault = fault_text fault
+said (Some cause) fault = caused_words fault cause
+
+-- What standard error gets: findings or a refusal, and whether they are of the old build. A refusal
+-- is in words where a cause is given.
+abbrev pub since_message : List ℕ → Option Cause → Since → List ℕ
+since_message folder cause (Named names) = []
+since_message folder cause (No found) = findings_text found
+since_message folder cause (Unsure found) = old_message (findings_text found) folder
+since_message folder cause (Refused fault) =
+    refused_message fault (said cause fault ++ 10 ∷ []) folder

@@ -124,6 +124,12 @@ fn infer_fault_in(alloc: Global, folder: &str, fault: InferFault) -> Result<Infe
         InferFault::Macro(place, fault) => {
             InferFault::Macro(place_in(alloc, folder, &place)?, fault)
         }
+        InferFault::NoRule(name, place) => {
+            InferFault::NoRule(name, optional_place_in(alloc, folder, &place)?)
+        }
+        InferFault::Graph(fault, place) => {
+            InferFault::Graph(fault, optional_place_in(alloc, folder, &place)?)
+        }
         fault => fault,
     })
 }

@@ -1,11 +1,12 @@
 //! What comes of `since`, and how it is printed.
 
 ghost use Rattle.std.specs.Prelude.{◌≡◌, ◌++◌, ◌∷◌, [], IfOk};
-ghost use Rattle.mk_core_text.specs.FaultText.{fault_text};
-ghost use Rattle.mk_core_since.specs.SinceText.{names_text, old_message, since_message, since_output};
+ghost use Rattle.mk_core_since.specs.SinceText.{names_text, nothing_kept, old_message, refused_message, said, since_message, since_output};
 
 use mk_core::{Fault, Findings, Name, Names, fault_text};
-use mk_core_text::findings_text;
+use mk_core_text::{caused_words, findings_text};
+use mk_read::ReadFault;
+use mk_read_files::Cause;
 use std::alloc::{AllocError, Global};
 
 /// What comes of `since`.
@@ -54,19 +55,55 @@ fn of_old(alloc: Global, text: Vec<u8>, folder: &str) -> Result<Vec<u8>, AllocEr
     Ok(message)
 }
 
-/// The line of a refusal.
-fn refusal_line(alloc: Global, fault: &Fault) -> Result<Vec<u8>, AllocError>
-    ensures { IfOk result (λ text. text.items ≡ fault_text fault.now ++ 10 ∷ []) }
+/// The text, and a line that says that nothing was kept in this folder.
+fn nothing_kept(alloc: Global, text: Vec<u8>, folder: &str) -> Result<Vec<u8>, AllocError>
+    ensures { IfOk result (λ message. message.items ≡ nothing_kept text.items folder.now) }
 {
-    let mut text = fault_text(alloc, fault)?;
-    text.push(b'\n')?;
-    Ok(text)
+    let mut message = text;
+    message.extend_from_slice(b"there is no makefile of an old build in ")?;
+    message.extend_from_slice(folder.as_bytes())?;
+    message.extend_from_slice(
+        b": mkcheck-record --keep DIR keeps one; begin with a clean build\n",
+    )?;
+    Ok(message)
+}
+
+/// The text of a fault: with numbers, or in words with the cause of a failed read.
+fn said(alloc: Global, fault: &Fault, cause: Option<Cause>) -> Result<Vec<u8>, AllocError>
+    ensures { IfOk result (λ text. text.items ≡ said cause fault.now) }
+{
+    match cause {
+        Some(cause) => caused_words(alloc, fault, cause),
+        None => fault_text(alloc, fault),
+    }
+}
+
+/// The text of a refusal of the old build, and a line that says so.
+fn refused_message(
+    alloc: Global,
+    fault: &Fault,
+    text: Vec<u8>,
+    folder: &str,
+) -> Result<Vec<u8>, AllocError>
+    ensures { IfOk result (λ message. message.items ≡
+        refused_message fault.now text.items folder.now) }
+{
+    match fault {
+        Fault::Read(ReadFault::NoMakefile(_)) => nothing_kept(alloc, text, folder),
+        _ => of_old(alloc, text, folder),
+    }
 }
 
 /// What standard error gets: findings or a refusal, and whether they are of the old build, in this
-/// folder.
-pub fn since_message(alloc: Global, since: &Since, folder: &str) -> Result<Vec<u8>, AllocError>
-    ensures { IfOk result (λ text. text.items ≡ since_message folder.now since.now) }
+/// folder. A refusal is in words where the cause of the last failed read is given, else with
+/// numbers. The only error is out of memory.
+pub fn since_message(
+    alloc: Global,
+    since: &Since,
+    folder: &str,
+    cause: Option<Cause>,
+) -> Result<Vec<u8>, AllocError>
+    ensures { IfOk result (λ text. text.items ≡ since_message folder.now cause since.now) }
 {
     match since {
         Since::Named(_) => Ok(Vec::new(alloc)),
@@ -76,8 +113,9 @@ pub fn since_message(alloc: Global, since: &Since, folder: &str) -> Result<Vec<u
             of_old(alloc, text, folder)
         }
         Since::Refused(fault) => {
-            let text = refusal_line(alloc, fault)?;
-            of_old(alloc, text, folder)
+            let mut text = said(alloc, fault, cause)?;
+            text.push(b'\n')?;
+            refused_message(alloc, fault, text, folder)
         }
     }
 }

@@ -59,9 +59,9 @@ since: the files of an old build to remove before the new one
 After a change of the makefile a file may be newer than all that it is made
 from, and yet be made by other commands. `mkcheck since DIR -b BOOK` prints
 the files to remove: what dropped recipes wrote, and what a recipe writes that
-is new, has other commands or writes other files, or that read a file which is
-gone, or the makefile. DIR holds what the build in this folder was made from,
-as `mkcheck-record --keep DIR` writes it.
+is new, has other commands, writes or reads other files than it did, or read
+the makefile. DIR holds what the build in this folder was made from, as
+`mkcheck-record --keep DIR` writes it.
 
     mkcheck since DIR -b BOOK > old && xargs -d '\\n' rm -f -- < old && make
 

@@ -27,12 +27,21 @@ adds_append x one other old mid new a b = record {
   added = b.added ∙ (ap (λ l. l ++ map (named x) b.kept) a.added ∙ (append_assoc old (map (named x) a.kept) (map (named x) b.kept) ∙ ap (λ l. old ++ l) (sym (map-append (named x) a.kept b.kept))));
 }
 
+-- two lists one behind the other, from no findings to those that are handed out
+pub adds_both : (x : Subject) (one other : List Candidate) (first mid last told : List Finding) → first ≡ [] → told ≡ last → Adds x one first mid → Adds x other mid last → Adds x (one ++ other) [] told
+adds_both x one other first mid last told none is a b =
+    subst (λ (l : List Finding). Adds x (one ++ other) l told) none (subst (λ (l : List Finding). Adds x (one ++ other) first l) (sym is) (adds_append x one other first mid last a b))
+
 -- one candidate whose condition holds, and one whose condition doesn't
 pub adds_one : (x : Subject) (c : Candidate) (old new : List Finding) → IsFinding x c → new ≡ old ++ named x c ∷ [] → Adds x (c ∷ []) old new
 adds_one x c old new h e = record { kept = c ∷ []; right = keeps h nothing; added = e }
 
 pub adds_none : (x : Subject) (c : Candidate) (old : List Finding) → ¬ (IsFinding x c) → Adds x (c ∷ []) old old
 adds_none x c old h = record { kept = []; right = drops h nothing; added = sym (append-nil old) }
+
+-- one whose condition holds, pushed onto a list that is equal to the old one
+pub adds_pushed : (x : Subject) (c : Candidate) (old mid new : List Finding) → mid ≡ old → IsFinding x c → new ≡ mid ++ named x c ∷ [] → Adds x (c ∷ []) old new
+adds_pushed x c old mid new same h e = adds_one x c old new h (e ∙ ap (λ l. l ++ named x c ∷ []) same)
 
 -- past the end nothing is left of a list
 pub drop_past : {A : Type 0} (xs : List A) (i : ℕ) → length xs ≤ i → drop i xs ≡ []

@@ -5,6 +5,7 @@ pub mod CarriedRecipes
 pub mod Decided
 pub mod EntryLaws
 pub mod FileDecided
+pub mod FileReads
 pub mod FindingLists
 pub mod FirstOf
 pub mod FirstPaths

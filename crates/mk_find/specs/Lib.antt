@@ -1,6 +1,7 @@
 pub mod Candidates
 pub mod Certifying
 pub mod Conditions
+pub mod FileRead
 pub mod FileTests
 pub mod FindingLaws
 pub mod Findings
@@ -9,6 +10,7 @@ pub mod HappensBefore
 pub mod Listed
 pub mod Listing
 pub mod NodeChecks
+pub mod PathTables
 pub mod ReadStatus
 pub mod Tests
 pub mod Text

@@ -4,19 +4,21 @@ ghost use Rattle.std.specs.Prelude.{◌≡◌, ◌<◌, ◌∷◌, ◌++◌, [],
 ghost use Rattle.mk_cert_text.specs.Certificate.{Way as WayValue};
 ghost use Rattle.mk_graph.specs.Membership.{Has};
 ghost use Rattle.mk_find.specs.Candidates.{static_candidates, stale_candidates};
-ghost use Rattle.mk_subject.specs.NodeRow.{IsEntry};
+ghost use Rattle.mk_find.specs.FileRead.{IsRead};
 ghost use Rattle.mk_find.specs.Listing.{Lists};
-ghost use Rattle.mk_subject.specs.Subject.{name_of, reads_of};
+ghost use Rattle.mk_subject.specs.Subject.{name_of};
 ghost use Rattle.mk_find.specs.Certifying.{HasShortestWays, IsCertificate, IsEntryFor};
 ghost use Rattle.mk_find.specs.FirstPaths.{IsAlongFirstPath};
 
+use crate::file_read::FileRead;
 use crate::finding_laws::list_is_one;
+use crate::finding_list::FindingList;
 use crate::first_path::FirstPath;
 use crate::stale_findings::judge_all;
 use crate::way_laws::certificate_is_shortest;
 use mk_cert_text::{Certificate, PackedNames, Ways};
+use mk_subject::Subject;
 use mk_subject::laws::carried_exactly;
-use mk_subject::{NodeRow, Subject};
 use std::alloc::{AllocError, Global};
 use std::marker::Model;
 
@@ -99,26 +101,20 @@ impl CertificateBuilder {
         self.ways
     }
 
-    /// Appends the entry for the read of `file` by the recipe of `entry`, where `path` is the first
-    /// path to the file. The only error is out of memory.
-    pub fn push(
-        &mut self,
-        subject: &Subject<'_>,
-        entry: &NodeRow<'_>,
-        file: &str,
-        path: &FirstPath,
-    ) -> Result<(), AllocError>
-        requires entry { IsEntry subject.now entry.now }
-        requires read { Has (reads_of subject.now entry.now.number) file.now }
-        requires first { IsAlongFirstPath subject.now file.now entry.now.number path.now.nodes.items
-            path.now.finish }
-        ensures { OnOk result ((way : WayValue) ×
-            IsEntryFor subject.now (record { recipe = entry.now.number; file = file.now }) way ×
+    /// Appends the entry for this read, where `path` is the first path to its file. The only error
+    /// is out of memory.
+    pub fn push(&mut self, read: &FileRead<'_, '_>, path: &FirstPath) -> Result<(), AllocError>
+        requires read { IsRead read.now }
+        requires first { IsAlongFirstPath read.now.subject.now read.now.file.file
+            read.now.entry.now.number path.now.nodes.items path.now.finish }
+        ensures { OnOk result ((way : WayValue) × IsEntryFor read.now.subject.now
+            (record { recipe = read.now.entry.now.number; file = read.now.file.file }) way ×
             (self.new ≡ self.old ++ way ∷ [])) }
     {
         carried_exactly();
-        name_all(&mut self.path, subject, &path.nodes)?;
-        self.ways.push(entry.name(), file, &self.path, path.finish)
+        name_all(&mut self.path, read.subject, &path.nodes)?;
+        self.ways
+            .push(read.entry.name(), read.name(), &self.path, path.finish)
     }
 }
 
@@ -135,7 +131,7 @@ pub fn certify(alloc: Global, subject: &Subject<'_>) -> Result<Certificate, Allo
     list_is_one();
     let graph = subject.graph();
     let goals = names_of(alloc, subject, graph.goals())?;
-    let mut found = Vec::new(alloc);
+    let mut found = FindingList::new(alloc);
     let ways = judge_all(alloc, subject, &mut found)?;
     Ok(Certificate { goals, ways })
 }

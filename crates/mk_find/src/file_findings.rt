@@ -10,33 +10,31 @@ ghost use Rattle.mk_find.specs.Listed.{Adds};
 ghost use Rattle.mk_find.specs.FileTests.{IsUnknown};
 ghost use Rattle.mk_subject.specs.Target.{target_of};
 
-use crate::file_names::{FileNames, shared_name};
 use crate::finding::Finding;
+use crate::finding_list::FindingList;
 use mk_graph::laws::serial_reaches_each_once;
 use mk_subject::{FEW_NUMBERS, NameList, NodeRow, Subject, Target, has_number};
 use std::alloc::{AllocError, Global};
 
 /// Adds the finding `GivenWritten`, if the file is given, phony, or passed over as missing.
 fn note_taken(
-    alloc: Global,
     subject: &Subject<'_>,
     entry: &NodeRow<'_>,
     file: &Target<'_>,
-    names: &mut FileNames,
-    found: &mut Vec<Finding>,
+    found: &mut FindingList,
 ) -> Result<(), AllocError>
     requires entry { IsEntry subject.now entry.now }
     requires file { file.now ≡ target_of subject.now file.now.file }
     requires written { Has (writes_of subject.now entry.now.number) file.now.file }
     ensures { OnOk result (Adds subject.now (given_written entry.now.number file.now.file ∷ [])
-        found.old.items found.new.items) }
+        found.old found.new) }
 {
     let known = file.known;
     if !known.taken {
         return Ok(());
     }
-    let recipe = shared_name(alloc, entry, found)?;
-    let file = names.name_of(alloc, file)?;
+    let recipe = found.name_of_node(entry)?;
+    let file = found.name_of(file)?;
     found.push(Finding::GivenWritten { recipe, file })?;
     Ok(())
 }
@@ -44,20 +42,18 @@ fn note_taken(
 /// Adds the finding `GivenWritten` for each file that the recipe writes and that is given, phony,
 /// or passed over as missing. The only error is out of memory.
 pub fn note_given_written(
-    alloc: Global,
     subject: &Subject<'_>,
     entry: &NodeRow<'_>,
-    names: &mut FileNames,
-    found: &mut Vec<Finding>,
+    found: &mut FindingList,
 ) -> Result<(), AllocError>
     requires { IsEntry subject.now entry.now }
     ensures { OnOk result (Adds subject.now
         (map (λ f. given_written entry.now.number f) (writes_of subject.now entry.now.number))
-        found.old.items found.new.items) }
+        found.old found.new) }
 {
     for place in 0..subject.count_of_written(entry.number) {
         let file = subject.written(entry.number, place);
-        note_taken(alloc, subject, entry, &file, names, found)?;
+        note_taken(subject, entry, &file, found)?;
     }
     Ok(())
 }
@@ -75,24 +71,22 @@ fn is_unknown(subject: &Subject<'_>, file: &Target<'_>) -> bool
 
 /// Adds the finding `UnknownRead`, if the file is neither given nor written by any recipe.
 fn note_unknown(
-    alloc: Global,
     subject: &Subject<'_>,
     entry: &NodeRow<'_>,
     file: &Target<'_>,
-    names: &mut FileNames,
-    found: &mut Vec<Finding>,
+    found: &mut FindingList,
 ) -> Result<(), AllocError>
     requires entry { IsEntry subject.now entry.now }
     requires file { file.now ≡ target_of subject.now file.now.file }
     requires read { Has (reads_of subject.now entry.now.number) file.now.file }
     ensures { OnOk result (Adds subject.now (unknown_read entry.now.number file.now.file ∷ [])
-        found.old.items found.new.items) }
+        found.old found.new) }
 {
     if !is_unknown(subject, file) {
         return Ok(());
     }
-    let recipe = shared_name(alloc, entry, found)?;
-    let file = names.name_of(alloc, file)?;
+    let recipe = found.name_of_node(entry)?;
+    let file = found.name_of(file)?;
     found.push(Finding::UnknownRead { recipe, file })?;
     Ok(())
 }
@@ -100,20 +94,18 @@ fn note_unknown(
 /// Adds the finding `UnknownRead` for each file that the recipe reads and that is neither given nor
 /// written by any recipe. The only error is out of memory.
 pub fn note_unknown_reads(
-    alloc: Global,
     subject: &Subject<'_>,
     entry: &NodeRow<'_>,
-    names: &mut FileNames,
-    found: &mut Vec<Finding>,
+    found: &mut FindingList,
 ) -> Result<(), AllocError>
     requires { IsEntry subject.now entry.now }
     ensures { OnOk result (Adds subject.now
         (map (λ f. unknown_read entry.now.number f) (reads_of subject.now entry.now.number))
-        found.old.items found.new.items) }
+        found.old found.new) }
 {
     for place in 0..subject.count_of_unsettled(entry.number) {
         let file = subject.unsettled(entry.number, place);
-        note_unknown(alloc, subject, entry, &file, names, found)?;
+        note_unknown(subject, entry, &file, found)?;
     }
     Ok(())
 }
@@ -168,28 +160,26 @@ fn is_own<'a>(
 
 /// Adds the finding `OwnRead`, if the recipe writes the file.
 fn note_own<'a>(
-    alloc: Global,
     subject: &Subject<'_>,
     entry: &NodeRow<'a>,
     written: &mut Option<NameList<'a>>,
     file: &Target<'_>,
-    names: &mut FileNames,
-    found: &mut Vec<Finding>,
+    found: &mut FindingList,
 ) -> Result<(), AllocError>
     requires entry { IsEntry subject.now entry.now }
     requires written { IfSome written.old (λ list. list ≡ entry_writes entry.now) }
     requires file { file.now ≡ target_of subject.now file.now.file }
     requires read { Has (reads_of subject.now entry.now.number) file.now.file }
     ensures added { OnOk result (Adds subject.now (own_read entry.now.number file.now.file ∷ [])
-        found.old.items found.new.items) }
+        found.old found.new) }
     ensures written { OnOk result
         (IfSome written.new (λ list. list ≡ entry_writes entry.now)) }
 {
-    if !is_own(alloc, subject, entry, written, file)? {
+    if !is_own(found.allocator(), subject, entry, written, file)? {
         return Ok(());
     }
-    let recipe = shared_name(alloc, entry, found)?;
-    let file = names.name_of(alloc, file)?;
+    let recipe = found.name_of_node(entry)?;
+    let file = found.name_of(file)?;
     found.push(Finding::OwnRead { recipe, file })?;
     Ok(())
 }
@@ -197,23 +187,21 @@ fn note_own<'a>(
 /// Adds the finding `OwnRead` for each file that the recipe both reads and writes. The only error
 /// is out of memory.
 pub fn note_own_reads(
-    alloc: Global,
     subject: &Subject<'_>,
     entry: &NodeRow<'_>,
-    names: &mut FileNames,
-    found: &mut Vec<Finding>,
+    found: &mut FindingList,
 ) -> Result<(), AllocError>
     requires { IsEntry subject.now entry.now }
     ensures { OnOk result (Adds subject.now
         (map (λ f. own_read entry.now.number f) (reads_of subject.now entry.now.number))
-        found.old.items found.new.items) }
+        found.old found.new) }
 {
     serial_reaches_each_once();
     let _graph = subject.graph();
     let mut written = None;
     for place in 0..subject.count_of_unsettled(entry.number) {
         let file = subject.unsettled(entry.number, place);
-        note_own(alloc, subject, entry, &mut written, &file, names, found)?;
+        note_own(subject, entry, &mut written, &file, found)?;
     }
     Ok(())
 }

@@ -2,8 +2,7 @@
 
 ghost use Rattle.std.specs.Prelude.{◌≡◌, IfOk};
 
-use crate::finding::Finding;
-use mk_subject::{NodeRow, SharedName, Target};
+use mk_subject::{SharedName, Target};
 use std::alloc::{AllocError, Global};
 
 /// The shared names made so far, at the indices of their files, so that all findings about a file
@@ -45,23 +44,4 @@ impl FileNames {
         }
         Ok(())
     }
-}
-
-/// The name of a node. If the last of these findings is about this node, its copy is shared; else
-/// a new one is made. The only error is out of memory.
-pub fn shared_name(
-    alloc: Global,
-    entry: &NodeRow<'_>,
-    found: &[Finding],
-) -> Result<SharedName, AllocError>
-    ensures { IfOk result (λ name. name ≡ entry.now.node.name) }
-{
-    if let Some(last) = found.last() {
-        if let Some(name) = last.about() {
-            if name.as_str() == entry.name() {
-                return name.clone();
-            }
-        }
-    }
-    SharedName::new(alloc, entry.name())
 }

@@ -8,22 +8,22 @@ ghost use Rattle.mk_subject.specs.NodeRow.{IsEntry};
 ghost use Rattle.mk_find.specs.NodeChecks.{candidates_before_pairs, candidates_after_pairs, pairs_with};
 ghost use Rattle.mk_find.specs.declared.finding.Finding.{Finding};
 
-use crate::file_names::FileNames;
 use crate::finding::Finding;
+use crate::finding_list::FindingList;
 use crate::nothing_found::finds_nothing;
 use crate::pairs::note_files;
-use crate::race_findings::races;
+use crate::race_findings::note_races;
 use crate::static_checks::{run_checks_after_pairs, run_checks_before_pairs};
 use mk_graph::laws::serial_reaches_each_once;
 use mk_subject::{NodeRow, Subject};
 use std::alloc::{AllocError, Global};
 
 /// The first of these findings, if there are any.
-fn first_of(found: Vec<Finding>) -> Option<Finding>
-    ensures { MatchOption result (found.items ≡ [])
-        (λ first. (rest : List Finding) × (found.items ≡ first ∷ rest)) }
+fn first_of(found: FindingList) -> Option<Finding>
+    ensures { MatchOption result (found ≡ [])
+        (λ first. (rest : List Finding) × (found ≡ first ∷ rest)) }
 {
-    let mut found = found;
+    let mut found = found.into_findings();
     if found.is_empty() {
         return None;
     }
@@ -34,8 +34,8 @@ fn first_of(found: Vec<Finding>) -> Option<Finding>
 fn first_before_pairs(alloc: Global, subject: &Subject<'_>) -> Result<Option<Finding>, AllocError>
     ensures { IfOk result (IsFirstFinding subject.now (candidates_before_pairs subject.now)) }
 {
-    let mut found = Vec::new(alloc);
-    run_checks_before_pairs(alloc, subject, &mut found)?;
+    let mut found = FindingList::new(alloc);
+    run_checks_before_pairs(subject, &mut found)?;
     Ok(first_of(found))
 }
 
@@ -43,8 +43,8 @@ fn first_before_pairs(alloc: Global, subject: &Subject<'_>) -> Result<Option<Fin
 fn first_behind_pairs(alloc: Global, subject: &Subject<'_>) -> Result<Option<Finding>, AllocError>
     ensures { IfOk result (IsFirstFinding subject.now (candidates_after_pairs subject.now)) }
 {
-    let mut found = Vec::new(alloc);
-    run_checks_after_pairs(alloc, subject, &mut found)?;
+    let mut found = FindingList::new(alloc);
+    run_checks_after_pairs(subject, &mut found)?;
     Ok(first_of(found))
 }
 
@@ -57,9 +57,8 @@ fn first_pair_with(
     requires { IsEntry subject.now entry.now }
     ensures { IfOk result (IsFirstFinding subject.now (pairs_with subject.now entry.now.number)) }
 {
-    let mut found = Vec::new(alloc);
-    let mut names = FileNames::new(alloc);
-    note_files(alloc, subject, entry, &mut names, &mut found)?;
+    let mut found = FindingList::new(alloc);
+    note_files(subject, entry, &mut found)?;
     Ok(first_of(found))
 }
 
@@ -101,6 +100,7 @@ pub fn first_static(alloc: Global, subject: &Subject<'_>) -> Result<Option<Findi
 pub fn first_race(alloc: Global, subject: &Subject<'_>) -> Result<Option<Finding>, AllocError>
     ensures { IfOk result (IsFirstFinding subject.now (race_candidates subject.now)) }
 {
-    let found = races(alloc, subject)?;
+    let mut found = FindingList::new(alloc);
+    note_races(subject, &mut found)?;
     Ok(first_of(found))
 }

@@ -20,7 +20,7 @@ use mk_graph_search::laws::{
 };
 use mk_subject::laws::carried_exactly;
 use mk_subject::{EndTables, Subject, Target, ends_at};
-use std::alloc::{AllocError, Global};
+use std::alloc::AllocError;
 
 /// At most this many places are tried one by one, which costs less than a lookup.
 const FEW: usize = 4;
@@ -137,7 +137,6 @@ fn go_on_to_end(
 /// always made; so they aren't up to the new `passed`. If `passed` is kept over all files, the time
 /// is linear in the places and the files that aren't editable. The only error is out of memory.
 pub(crate) fn first_path(
-    alloc: Global,
     subject: &Subject<'_>,
     ends: &EndTables<'_>,
     search: &mut Search<'_>,
@@ -169,6 +168,7 @@ pub(crate) fn first_path(
     let Some(finish) = finish else {
         return Ok(None);
     };
+    let alloc = *ends.needed.allocator();
     let Some(nodes) = search.way(alloc, place)? else {
         return Ok(None);
     };

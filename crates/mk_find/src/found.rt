@@ -6,7 +6,8 @@ ghost use Rattle.mk_find.specs.Findings.{AreFindings};
 
 use crate::certifying::names_of;
 use crate::finding::Finding;
-use crate::race_findings::races;
+use crate::finding_list::FindingList;
+use crate::race_findings::note_races;
 use crate::stale_findings::judge_all;
 use crate::static_checks::static_findings;
 use crate::way_laws::certificate_is_shortest;
@@ -34,8 +35,10 @@ pub fn judge(
     if !first.is_empty() {
         return Ok(Err(first));
     }
-    let mut found = races(alloc, subject)?;
+    let mut found = FindingList::new(alloc);
+    note_races(subject, &mut found)?;
     let ways = judge_all(alloc, subject, &mut found)?;
+    let found = found.into_findings();
     if !found.is_empty() {
         return Ok(Err(found));
     }

@@ -2,23 +2,25 @@
 
 ghost use Rattle.std.specs.Prelude.{◌≡◌, ℕ, IfOk, OnOk};
 ghost use Rattle.mk_lines.specs.Names.{has_name};
-ghost use Rattle.mk_graph.specs.Membership.{Has};
 ghost use Rattle.mk_graph_search.specs.Ways.{successors};
 ghost use Rattle.mk_find.specs.Candidates.{by_node};
 ghost use Rattle.mk_subject.specs.Carried.{carried};
+ghost use Rattle.mk_find.specs.FileRead.{IsRead};
 ghost use Rattle.mk_find.specs.Listed.{Adds};
+ghost use Rattle.mk_find.specs.PathTables.{ArePathTables};
 ghost use Rattle.mk_subject.specs.NodeRow.{IsEntry};
-ghost use Rattle.mk_subject.specs.Subject.{reads_of, writes_of};
+ghost use Rattle.mk_subject.specs.Subject.{writes_of};
 ghost use Rattle.mk_subject.specs.Target.{target_of};
 ghost use Rattle.mk_subject.specs.WayTables.{AreEnds};
 ghost use Rattle.mk_find.specs.Findings.{AreHidden, hidden_read, hidden_reads};
 ghost use Rattle.mk_find.specs.FirstPaths.{AlwaysNoneBefore};
 
-use crate::file_names::FileNames;
+use crate::file_read::FileRead;
 use crate::finding::Finding;
-use crate::race_findings::races;
+use crate::finding_list::FindingList;
+use crate::path_tables::PathTables;
+use crate::race_findings::note_races;
 use crate::stale_findings::judge_read;
-use mk_graph::Groups;
 use mk_graph::laws::serial_reaches_each_once;
 use mk_graph_search::Search;
 use mk_subject::{EndTables, NodeRow, Subject, Target, carried_lists, end_tables_of};
@@ -37,67 +39,53 @@ fn is_own(subject: &Subject<'_>, entry: &NodeRow<'_>, file: &Target<'_>) -> bool
 /// Adds the finding `Stale`, if the recipe doesn't write the file and the read is stale. `passed`
 /// is as for `first_path`.
 fn note_hidden_read(
-    subject: &Subject<'_>,
+    read: &FileRead<'_, '_>,
     ends: &EndTables<'_>,
     search: &mut Search<'_>,
     passed: &mut usize,
-    entry: &NodeRow<'_>,
-    file: &Target<'_>,
-    names: &mut FileNames,
-    found: &mut Vec<Finding>,
+    found: &mut FindingList,
 ) -> Result<(), AllocError>
-    requires entry { IsEntry subject.now entry.now }
-    requires ends { AreEnds subject.now ends.now.needed.items
-        ends.now.always.items }
-    requires rows { (t : ℕ) → successors search.old.rows t ≡ carried subject.now t }
-    requires start { search.old.start ≡ entry.now.number }
-    requires passed { AlwaysNoneBefore subject.now search.old.start passed.old }
-    requires file { file.now ≡ target_of subject.now file.now.file }
-    requires read { Has (reads_of subject.now entry.now.number) file.now.file }
+    requires read { IsRead read.now }
+    requires ends { AreEnds read.now.subject.now ends.now.needed.items ends.now.always.items }
+    requires rows { (t : ℕ) → successors search.old.rows t ≡ carried read.now.subject.now t }
+    requires start { search.old.start ≡ read.now.entry.now.number }
+    requires passed { AlwaysNoneBefore read.now.subject.now search.old.start passed.old }
     ensures same { search.new ≡ search.old }
-    ensures passed { AlwaysNoneBefore subject.now search.old.start passed.new }
-    ensures found { OnOk result (Adds subject.now
-        (hidden_read subject.now entry.now.number file.now.file)
-        found.old.items found.new.items) }
+    ensures passed { AlwaysNoneBefore read.now.subject.now search.old.start passed.new }
+    ensures found { OnOk result (Adds read.now.subject.now
+        (hidden_read read.now.subject.now read.now.entry.now.number read.now.file.file)
+        found.old found.new) }
 {
-    if is_own(subject, entry, file) {
+    if is_own(read.subject, read.entry, &read.file) {
         return Ok(());
     }
-    judge_read(subject, ends, search, passed, entry, file, names, found)?;
+    judge_read(read, ends, search, passed, found)?;
     Ok(())
 }
 
 /// Adds the finding `Stale` for each stale read of a file that the recipe doesn't write.
 fn note_hidden_reads(
-    subject: &Subject<'_>,
-    ends: &EndTables<'_>,
+    tables: &PathTables<'_>,
     search: &mut Search<'_>,
     entry: &NodeRow<'_>,
-    names: &mut FileNames,
-    found: &mut Vec<Finding>,
+    found: &mut FindingList,
 ) -> Result<(), AllocError>
-    requires entry { IsEntry subject.now entry.now }
-    requires ends { AreEnds subject.now ends.now.needed.items
-        ends.now.always.items }
-    requires rows { (t : ℕ) → successors search.old.rows t ≡ carried subject.now t }
-    requires start { search.old.start ≡ entry.now.number }
-    ensures same { search.new ≡ search.old }
-    ensures found { OnOk result (Adds subject.now (hidden_reads subject.now entry.now.number)
-        found.old.items found.new.items) }
+    requires tables { ArePathTables tables.now }
+    requires entry { IsEntry tables.now.subject.now entry.now }
+    requires search { search.old ≡ record { rows = tables.now.rows; start = entry.now.number } }
+    ensures { OnOk result (Adds tables.now.subject.now
+        (hidden_reads tables.now.subject.now entry.now.number) found.old found.new) }
 {
+    let subject = tables.subject;
     let mut passed = 0;
     for place in 0..subject.count_of_reads(entry.number) {
         let file = subject.read(entry, place);
-        note_hidden_read(
+        let read = FileRead {
             subject,
-            ends,
-            search,
-            &mut passed,
-            entry,
-            &file,
-            names,
-            found,
-        )?;
+            entry: &*entry,
+            file,
+        };
+        note_hidden_read(&read, &tables.ends, search, &mut passed, found)?;
     }
     Ok(())
 }
@@ -105,42 +93,42 @@ fn note_hidden_reads(
 /// Adds the finding `Stale` for each stale read of a file that the recipe doesn't write. It makes
 /// one search, and none if the recipe reads nothing.
 fn search_hidden(
-    subject: &Subject<'_>,
-    ends: &EndTables<'_>,
-    rows: &Groups,
+    tables: &PathTables<'_>,
     entry: &NodeRow<'_>,
-    names: &mut FileNames,
-    found: &mut Vec<Finding>,
+    found: &mut FindingList,
 ) -> Result<(), AllocError>
-    requires entry { IsEntry subject.now entry.now }
-    requires ends { AreEnds subject.now ends.now.needed.items
-        ends.now.always.items }
-    requires rows { (t : ℕ) → successors rows.now t ≡ carried subject.now t }
-    ensures found { OnOk result (Adds subject.now (hidden_reads subject.now entry.now.number)
-        found.old.items found.new.items) }
+    requires tables { ArePathTables tables.now }
+    requires entry { IsEntry tables.now.subject.now entry.now }
+    ensures { OnOk result (Adds tables.now.subject.now
+        (hidden_reads tables.now.subject.now entry.now.number) found.old found.new) }
 {
+    let subject = tables.subject;
     if subject.count_of_reads(entry.number) == 0 {
         return Ok(());
     }
-    let mut search = Search::new(*found.allocator(), rows, entry.number)?;
-    note_hidden_reads(subject, ends, &mut search, entry, names, found)
+    let mut search = Search::new(found.allocator(), &tables.rows, entry.number)?;
+    note_hidden_reads(tables, &mut search, entry, found)
 }
 
 /// Adds the finding `Stale` for each stale read of a file that its recipe doesn't write.
 fn note_all_hidden(
     alloc: Global,
     subject: &Subject<'_>,
-    found: &mut Vec<Finding>,
+    found: &mut FindingList,
 ) -> Result<(), AllocError>
     ensures { OnOk result (Adds subject.now (by_node subject.now (hidden_reads subject.now))
-        found.old.items found.new.items) }
+        found.old found.new) }
 {
     let ends = end_tables_of(alloc, subject)?;
     let rows = carried_lists(alloc, subject)?;
-    let mut names = FileNames::new(alloc);
+    let tables = PathTables {
+        subject,
+        ends,
+        rows,
+    };
     let entries = subject.entries();
     for entry in entries {
-        search_hidden(subject, &ends, &rows, entry, &mut names, found)?;
+        search_hidden(&tables, entry, found)?;
     }
     Ok(())
 }
@@ -151,7 +139,8 @@ fn note_all_hidden(
 pub fn hidden_findings(alloc: Global, subject: &Subject<'_>) -> Result<Vec<Finding>, AllocError>
     ensures { IfOk result (λ found. AreHidden subject.now found.items) }
 {
-    let mut found = races(alloc, subject)?;
+    let mut found = FindingList::new(alloc);
+    note_races(subject, &mut found)?;
     note_all_hidden(alloc, subject, &mut found)?;
-    Ok(found)
+    Ok(found.into_findings())
 }

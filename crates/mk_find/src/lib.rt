@@ -5,8 +5,10 @@
 mod certifying;
 mod file_findings;
 mod file_names;
+mod file_read;
 mod finding;
 pub mod finding_laws;
+mod finding_list;
 mod first;
 mod first_path;
 mod found;
@@ -16,6 +18,7 @@ mod node_check;
 mod node_findings;
 mod nothing_found;
 mod pairs;
+mod path_tables;
 mod race_findings;
 mod read_status;
 mod stale_findings;

@@ -7,14 +7,13 @@ ghost use Rattle.mk_find.specs.Listed.{Adds};
 ghost use Rattle.mk_find.specs.NodeChecks.{candidates_of_check};
 
 use crate::file_findings::{note_given_written, note_own_reads, note_unknown_reads};
-use crate::file_names::FileNames;
-use crate::finding::Finding;
+use crate::finding_list::FindingList;
 use crate::node_findings::{
     note_no_record, note_no_target, note_other_commands, note_selection, note_varying,
 };
 use crate::writer_findings::note_loose;
 use mk_subject::{NodeRow, Subject};
-use std::alloc::{AllocError, Global};
+use std::alloc::AllocError;
 
 /// A check of a single node. Each variant finds one kind of finding.
 #[derive(Clone, Copy, Debug, Drop)]
@@ -62,27 +61,25 @@ pub const AFTER_PAIRS: [NodeCheck; 5] = [
 /// Adds to `found` what `check` finds at the node. Names of files are shared through
 /// `names`. The only error is out of memory.
 pub fn run_check(
-    alloc: Global,
     subject: &Subject<'_>,
     check: NodeCheck,
     entry: &NodeRow<'_>,
-    names: &mut FileNames,
-    found: &mut Vec<Finding>,
+    found: &mut FindingList,
 ) -> Result<(), AllocError>
     requires { IsEntry subject.now entry.now }
     ensures { OnOk result
         (Adds subject.now (candidates_of_check subject.now check entry.now.number)
-        found.old.items found.new.items) }
+        found.old found.new) }
 {
     match check {
         NodeCheck::Record => note_no_record(entry, found),
         NodeCheck::Commands => note_other_commands(entry, found),
         NodeCheck::Varying => note_varying(entry, found),
         NodeCheck::Target => note_no_target(entry, found),
-        NodeCheck::Given => note_given_written(alloc, subject, entry, names, found),
-        NodeCheck::Own => note_own_reads(alloc, subject, entry, names, found),
-        NodeCheck::Unknown => note_unknown_reads(alloc, subject, entry, names, found),
-        NodeCheck::Loose => note_loose(subject, entry, names, found),
+        NodeCheck::Given => note_given_written(subject, entry, found),
+        NodeCheck::Own => note_own_reads(subject, entry, found),
+        NodeCheck::Unknown => note_unknown_reads(subject, entry, found),
+        NodeCheck::Loose => note_loose(subject, entry, found),
         NodeCheck::Choice => note_selection(entry, found),
     }
 }
@@ -90,19 +87,17 @@ pub fn run_check(
 /// Adds to `found` what `check` finds at all nodes, in the serial order. The only
 /// error is out of memory.
 pub fn run_check_on_all(
-    alloc: Global,
     subject: &Subject<'_>,
     check: NodeCheck,
-    found: &mut Vec<Finding>,
+    found: &mut FindingList,
 ) -> Result<(), AllocError>
     ensures { OnOk result
         (Adds subject.now (by_node subject.now (candidates_of_check subject.now check))
-        found.old.items found.new.items) }
+        found.old found.new) }
 {
-    let mut names = FileNames::new(alloc);
     let entries = subject.entries();
     for entry in entries {
-        run_check(alloc, subject, check, entry, &mut names, found)?;
+        run_check(subject, check, entry, found)?;
     }
     Ok(())
 }

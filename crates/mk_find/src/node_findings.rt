@@ -7,8 +7,8 @@ ghost use Rattle.mk_subject.specs.NodeRow.{IsEntry};
 ghost use Rattle.mk_find.specs.Listed.{Adds};
 ghost use Rattle.mk_find.specs.Tests.{lacks_record, has_varying, has_other_commands};
 
-use crate::file_names::shared_name;
 use crate::finding::Finding;
+use crate::finding_list::FindingList;
 use mk_subject::{NodeRow, SharedName};
 use std::alloc::AllocError;
 
@@ -21,9 +21,9 @@ fn lacks_record(entry: &NodeRow<'_>) -> bool
 
 /// Adds the finding `NoRecord`, if the node's recipe has no record. The only error is out of
 /// memory.
-pub fn note_no_record(entry: &NodeRow<'_>, found: &mut Vec<Finding>) -> Result<(), AllocError>
+pub fn note_no_record(entry: &NodeRow<'_>, found: &mut FindingList) -> Result<(), AllocError>
     ensures { OnOk result ((x : Subject) → IsEntry x entry.now →
-        Adds x (no_record entry.now.number ∷ []) found.old.items found.new.items) }
+        Adds x (no_record entry.now.number ∷ []) found.old found.new) }
 {
     if !lacks_record(entry) {
         return Ok(());
@@ -41,9 +41,9 @@ fn has_varying(entry: &NodeRow<'_>) -> bool
 }
 
 /// Adds the finding `VaryingCommands`, if the commands vary. The only error is out of memory.
-pub fn note_varying(entry: &NodeRow<'_>, found: &mut Vec<Finding>) -> Result<(), AllocError>
+pub fn note_varying(entry: &NodeRow<'_>, found: &mut FindingList) -> Result<(), AllocError>
     ensures { OnOk result ((x : Subject) → IsEntry x entry.now →
-        Adds x (varying_commands entry.now.number ∷ []) found.old.items found.new.items) }
+        Adds x (varying_commands entry.now.number ∷ []) found.old found.new) }
 {
     if !has_varying(entry) {
         return Ok(());
@@ -55,9 +55,9 @@ pub fn note_varying(entry: &NodeRow<'_>, found: &mut Vec<Finding>) -> Result<(),
 
 /// Adds the finding `NoTarget`, if the recipe doesn't write the target that it should. The only
 /// error is out of memory.
-pub fn note_no_target(entry: &NodeRow<'_>, found: &mut Vec<Finding>) -> Result<(), AllocError>
+pub fn note_no_target(entry: &NodeRow<'_>, found: &mut FindingList) -> Result<(), AllocError>
     ensures { OnOk result ((x : Subject) → IsEntry x entry.now →
-        Adds x (no_target entry.now.number ∷ []) found.old.items found.new.items) }
+        Adds x (no_target entry.now.number ∷ []) found.old found.new) }
 {
     if !entry.unwritten {
         return Ok(());
@@ -76,9 +76,9 @@ fn has_other_commands(entry: &NodeRow<'_>) -> bool
 
 /// Adds the finding `OtherCommands`, if the record has other commands than the recipe. The only
 /// error is out of memory.
-pub fn note_other_commands(entry: &NodeRow<'_>, found: &mut Vec<Finding>) -> Result<(), AllocError>
+pub fn note_other_commands(entry: &NodeRow<'_>, found: &mut FindingList) -> Result<(), AllocError>
     ensures { OnOk result ((x : Subject) → IsEntry x entry.now →
-        Adds x (other_commands entry.now.number ∷ []) found.old.items found.new.items) }
+        Adds x (other_commands entry.now.number ∷ []) found.old found.new) }
 {
     if !has_other_commands(entry) {
         return Ok(());
@@ -100,10 +100,10 @@ fn is_choice(chosen: &Option<SharedName>, name: &SharedName) -> bool
 
 /// Adds the finding `Selection`, if the node gets another inferred prerequisite once all recipes
 /// have written their files. The only error is out of memory.
-pub fn note_selection(entry: &NodeRow<'_>, found: &mut Vec<Finding>) -> Result<(), AllocError>
+pub fn note_selection(entry: &NodeRow<'_>, found: &mut FindingList) -> Result<(), AllocError>
     ensures { OnOk result ((x : Subject) → IsEntry x entry.now →
         Adds x (map (λ c. selection entry.now.number c) (choice_with_writes x entry.now.number))
-        found.old.items found.new.items) }
+        found.old found.new) }
 {
     let Some(after) = &entry.chosen_after else {
         return Ok(());
@@ -111,7 +111,7 @@ pub fn note_selection(entry: &NodeRow<'_>, found: &mut Vec<Finding>) -> Result<(
     if is_choice(&entry.chosen, after) {
         return Ok(());
     }
-    let name = shared_name(*found.allocator(), entry, found)?;
+    let name = found.name_of_node(entry)?;
     let chosen = after.clone()?;
     found.push(Finding::Selection { name, chosen })?;
     Ok(())

@@ -7,8 +7,7 @@ ghost use Rattle.mk_find.specs.Listed.{Adds};
 ghost use Rattle.mk_find.specs.Listing.{Lists};
 ghost use Rattle.mk_find.specs.NodeChecks.{candidates_of_node, found_of};
 
-use crate::file_names::FileNames;
-use crate::finding::Finding;
+use crate::finding_list::FindingList;
 use crate::node_check::{AFTER_PAIRS, BEFORE_PAIRS, NodeCheck, run_check};
 use crate::pairs::note_files;
 use mk_graph::laws::serial_reaches_each_once;
@@ -17,20 +16,18 @@ use std::alloc::{AllocError, Global};
 
 /// Adds what these checks find at a node.
 fn run_checks_on(
-    alloc: Global,
     subject: &Subject<'_>,
     checks: &[NodeCheck],
     entry: &NodeRow<'_>,
-    found: &mut Vec<Finding>,
+    found: &mut FindingList,
 ) -> Result<(), AllocError>
     requires { IsEntry subject.now entry.now }
     ensures { OnOk result (Adds subject.now
-        (candidates_of_node subject.now checks.now entry.now.number) found.old.items
-        found.new.items) }
+        (candidates_of_node subject.now checks.now entry.now.number) found.old
+        found.new) }
 {
-    let mut names = FileNames::new(alloc);
     for check in checks {
-        run_check(alloc, subject, *check, entry, &mut names, found)?;
+        run_check(subject, *check, entry, found)?;
     }
     Ok(())
 }
@@ -45,11 +42,10 @@ fn finds_nothing_of(
     ensures { IfOk result (λ nothing. (nothing ≡ true) ↔
         Lists subject.now (found_of subject.now entry.now.number) []) }
 {
-    let mut found = Vec::new(alloc);
-    run_checks_on(alloc, subject, &BEFORE_PAIRS, entry, &mut found)?;
-    let mut names = FileNames::new(alloc);
-    note_files(alloc, subject, entry, &mut names, &mut found)?;
-    run_checks_on(alloc, subject, &AFTER_PAIRS, entry, &mut found)?;
+    let mut found = FindingList::new(alloc);
+    run_checks_on(subject, &BEFORE_PAIRS, entry, &mut found)?;
+    note_files(subject, entry, &mut found)?;
+    run_checks_on(subject, &AFTER_PAIRS, entry, &mut found)?;
     Ok(found.is_empty())
 }
 

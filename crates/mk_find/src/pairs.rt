@@ -11,30 +11,28 @@ ghost use Rattle.mk_find.specs.NodeChecks.{behind, pairs_with};
 ghost use Rattle.mk_find.specs.Listed.{Adds};
 ghost use Rattle.mk_subject.specs.Target.{target_of};
 
-use crate::file_names::{FileNames, shared_name};
 use crate::finding::Finding;
+use crate::finding_list::FindingList;
 use mk_graph::laws::serial_reaches_each_once;
 use mk_subject::{NodeRow, Subject, Target};
-use std::alloc::{AllocError, Global};
+use std::alloc::AllocError;
 
 /// Adds the finding `TwoWriters` of this recipe and `other`.
 fn note_pair(
-    alloc: Global,
     subject: &Subject<'_>,
     entry: &NodeRow<'_>,
     other: usize,
     file: &Target<'_>,
-    names: &mut FileNames,
-    found: &mut Vec<Finding>,
+    found: &mut FindingList,
 ) -> Result<(), AllocError>
     requires entry { IsEntry subject.now entry.now }
     requires written { AreTwoWriters subject.now entry.now.number other file.now.file }
     ensures { OnOk result (Adds subject.now (two_writers entry.now.number other file.now.file ∷ [])
-        found.old.items found.new.items) }
+        found.old found.new) }
 {
-    let first = shared_name(alloc, entry, found)?;
-    let second = names.name_of(alloc, &subject.file_of_node(other))?;
-    let file = names.name_of(alloc, file)?;
+    let first = found.name_of_node(entry)?;
+    let second = found.name_of(&subject.file_of_node(other))?;
+    let file = found.name_of(file)?;
     found.push(Finding::TwoWriters {
         first,
         second,
@@ -45,23 +43,21 @@ fn note_pair(
 
 /// Adds the finding `TwoWriters` of this recipe with each of `others`.
 fn note_pairs_with(
-    alloc: Global,
     subject: &Subject<'_>,
     entry: &NodeRow<'_>,
     others: &[usize],
     file: &Target<'_>,
-    names: &mut FileNames,
-    found: &mut Vec<Finding>,
+    found: &mut FindingList,
 ) -> Result<(), AllocError>
     requires entry { IsEntry subject.now entry.now }
     requires written { (t : ℕ) → Has others.now t →
         AreTwoWriters subject.now entry.now.number t file.now.file }
     ensures { OnOk result (Adds subject.now
         (map (λ t. two_writers entry.now.number t file.now.file) others.now)
-        found.old.items found.new.items) }
+        found.old found.new) }
 {
     for other in others {
-        note_pair(alloc, subject, entry, *other, file, names, found)?;
+        note_pair(subject, entry, *other, file, found)?;
     }
     Ok(())
 }
@@ -81,12 +77,10 @@ fn behind(number: usize, numbers: &[usize]) -> &[usize]
 /// Adds the finding `TwoWriters` of this recipe with each later one in the serial order that writes
 /// the file.
 fn note_file(
-    alloc: Global,
     subject: &Subject<'_>,
     entry: &NodeRow<'_>,
     file: &Target<'_>,
-    names: &mut FileNames,
-    found: &mut Vec<Finding>,
+    found: &mut FindingList,
 ) -> Result<(), AllocError>
     requires entry { IsEntry subject.now entry.now }
     requires file { file.now ≡ target_of subject.now file.now.file }
@@ -94,51 +88,44 @@ fn note_file(
     ensures { OnOk result (Adds subject.now
         (map (λ t. two_writers entry.now.number t file.now.file)
         (behind entry.now.number (serial_order subject.now.graph)))
-        found.old.items found.new.items) }
+        found.old found.new) }
 {
     serial_reaches_each_once();
     let _graph = subject.graph();
     let writers = file.writers();
     let others = behind(entry.number, writers);
-    note_pairs_with(alloc, subject, entry, others, file, names, found)
+    note_pairs_with(subject, entry, others, file, found)
 }
 
 /// Adds the finding `TwoWriters` for each file of this recipe and each later recipe in the serial
 /// order that writes it too. The only error is out of memory.
 pub fn note_files(
-    alloc: Global,
     subject: &Subject<'_>,
     entry: &NodeRow<'_>,
-    names: &mut FileNames,
-    found: &mut Vec<Finding>,
+    found: &mut FindingList,
 ) -> Result<(), AllocError>
     requires { IsEntry subject.now entry.now }
     ensures { OnOk result (Adds subject.now (pairs_with subject.now entry.now.number)
-        found.old.items found.new.items) }
+        found.old found.new) }
 {
     for place in 0..subject.count_of_written(entry.number) {
         let file = subject.written(entry.number, place);
-        note_file(alloc, subject, entry, &file, names, found)?;
+        note_file(subject, entry, &file, found)?;
     }
     Ok(())
 }
 
 /// Adds the finding `TwoWriters` for all pairs of recipes. The only error is out of memory.
-pub fn note_pairs(
-    alloc: Global,
-    subject: &Subject<'_>,
-    found: &mut Vec<Finding>,
-) -> Result<(), AllocError>
+pub fn note_pairs(subject: &Subject<'_>, found: &mut FindingList) -> Result<(), AllocError>
     ensures { OnOk result (Adds subject.now
         (pairs_of_writers subject.now (serial_order subject.now.graph))
-        found.old.items found.new.items) }
+        found.old found.new) }
 {
     serial_reaches_each_once();
     let _graph = subject.graph();
-    let mut names = FileNames::new(alloc);
     let entries = subject.entries();
     for entry in entries {
-        note_files(alloc, subject, entry, &mut names, found)?;
+        note_files(subject, entry, found)?;
     }
     Ok(())
 }

@@ -9,44 +9,42 @@ ghost use Rattle.mk_subject.specs.Subject.{reads_of, writes_of};
 ghost use Rattle.mk_find.specs.Candidates.{race, race_candidates};
 ghost use Rattle.mk_subject.specs.NodeRow.{IsEntry};
 ghost use Rattle.mk_find.specs.Listed.{Adds};
-ghost use Rattle.mk_subject.specs.Target.{target_of};
+ghost use Rattle.mk_find.specs.FileRead.{IsRead};
 
-use crate::file_names::{FileNames, shared_name};
+use crate::file_read::FileRead;
 use crate::finding::Finding;
+use crate::finding_list::FindingList;
 use crate::happens_before::HappensBefore;
-use mk_subject::{NodeRow, Subject, Target};
+use mk_subject::{NodeRow, Subject};
 use std::alloc::{AllocError, Global};
 
-/// Adds the finding `Race`, if the writer `other` doesn't happen before this recipe.
+/// Adds the finding `Race`, if the writer `other` doesn't happen before the recipe of this read.
 fn note_race(
-    subject: &Subject<'_>,
+    read: &FileRead<'_, '_>,
     earlier: &mut HappensBefore<'_>,
-    entry: &NodeRow<'_>,
     other: usize,
-    file: &Target<'_>,
-    names: &mut FileNames,
-    found: &mut Vec<Finding>,
+    found: &mut FindingList,
 ) -> Result<(), AllocError>
-    requires entry { IsEntry subject.now entry.now }
-    requires graph { earlier.old.graph ≡ subject.now.graph }
-    requires number { earlier.old.number ≡ entry.now.number }
-    requires read { Has (reads_of subject.now entry.now.number) file.now.file }
-    requires written { Has (writes_of subject.now other) file.now.file }
+    requires read { IsRead read.now }
+    requires graph { earlier.old.graph ≡ read.now.subject.now.graph }
+    requires number { earlier.old.number ≡ read.now.entry.now.number }
+    requires written { Has (writes_of read.now.subject.now other) read.now.file.file }
     ensures same { earlier.new ≡ earlier.old }
-    ensures found { OnOk result (Adds subject.now (race entry.now.number other file.now.file ∷ [])
-        found.old.items found.new.items) }
+    ensures found { OnOk result (Adds read.now.subject.now
+        (race read.now.entry.now.number other read.now.file.file ∷ []) found.old found.new) }
 {
+    let subject = read.subject;
+    let entry = read.entry;
     if other == entry.number {
         return Ok(());
     }
-    let alloc = *found.allocator();
-    let before = earlier.has(alloc, other)?;
+    let before = earlier.has(found.allocator(), other)?;
     if before {
         return Ok(());
     }
-    let recipe = shared_name(alloc, entry, found)?;
-    let writer = names.name_of(alloc, &subject.file_of_node(other))?;
-    let file = names.name_of(alloc, file)?;
+    let recipe = found.name_of_node(entry)?;
+    let writer = found.name_of(&subject.file_of_node(other))?;
+    let file = found.name_of(&read.file)?;
     found.push(Finding::Race {
         recipe,
         writer,
@@ -55,100 +53,89 @@ fn note_race(
     Ok(())
 }
 
-/// Adds the finding `Race` for each of these writers of the file that doesn't happen before this
-/// recipe.
+/// Adds the finding `Race` for each of these writers of the file that doesn't happen before the
+/// recipe of this read.
 fn note_races_with(
-    subject: &Subject<'_>,
+    read: &FileRead<'_, '_>,
     earlier: &mut HappensBefore<'_>,
-    entry: &NodeRow<'_>,
     writers: &[usize],
-    file: &Target<'_>,
-    names: &mut FileNames,
-    found: &mut Vec<Finding>,
+    found: &mut FindingList,
 ) -> Result<(), AllocError>
-    requires entry { IsEntry subject.now entry.now }
-    requires graph { earlier.old.graph ≡ subject.now.graph }
-    requires number { earlier.old.number ≡ entry.now.number }
-    requires read { Has (reads_of subject.now entry.now.number) file.now.file }
-    requires written { (o : ℕ) → Has writers.now o → Has (writes_of subject.now o) file.now.file }
+    requires read { IsRead read.now }
+    requires graph { earlier.old.graph ≡ read.now.subject.now.graph }
+    requires number { earlier.old.number ≡ read.now.entry.now.number }
+    requires written { (o : ℕ) → Has writers.now o →
+        Has (writes_of read.now.subject.now o) read.now.file.file }
     ensures same { earlier.new ≡ earlier.old }
-    ensures found { OnOk result (Adds subject.now
-        (map (λ o. race entry.now.number o file.now.file) writers.now)
-        found.old.items found.new.items) }
+    ensures found { OnOk result (Adds read.now.subject.now
+        (map (λ o. race read.now.entry.now.number o read.now.file.file) writers.now)
+        found.old found.new) }
 {
     for writer in writers {
-        note_race(subject, earlier, entry, *writer, file, names, found)?;
+        note_race(read, earlier, *writer, found)?;
     }
     Ok(())
 }
 
-/// Adds the finding `Race` for each writer of the file that doesn't happen before this recipe. Most
-/// files have no writers, and then the order isn't queried.
+/// Adds the finding `Race` for each writer of the file that doesn't happen before the recipe of
+/// this read. Most files have no writers, and then the order isn't queried.
 fn note_file(
-    alloc: Global,
-    subject: &Subject<'_>,
+    read: &FileRead<'_, '_>,
     earlier: &mut HappensBefore<'_>,
-    entry: &NodeRow<'_>,
-    file: &Target<'_>,
-    names: &mut FileNames,
-    found: &mut Vec<Finding>,
+    found: &mut FindingList,
 ) -> Result<(), AllocError>
-    requires entry { IsEntry subject.now entry.now }
-    requires file { file.now ≡ target_of subject.now file.now.file }
-    requires read { Has (reads_of subject.now entry.now.number) file.now.file }
-    requires graph { earlier.old.graph ≡ subject.now.graph }
+    requires read { IsRead read.now }
+    requires graph { earlier.old.graph ≡ read.now.subject.now.graph }
     ensures graph { earlier.new.graph ≡ earlier.old.graph }
-    ensures found { OnOk result (Adds subject.now
-        (map (λ o. race entry.now.number o file.now.file) (serial_order subject.now.graph))
-        found.old.items found.new.items) }
+    ensures found { OnOk result (Adds read.now.subject.now
+        (map (λ o. race read.now.entry.now.number o read.now.file.file)
+        (serial_order read.now.subject.now.graph)) found.old found.new) }
 {
-    let writers = file.writers();
+    let writers = read.file.writers();
     if writers.is_empty() {
         return Ok(());
     }
-    earlier.turn_to(alloc, entry.number)?;
-    note_races_with(subject, earlier, entry, writers, file, names, found)
+    let entry = read.entry;
+    earlier.turn_to(found.allocator(), entry.number)?;
+    note_races_with(read, earlier, writers, found)
 }
 
 /// Adds the finding `Race` for each file that this recipe reads and each writer of it that doesn't
 /// happen before this recipe.
 fn note_files(
-    alloc: Global,
     subject: &Subject<'_>,
     earlier: &mut HappensBefore<'_>,
     entry: &NodeRow<'_>,
-    names: &mut FileNames,
-    found: &mut Vec<Finding>,
+    found: &mut FindingList,
 ) -> Result<(), AllocError>
     requires entry { IsEntry subject.now entry.now }
     requires graph { earlier.old.graph ≡ subject.now.graph }
     ensures graph { earlier.new.graph ≡ earlier.old.graph }
     ensures found { OnOk result (Adds subject.now
         (flat_map (λ f. map (λ o. race entry.now.number o f) (serial_order subject.now.graph))
-        (reads_of subject.now entry.now.number)) found.old.items found.new.items) }
+        (reads_of subject.now entry.now.number)) found.old found.new) }
 {
     for place in 0..subject.count_of_unsettled(entry.number) {
         let file = subject.unsettled(entry.number, place);
-        note_file(alloc, subject, earlier, entry, &file, names, found)?;
+        let read = FileRead {
+            subject: &*subject,
+            entry: &*entry,
+            file,
+        };
+        note_file(&read, earlier, found)?;
     }
     Ok(())
 }
 
-/// Adds all races.
-fn note_races(
-    alloc: Global,
-    subject: &Subject<'_>,
-    earlier: &mut HappensBefore<'_>,
-    found: &mut Vec<Finding>,
-) -> Result<(), AllocError>
-    requires { earlier.old.graph ≡ subject.now.graph }
-    ensures { OnOk result (Adds subject.now (race_candidates subject.now)
-        found.old.items found.new.items) }
+/// Adds all races. The order of the whole graph is computed at most once, and only if some writer
+/// isn't a direct prerequisite of its reader. The only error is out of memory.
+pub fn note_races(subject: &Subject<'_>, found: &mut FindingList) -> Result<(), AllocError>
+    ensures { OnOk result (Adds subject.now (race_candidates subject.now) found.old found.new) }
 {
-    let mut names = FileNames::new(alloc);
+    let mut earlier = HappensBefore::new(subject.graph());
     let entries = subject.entries();
     for entry in entries {
-        note_files(alloc, subject, earlier, entry, &mut names, found)?;
+        note_files(subject, &mut earlier, entry, found)?;
     }
     Ok(())
 }
@@ -161,8 +148,7 @@ pub fn races(alloc: Global, subject: &Subject<'_>) -> Result<Vec<Finding>, Alloc
     ensures { IfOk result (λ found. Adds subject.now (race_candidates subject.now) []
         found.items) }
 {
-    let mut found = Vec::new(alloc);
-    let mut earlier = HappensBefore::new(subject.graph());
-    note_races(alloc, subject, &mut earlier, &mut found)?;
-    Ok(found)
+    let mut found = FindingList::new(alloc);
+    note_races(subject, &mut found)?;
+    Ok(found.into_findings())
 }

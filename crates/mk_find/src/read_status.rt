@@ -14,7 +14,7 @@ use crate::first_path::{FirstPath, first_path};
 use mk_graph_search::Search;
 use mk_subject::laws::paths_are_ways;
 use mk_subject::{EndTables, Subject, Target};
-use std::alloc::{AllocError, Global};
+use std::alloc::AllocError;
 
 /// Whether a read needs a way and has one.
 #[derive(Debug, Drop)]
@@ -30,7 +30,6 @@ pub(crate) enum ReadStatus {
 /// Judges the read of `file` by the recipe at the start of `search`, which must not write it;
 /// `passed` is as for `first_path`. The only error is out of memory.
 pub(crate) fn read_status_of(
-    alloc: Global,
     subject: &Subject<'_>,
     ends: &EndTables<'_>,
     search: &mut Search<'_>,
@@ -54,7 +53,7 @@ pub(crate) fn read_status_of(
     if !file.can_change(subject) {
         return Ok(ReadStatus::Fixed);
     }
-    match first_path(alloc, subject, ends, search, passed, file)? {
+    match first_path(subject, ends, search, passed, file)? {
         Some(path) => Ok(ReadStatus::HasWay(path)),
         None => Ok(ReadStatus::Stale),
     }

@@ -10,6 +10,7 @@ ghost use Rattle.mk_find.specs.NodeChecks.{candidates_before_pairs, candidates_a
 
 use crate::finding::Finding;
 use crate::finding_laws::nothing_found_is_selected;
+use crate::finding_list::FindingList;
 use crate::node_check::{AFTER_PAIRS, BEFORE_PAIRS, NodeCheck, run_check_on_all};
 use crate::nothing_found::finds_nothing;
 use crate::pairs::note_pairs;
@@ -18,16 +19,15 @@ use std::alloc::{AllocError, Global};
 
 /// Adds what these checks find at all nodes, one check after another.
 fn run_checks_on_all(
-    alloc: Global,
     subject: &Subject<'_>,
     checks: &[NodeCheck],
-    found: &mut Vec<Finding>,
+    found: &mut FindingList,
 ) -> Result<(), AllocError>
     ensures { OnOk result (Adds subject.now (candidates_of_checks subject.now checks.now)
-        found.old.items found.new.items) }
+        found.old found.new) }
 {
     for check in checks {
-        run_check_on_all(alloc, subject, *check, found)?;
+        run_check_on_all(subject, *check, found)?;
     }
     Ok(())
 }
@@ -35,27 +35,25 @@ fn run_checks_on_all(
 /// Adds the findings of the checks that come before pairs of writers. The only error is out of
 /// memory.
 pub fn run_checks_before_pairs(
-    alloc: Global,
     subject: &Subject<'_>,
-    found: &mut Vec<Finding>,
+    found: &mut FindingList,
 ) -> Result<(), AllocError>
     ensures { OnOk result (Adds subject.now (candidates_before_pairs subject.now)
-        found.old.items found.new.items) }
+        found.old found.new) }
 {
-    run_checks_on_all(alloc, subject, &BEFORE_PAIRS, found)
+    run_checks_on_all(subject, &BEFORE_PAIRS, found)
 }
 
 /// Adds the findings of the checks that come after pairs of writers. The only error is out of
 /// memory.
 pub fn run_checks_after_pairs(
-    alloc: Global,
     subject: &Subject<'_>,
-    found: &mut Vec<Finding>,
+    found: &mut FindingList,
 ) -> Result<(), AllocError>
     ensures { OnOk result (Adds subject.now (candidates_after_pairs subject.now)
-        found.old.items found.new.items) }
+        found.old found.new) }
 {
-    run_checks_on_all(alloc, subject, &AFTER_PAIRS, found)
+    run_checks_on_all(subject, &AFTER_PAIRS, found)
 }
 
 /// All findings except races and stale reads, which need the order or ways. They come in the order
@@ -76,12 +74,12 @@ pub fn static_findings(alloc: Global, subject: &Subject<'_>) -> Result<Vec<Findi
 {
     nothing_found_is_selected();
     let _graph = subject.graph();
-    let mut found = Vec::new(alloc);
+    let mut found = FindingList::new(alloc);
     if finds_nothing(alloc, subject)? {
-        return Ok(found);
+        return Ok(found.into_findings());
     }
-    run_checks_before_pairs(alloc, subject, &mut found)?;
-    note_pairs(alloc, subject, &mut found)?;
-    run_checks_after_pairs(alloc, subject, &mut found)?;
-    Ok(found)
+    run_checks_before_pairs(subject, &mut found)?;
+    note_pairs(subject, &mut found)?;
+    run_checks_after_pairs(subject, &mut found)?;
+    Ok(found.into_findings())
 }

@@ -8,8 +8,8 @@ ghost use Rattle.mk_find.specs.Candidates.{loose};
 ghost use Rattle.mk_subject.specs.NodeRow.{IsEntry, writers_of};
 ghost use Rattle.mk_find.specs.Listed.{Adds};
 
-use crate::file_names::{FileNames, shared_name};
 use crate::finding::Finding;
+use crate::finding_list::FindingList;
 use mk_subject::{NodeRow, Subject, has_number};
 use std::alloc::AllocError;
 
@@ -18,21 +18,19 @@ fn note_loose_writer(
     subject: &Subject<'_>,
     entry: &NodeRow<'_>,
     writer: usize,
-    names: &mut FileNames,
-    found: &mut Vec<Finding>,
+    found: &mut FindingList,
 ) -> Result<(), AllocError>
     requires entry { IsEntry subject.now entry.now }
     requires bare { entry.now.node.recipe ≡ false }
     requires written { Has (writes_of subject.now writer) (name_of subject.now entry.now.number) }
     ensures { OnOk result (Adds subject.now (loose entry.now.number writer ∷ [])
-        found.old.items found.new.items) }
+        found.old found.new) }
 {
     if has_number(subject.graph().prerequisites(entry.number), writer) {
         return Ok(());
     }
-    let alloc = *found.allocator();
-    let name = shared_name(alloc, entry, found)?;
-    let writer = names.name_of(alloc, &subject.file_of_node(writer))?;
+    let name = found.name_of_node(entry)?;
+    let writer = found.name_of(&subject.file_of_node(writer))?;
     found.push(Finding::Loose { name, writer })?;
     Ok(())
 }
@@ -43,18 +41,17 @@ fn note_loose_writers(
     subject: &Subject<'_>,
     entry: &NodeRow<'_>,
     writers: &[usize],
-    names: &mut FileNames,
-    found: &mut Vec<Finding>,
+    found: &mut FindingList,
 ) -> Result<(), AllocError>
     requires entry { IsEntry subject.now entry.now }
     requires bare { entry.now.node.recipe ≡ false }
     requires written { (o : ℕ) → Has writers.now o →
         Has (writes_of subject.now o) (name_of subject.now entry.now.number) }
     ensures { OnOk result (Adds subject.now
-        (map (λ o. loose entry.now.number o) writers.now) found.old.items found.new.items) }
+        (map (λ o. loose entry.now.number o) writers.now) found.old found.new) }
 {
     for writer in writers {
-        note_loose_writer(subject, entry, *writer, names, found)?;
+        note_loose_writer(subject, entry, *writer, found)?;
     }
     Ok(())
 }
@@ -76,17 +73,16 @@ fn writers_for<'s>(subject: &'s Subject<'_>, entry: &NodeRow<'_>) -> &'s [usize]
 pub fn note_loose(
     subject: &Subject<'_>,
     entry: &NodeRow<'_>,
-    names: &mut FileNames,
-    found: &mut Vec<Finding>,
+    found: &mut FindingList,
 ) -> Result<(), AllocError>
     requires { IsEntry subject.now entry.now }
     ensures { OnOk result (Adds subject.now
         (map (λ o. loose entry.now.number o) (serial_order subject.now.graph))
-        found.old.items found.new.items) }
+        found.old found.new) }
 {
     if entry.recipe {
         return Ok(());
     }
     let writers = writers_for(subject, entry);
-    note_loose_writers(subject, entry, writers, names, found)
+    note_loose_writers(subject, entry, writers, found)
 }

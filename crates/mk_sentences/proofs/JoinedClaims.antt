@@ -5,7 +5,7 @@ use Rattle.mk_sentences.specs.Claims.{Claim, claim_view}
 use Rattle.mk_sentences.specs.declared.claim.Claim as borrowed
 use Rattle.mk_sentences.specs.Joining.{HoldsClaims, JoinsAlike, both_of, claim_eq, has_claim, is_joined, is_of_race, is_paired, is_race, is_second, is_stale, joined, joined_claim, other_of, partner, with_kind}
 use Rattle.mk_sentences.specs.declared.topic.Kind.{Kind}
-use Rattle.mk_sentences.specs.declared.topic.Kind.TheVariants.{NoRecord, OtherCommands, VaryingCommands, NoTarget, TwoWriters, GivenWritten, OwnRead, UnknownRead, UnreachedRead, Loose, OwnPrerequisite, Race, OutputRace, Stale, OutputStale, RaceAndStale, OutputRaceAndStale, Selection}
+use Rattle.mk_sentences.specs.declared.topic.Kind.TheVariants.{NoRecord, OtherCommands, VaryingCommands, NoTarget, TwoWriters, GivenWritten, OwnRead, UnknownRead, UnrecordedRead, UnreachedRead, Loose, OwnPrerequisite, Race, OutputRace, Stale, OutputStale, RaceAndStale, OutputRaceAndStale, Selection}
 use Rattle.mk_sentences.proofs.ClaimSets.{claim_decides}
 
 -- the parts of a test that fails
@@ -40,6 +40,7 @@ race_beside TwoWriters p r = absurd cc
 race_beside GivenWritten p r = absurd cc
 race_beside OwnRead p r = absurd cc
 race_beside UnknownRead p r = absurd cc
+race_beside UnrecordedRead p r = absurd cc
 race_beside UnreachedRead p r = absurd cc
 race_beside Loose p r = absurd cc
 race_beside OwnPrerequisite p r = absurd cc

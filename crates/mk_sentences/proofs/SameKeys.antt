@@ -17,7 +17,7 @@ use Rattle.mk_sentences.specs.contracts.topic.TopicPartialEq.TheImpl as topics
 use Rattle.mk_sentences.specs.contracts.grouping.RowKeyPartialEq.TheImpl as row_keys
 use Rattle.mk_sentences.specs.contracts.grouping.GroupKeyPartialEq.TheImpl as group_keys
 use Rattle.mk_sentences.specs.declared.topic.Kind.{Kind}
-use Rattle.mk_sentences.specs.declared.topic.Kind.TheVariants.{NoRecord, OtherCommands, VaryingCommands, NoTarget, TwoWriters, GivenWritten, OwnRead, UnknownRead, UnreachedRead, Loose, OwnPrerequisite, Race, OutputRace, Stale, OutputStale, RaceAndStale, OutputRaceAndStale, Selection}
+use Rattle.mk_sentences.specs.declared.topic.Kind.TheVariants.{NoRecord, OtherCommands, VaryingCommands, NoTarget, TwoWriters, GivenWritten, OwnRead, UnknownRead, UnrecordedRead, UnreachedRead, Loose, OwnPrerequisite, Race, OutputRace, Stale, OutputStale, RaceAndStale, OutputRaceAndStale, Selection}
 use Rattle.mk_sentences.specs.declared.topic.Topic.{Topic}
 use Rattle.mk_sentences.specs.declared.grouping.RowKey.{RowKey}
 use Rattle.mk_sentences.specs.declared.grouping.GroupKey.{GroupKey}
@@ -29,7 +29,7 @@ use Rattle.mk_sentences.specs.Tables.{row_key_view, group_key_view, rows_view, g
 kind_at : ℕ → Kind
 kind_at n =
     cond (n == 1) NoRecord (cond (n == 2) OtherCommands (cond (n == 3) VaryingCommands (cond (n == 4) NoTarget (cond (n == 5) TwoWriters (cond (n == 6) GivenWritten
-    (cond (n == 7) OwnRead (cond (n == 8) UnknownRead (cond (n == 9) Loose (cond (n == 10) Race (cond (n == 11) OutputRace (cond (n == 12) Stale (cond (n == 13) OutputStale (cond (n == 14) Selection (cond (n == 15) UnreachedRead (cond (n == 16) OwnPrerequisite (cond (n == 17) RaceAndStale OutputRaceAndStale))))))))))))))))
+    (cond (n == 7) OwnRead (cond (n == 8) UnknownRead (cond (n == 9) Loose (cond (n == 10) Race (cond (n == 11) OutputRace (cond (n == 12) Stale (cond (n == 13) OutputStale (cond (n == 14) Selection (cond (n == 15) UnreachedRead (cond (n == 16) OwnPrerequisite (cond (n == 17) RaceAndStale (cond (n == 18) OutputRaceAndStale UnrecordedRead)))))))))))))))))
 
 -- the number tells the kind
 at_number : (k : Kind) → kind_at (kind_number k) ≡ k
@@ -42,6 +42,7 @@ at_number TwoWriters = refl
 at_number GivenWritten = refl
 at_number OwnRead = refl
 at_number UnknownRead = refl
+at_number UnrecordedRead = refl
 at_number UnreachedRead = refl
 at_number OwnPrerequisite = refl
 at_number Loose = refl

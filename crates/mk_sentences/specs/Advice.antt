@@ -5,7 +5,7 @@ use Rattle.mk_lines.specs.Names.{has_name}
 use Rattle.mk_sentences.specs.Topics.{Topic}
 use Rattle.mk_sentences.specs.Phrases.{by, shown}
 use Rattle.mk_sentences.specs.declared.topic.Kind.{Kind}
-use Rattle.mk_sentences.specs.declared.topic.Kind.TheVariants.{NoRecord, OtherCommands, VaryingCommands, NoTarget, TwoWriters, GivenWritten, OwnRead, UnknownRead, UnreachedRead, Loose, OwnPrerequisite, Race, OutputRace, Stale, OutputStale, RaceAndStale, OutputRaceAndStale, Selection}
+use Rattle.mk_sentences.specs.declared.topic.Kind.TheVariants.{NoRecord, OtherCommands, VaryingCommands, NoTarget, TwoWriters, GivenWritten, OwnRead, UnknownRead, UnrecordedRead, UnreachedRead, Loose, OwnPrerequisite, Race, OutputRace, Stale, OutputStale, RaceAndStale, OutputRaceAndStale, Selection}
 
 -- Files whose names a makefile can't hold.
 abbrev pub rename : List (List ℕ) → List ℕ
@@ -77,12 +77,14 @@ write_rule name chosen =
     codes "write a rule with commands for " ++ (name ++ (codes ", or make " ++ (chosen ++
     codes " a target of the recipe that writes it")))
 
+-- Recipes whose records are missing or have other commands.
+abbrev pub record_again : List ℕ
+record_again = codes "record again, with the goals and macros that are checked"
+
 -- What to do about a group of this kind with these names of its topic.
 abbrev pub advice_of : Kind → (first second : List ℕ) → (who what : List (List ℕ)) → List ℕ
-advice_of NoRecord first second who what =
-    codes "record again, with the goals and macros that are checked"
-advice_of OtherCommands first second who what =
-    codes "record again, with the goals and macros that are checked"
+advice_of NoRecord first second who what = record_again
+advice_of OtherCommands first second who what = record_again
 advice_of VaryingCommands first second who what =
     codes "write $^ in place of $?, and make the whole file anew in each run"
 advice_of NoTarget first second who what =
@@ -100,6 +102,7 @@ advice_of GivenWritten first second who what = write_another what
 advice_of OwnRead first second who what =
     codes "split the recipe in two, or make each file anew from other files alone"
 advice_of UnknownRead first second who what = find_maker first second what
+advice_of UnrecordedRead first second who what = record_again
 advice_of UnreachedRead first second who what = rename what
 advice_of Loose first second who what = rename what
 advice_of OwnPrerequisite first second who what = split_writer who what

@@ -1,6 +1,10 @@
 -- What each finding says, as groups gather it.
-use Rattle.std.specs.Prelude.{ℕ, Bool, true, false, List, [], Option, None, Some, is_some, if◌then◌else◌}
+use Rattle.std.specs.Prelude.{ℕ, Bool, true, false, not, ◌&&◌, List, [], Option, None, Some, is_some, if◌then◌else◌}
 use Rattle.std.specs.Str.{bytes_eq}
+use Rattle.mk_lines.specs.Names.{number_of}
+use Rattle.mk_foot.specs.Setting.{record_for}
+use Rattle.mk_graph.specs.Graph.{node}
+use Rattle.mk_subject.specs.FileInfo.{all_names}
 use Rattle.mk_subject.specs.Subject.{Subject}
 use Rattle.mk_find.specs.declared.finding.Finding.{Finding}
 use Rattle.mk_find.specs.declared.finding.Finding.TheVariants as finding
@@ -70,12 +74,26 @@ unmade_claim recipe file (one_maker name) = about kind.UnknownRead false recipe 
 unmade_claim recipe file (two_makers first second) =
     between kind.UnknownRead first second recipe file
 
--- The claim that a recipe reads an unknown file, by the word that the finding gives and what may
--- make the file. A prerequisite that a line adds is a name of the topic.
-abbrev pub unknown_claim : (recipe file : List ℕ) → Option Word → Makers → Claim
-unknown_claim recipe file None makers = unmade_claim recipe file makers
-unknown_claim recipe file (Some (phony target)) makers = unmade_claim recipe file makers
-unknown_claim recipe file (Some (needs target prerequisite)) makers = record {
+-- The goals reach the name, and it has a recipe without a record.
+abbrev pub lacks_record : Subject → List ℕ → Bool
+lacks_record x name =
+    (node x.graph (number_of (all_names x) name)).recipe &&
+    not (is_some (record_for x.setting.records name))
+
+-- The claim that a recipe reads an unknown file that no line lets it need: by whether the file has
+-- a recipe without a record, and else by what may make it.
+abbrev pub unwritten_claim : (recipe file : List ℕ) → (lacks : Bool) → Makers → Claim
+unwritten_claim recipe file lacks makers =
+    if lacks then about kind.UnrecordedRead false recipe file else unmade_claim recipe file makers
+
+-- The claim that a recipe reads an unknown file, by the word that the finding gives, whether the
+-- file has a recipe without a record, and what may make it. A prerequisite that a line adds is a
+-- name of the topic.
+abbrev pub unknown_claim : (recipe file : List ℕ) → Option Word → (lacks : Bool) → Makers → Claim
+unknown_claim recipe file None lacks makers = unwritten_claim recipe file lacks makers
+unknown_claim recipe file (Some (phony target)) lacks makers =
+    unwritten_claim recipe file lacks makers
+unknown_claim recipe file (Some (needs target prerequisite)) lacks makers = record {
   topic = record {
     kind = kind.UnreachedRead;
     has_line = true;
@@ -99,7 +117,8 @@ claim_of x (finding.TwoWriters first second file) =
 claim_of x (finding.GivenWritten recipe file) = about kind.GivenWritten false recipe file
 claim_of x (finding.OwnRead recipe file) = about kind.OwnRead false recipe file
 claim_of x (finding.UnknownRead recipe file) =
-    unknown_claim recipe file (word_of x (finding.UnknownRead recipe file)) (makers_of x file)
+    unknown_claim recipe file (word_of x (finding.UnknownRead recipe file)) (lacks_record x file)
+    (makers_of x file)
 claim_of x (finding.Loose name writer) =
     if needs_directly x writer name then about kind.OwnPrerequisite false name writer
     else about kind.Loose (is_repaired x (finding.Loose name writer)) name writer

@@ -11,7 +11,7 @@ use Rattle.mk_sentences.specs.Claims.{Claim}
 use Rattle.mk_sentences.specs.Grouping.{Group, groups}
 use Rattle.mk_sentences.specs.Offers.{graph_with, words_of}
 use Rattle.mk_sentences.specs.Places.{names_target, rule_shown}
-use Rattle.mk_sentences.specs.Wider.{IsOver, far_names}
+use Rattle.mk_sentences.specs.Wider.{IsWidest}
 use Rattle.mk_sentences.specs.Text.{AreShown}
 
 -- The claim with this topic, name and file.
@@ -51,9 +51,9 @@ ShownWhereNamed =
     (m : Makefile) (name : List ℕ) → rule_shown m name ≡ None →
     list_any (names_target name) m.rules ≡ false
 
--- The lines that are shown close no cycle, with the graph of the goals and of the names in lines.
+-- The lines that are shown close no cycle, with the graph of the goals and of the names in lines
+-- which rules make.
 abbrev pub ShownCloseNoCycle : Type 0
 ShownCloseNoCycle =
     (x : Subject) (claims shown : List Claim) → AreShown x claims shown →
-    (w : Subject) × IsOver x (far_names x claims) w ×
-    IsFirstCycle (graph_with w (words_of shown)) None
+    (w : Subject) × IsWidest x claims w × IsFirstCycle (graph_with w (words_of shown)) None

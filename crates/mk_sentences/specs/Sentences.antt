@@ -3,7 +3,7 @@ use Rattle.std.specs.Prelude.{ℕ, List, ◌++◌, codes}
 use Rattle.mk_sentences.specs.Topics.{Topic}
 use Rattle.mk_sentences.specs.Phrases.{by, shown}
 use Rattle.mk_sentences.specs.declared.topic.Kind.{Kind}
-use Rattle.mk_sentences.specs.declared.topic.Kind.TheVariants.{NoRecord, OtherCommands, VaryingCommands, NoTarget, TwoWriters, GivenWritten, OwnRead, UnknownRead, UnreachedRead, Loose, OwnPrerequisite, Race, OutputRace, Stale, OutputStale, RaceAndStale, OutputRaceAndStale, Selection}
+use Rattle.mk_sentences.specs.declared.topic.Kind.TheVariants.{NoRecord, OtherCommands, VaryingCommands, NoTarget, TwoWriters, GivenWritten, OwnRead, UnknownRead, UnrecordedRead, UnreachedRead, Loose, OwnPrerequisite, Race, OutputRace, Stale, OutputStale, RaceAndStale, OutputRaceAndStale, Selection}
 
 -- These recipes have no record.
 abbrev pub no_record : List (List ℕ) → List ℕ
@@ -70,6 +70,14 @@ unknown_read who what =
     by what
     (codes ", which is neither a source nor written by a recipe: nothing says when it changes")
     (codes ", which are neither sources nor written by recipes: nothing says when they change")))
+
+-- These recipes read files whose recipes have no record.
+abbrev pub unrecorded_read : (who what : List (List ℕ)) → List ℕ
+unrecorded_read who what =
+    recipes_of who ++ (by who (codes " reads ") (codes " read ") ++ (shown what ++
+    by what
+    (codes ", whose recipe has no record, so nothing is known of what it writes")
+    (codes ", whose recipes have no records, so nothing is known of what they write")))
 
 -- These recipes read these files.
 unfoldable pub reads : (who what : List (List ℕ)) → List ℕ
@@ -165,6 +173,7 @@ sentence_of TwoWriters first second who what = two_writers first second who
 sentence_of GivenWritten first second who what = given_written who what
 sentence_of OwnRead first second who what = own_read who what
 sentence_of UnknownRead first second who what = unknown_read who what
+sentence_of UnrecordedRead first second who what = unrecorded_read who what
 sentence_of UnreachedRead first second who what = unreached_read first who what
 sentence_of Loose first second who what = loose who what
 sentence_of OwnPrerequisite first second who what = loose who what

@@ -2,7 +2,7 @@
 use Rattle.std.specs.Prelude.{ℕ, ◌==◌, Bool, ◌&&◌, not, List, codes, if◌then◌else◌}
 use Rattle.std.specs.Str.{bytes_eq}
 use Rattle.mk_sentences.specs.declared.topic.Kind.{Kind}
-use Rattle.mk_sentences.specs.declared.topic.Kind.TheVariants.{NoRecord, OtherCommands, VaryingCommands, NoTarget, TwoWriters, GivenWritten, OwnRead, UnknownRead, UnreachedRead, Loose, OwnPrerequisite, Race, OutputRace, Stale, OutputStale, RaceAndStale, OutputRaceAndStale, Selection}
+use Rattle.mk_sentences.specs.declared.topic.Kind.TheVariants.{NoRecord, OtherCommands, VaryingCommands, NoTarget, TwoWriters, GivenWritten, OwnRead, UnknownRead, UnrecordedRead, UnreachedRead, Loose, OwnPrerequisite, Race, OutputRace, Stale, OutputStale, RaceAndStale, OutputRaceAndStale, Selection}
 use Rattle.mk_sentences.specs.declared.topic.Topic as borrowed
 
 -- What the findings of a group have in common: their kind; whether a line of the makefile mends
@@ -44,6 +44,7 @@ kind_number UnreachedRead = 15
 kind_number OwnPrerequisite = 16
 kind_number RaceAndStale = 17
 kind_number OutputRaceAndStale = 18
+kind_number UnrecordedRead = 19
 
 -- Whether two Booleans are equal.
 abbrev pub same_bool : Bool → Bool → Bool
@@ -65,6 +66,7 @@ kind_word TwoWriters = codes "writers"
 kind_word GivenWritten = codes "given"
 kind_word OwnRead = codes "own"
 kind_word UnknownRead = codes "unknown"
+kind_word UnrecordedRead = codes "unknown"
 kind_word UnreachedRead = codes "unknown"
 kind_word Loose = codes "loose"
 kind_word OwnPrerequisite = codes "loose"

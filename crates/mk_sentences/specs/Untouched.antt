@@ -3,7 +3,7 @@ use Rattle.std.specs.Prelude.{ℕ, Bool, true, false, List, [], map, not, filter
 use Rattle.mk_lines.specs.Names.{has_name}
 use Rattle.mk_sentences.specs.Claims.{Claim}
 use Rattle.mk_sentences.specs.declared.topic.Kind.{Kind}
-use Rattle.mk_sentences.specs.declared.topic.Kind.TheVariants.{NoRecord, NoTarget, TwoWriters, GivenWritten, OwnRead, UnknownRead, UnreachedRead, Loose, OwnPrerequisite, Stale, OutputStale}
+use Rattle.mk_sentences.specs.declared.topic.Kind.TheVariants.{NoRecord, NoTarget, TwoWriters, GivenWritten, OwnRead, UnknownRead, UnrecordedRead, UnreachedRead, Loose, OwnPrerequisite, Stale, OutputStale}
 
 -- Of the two names of a claim of this kind, the file that mending it may change; empty if there is
 -- none.
@@ -16,6 +16,7 @@ file_about_of OwnPrerequisite who what = who
 file_about_of GivenWritten who what = what
 file_about_of OwnRead who what = what
 file_about_of UnknownRead who what = what
+file_about_of UnrecordedRead who what = what
 file_about_of UnreachedRead who what = what
 file_about_of kind who what = []
 

@@ -1,9 +1,10 @@
 -- The subject whose graph has the names that lines add, too.
-use Rattle.std.specs.Prelude.{◌≡◌, ℕ, false, List, [], ◌++◌, map, option_to_list, Option, None, Some, Result, Ok, Err, if◌then◌else◌}
+use Rattle.std.specs.Prelude.{◌≡◌, ℕ, Bool, false, ◌||◌, List, [], ◌++◌, filter, fold, map, option_to_list, Option, None, Some, Result, Ok, Err, if◌then◌else◌}
 use Rattle.std.specs.List.{flat_map}
-use Rattle.mk_lines.specs.Names.{has_name}
+use Rattle.mk_lines.specs.Names.{has_name, with_name}
 use Rattle.mk_graph.specs.Graph.{Graph}
 use Rattle.mk_infer.specs.Goals.{goal_names}
+use Rattle.mk_infer.specs.Inference.{choice}
 use Rattle.mk_infer.specs.Selection.{Selects}
 use Rattle.mk_infer.specs.Steps.{is_out_of_memory}
 use Rattle.mk_infer.specs.Targets.{is_target}
@@ -11,6 +12,7 @@ use Rattle.mk_infer.specs.There.{Exists}
 use Rattle.mk_infer.specs.declared.fault.InferFault.{InferFault}
 use Rattle.mk_infer.specs.declared.fault.InferFault.TheVariants.{Memory}
 use Rattle.mk_read.specs.Reading.{Makefile}
+use Rattle.mk_read.specs.Rules.{has_some}
 use Rattle.mk_repair.specs.Word.{Word, needs, phony}
 use Rattle.mk_subject.specs.FileInfo.{all_names}
 use Rattle.mk_subject.specs.NodeRow.{IsFaultOf}
@@ -18,17 +20,32 @@ use Rattle.mk_subject.specs.Subject.{Subject, name_of, subject_of}
 use Rattle.mk_sentences.specs.Claims.{Claim}
 use Rattle.mk_sentences.specs.Offers.{Offer, Settles, offer_of, word_of_claim}
 
--- The prerequisite of a line that says this word, where it is a target that the goals don't reach.
-abbrev pub far_in : Subject → Option Word → Option (List ℕ)
-far_in x None = None
-far_in x (Some (phony target)) = None
-far_in x (Some (needs target prerequisite)) =
-    if has_name (all_names x) prerequisite then None
-    else if is_target x.makefile prerequisite then Some prerequisite else None
+-- The prerequisite of a line that says this word, where the goals don't reach it.
+abbrev pub unreached_in : Subject → Option Word → Option (List ℕ)
+unreached_in x None = None
+unreached_in x (Some (phony target)) = None
+unreached_in x (Some (needs target prerequisite)) =
+    if has_name (all_names x) prerequisite then None else Some prerequisite
 
--- The prerequisites in the lines of claims that are targets which the goals don't reach.
+-- The prerequisite of a line that mends the claim, as a list, where the goals don't reach it.
+abbrev pub unreached_by : Subject → Claim → List (List ℕ)
+unreached_by x c = option_to_list (unreached_in x (word_of_claim c))
+
+-- The prerequisites in the lines of claims that the goals don't reach, each once.
+abbrev pub unreached_names : Subject → List Claim → List (List ℕ)
+unreached_names x claims = fold with_name [] (flat_map (unreached_by x) claims)
+
+-- A target rule or an inference rule makes the name.
+abbrev pub is_made : Makefile → Exists → List ℕ → Bool
+is_made m e name = is_target m name || has_some (choice m e name)
+
+-- The prerequisites in the lines of claims which rules make, and which the goals don't reach.
 abbrev pub far_names : Subject → List Claim → List (List ℕ)
-far_names x claims = flat_map (λ c. option_to_list (far_in x (word_of_claim c))) claims
+far_names x claims = filter (is_made x.makefile x.there) (unreached_names x claims)
+
+-- The prerequisites in the lines of claims which are targets that the goals don't reach.
+abbrev pub far_targets : Subject → List Claim → List (List ℕ)
+far_targets x claims = filter (is_target x.makefile) (unreached_names x claims)
 
 -- The goals, and then these names.
 abbrev pub goals_with : Subject → (names : List (List ℕ)) → List (List ℕ)
@@ -51,35 +68,45 @@ LeadsTo x names answer =
 abbrev pub over_graph : Subject → Graph → Subject
 over_graph x g = subject_of x.makefile x.there g x.setting
 
--- The subject with this graph; the subject itself where the commands of the graph have a fault.
-pub data IsOn (x : Subject) (g : Graph) : Subject → Type 0 where
-  -- With the graph.
-  whole : IsOn x g (over_graph x g)
-  -- Its commands have a fault.
-  no_commands : (fault : InferFault) → is_out_of_memory fault ≡ false →
-      IsFaultOf (over_graph x g) fault → IsOn x g x
+-- The commands of this graph have a fault that isn't out of memory.
+abbrev pub HasCommandFault : Subject → Graph → Type 0
+HasCommandFault x g =
+    (fault : InferFault) × (is_out_of_memory fault ≡ false) × IsFaultOf (over_graph x g) fault
 
--- The subject whose graph has these names, too; the subject itself where there are none, or where
--- they lead to a fault.
-pub data IsOver (x : Subject) (names : List (List ℕ)) : Subject → Type 0 where
-  -- They lead to a graph.
-  led : {w : Subject} (g : Graph) → LeadsTo x names (Ok g) → IsOn x g w → IsOver x names w
-  -- There are none.
-  alone : names ≡ [] → IsOver x names x
-  -- They lead to no graph.
+-- The goals and these names lead to a fault that isn't out of memory.
+pub data LeadsNowhere (x : Subject) (names : List (List ℕ)) : Type 0 where
+  -- They have no graph.
   no_graph : (fault : InferFault) → is_out_of_memory fault ≡ false →
-      LeadsTo x names (Err fault) → IsOver x names x
+      LeadsTo x names (Err fault) → LeadsNowhere x names
+  -- The commands of their graph have a fault.
+  no_commands : (g : Graph) → LeadsTo x names (Ok g) → HasCommandFault x g → LeadsNowhere x names
+
+-- The subject whose graph has the names in the lines of claims, too, which rules make; where these
+-- lead to a fault, the one whose graph has the targets among them; else the subject itself.
+pub data IsWidest (x : Subject) (claims : List Claim) : Subject → Type 0 where
+  -- There are no such names.
+  no_names : far_names x claims ≡ [] → IsWidest x claims x
+  -- They have a graph.
+  with_names : (g : Graph) → LeadsTo x (far_names x claims) (Ok g) →
+      IsWidest x claims (over_graph x g)
+  -- Only the targets among them have one.
+  with_targets : (g : Graph) → LeadsNowhere x (far_names x claims) →
+      LeadsTo x (far_targets x claims) (Ok g) → IsWidest x claims (over_graph x g)
+  -- The targets have none, either.
+  alone : LeadsNowhere x (far_names x claims) → LeadsNowhere x (far_targets x claims) →
+      IsWidest x claims x
 
 -- What claims come to, with their lines, but for those that would close a cycle with this graph and
 -- the other lines.
 abbrev pub AreOn : Subject → Graph → List Claim → List Offer → Type 0
-AreOn x g claims offers = (w : Subject) × IsOn x g w × Settles w (map offer_of claims) offers
+AreOn x g claims offers = Settles (over_graph x g) (map offer_of claims) offers
 
 -- What claims come to with the graph of the goals and these names.
 abbrev pub AreOver : Subject → (names : List (List ℕ)) → List Claim → List Offer → Type 0
 AreOver x names claims offers =
-    (w : Subject) × IsOver x names w × Settles w (map offer_of claims) offers
+    (g : Graph) × LeadsTo x names (Ok g) × AreOn x g claims offers
 
 -- What claims come to.
 abbrev pub AreOffers : Subject → List Claim → List Offer → Type 0
-AreOffers x claims offers = AreOver x (far_names x claims) claims offers
+AreOffers x claims offers =
+    (w : Subject) × IsWidest x claims w × Settles w (map offer_of claims) offers

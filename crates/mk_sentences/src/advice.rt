@@ -195,7 +195,7 @@ pub fn push_advice(
         return push_open_cycle(out, topic.cycle);
     }
     match topic.kind {
-        Kind::NoRecord | Kind::OtherCommands => {
+        Kind::NoRecord | Kind::OtherCommands | Kind::UnrecordedRead => {
             out.push_str("record again, with the goals and macros that are checked")
         }
         Kind::VaryingCommands => {

@@ -4,10 +4,12 @@ ghost use Rattle.std.specs.Prelude.{◌≡◌, is_some, map, option_map, IfOk};
 ghost use Rattle.mk_repair.specs.FindingWords.{word_of};
 ghost use Rattle.mk_repair.specs.Lookups.{AreLookups, makers_view};
 ghost use Rattle.mk_repair.specs.Words.{word_view};
-ghost use Rattle.mk_sentences.specs.Claims.{about, between, claim_of, claim_view, is_repaired, read_claim, unknown_claim, unmade_claim};
+ghost use Rattle.mk_graph.specs.Graph.{node};
+ghost use Rattle.mk_sentences.specs.Claims.{about, between, claim_of, claim_view, is_repaired, lacks_record, read_claim, unknown_claim, unmade_claim, unwritten_claim};
 
 use crate::topic::{Kind, Topic};
 use mk_find::Finding;
+use mk_graph::Graph;
 use mk_repair::{Lookups, Makers, Word, lookups_of, makers_of, needs_directly, word_of};
 use mk_subject::Subject;
 use std::alloc::{AllocError, Global};
@@ -113,16 +115,47 @@ fn unmade_claim<'a>(recipe: &'a str, file: &'a str, makers: Makers<'a>) -> Claim
     }
 }
 
-/// The claim that a recipe reads an unknown file, by the word that the finding gives and what may
-/// make the file.
+/// Whether a node has a recipe.
+fn has_recipe(graph: &Graph, number: usize) -> bool
+    ensures { result ≡ (node graph.now number).recipe }
+{
+    match graph.nodes().get(number) {
+        Some(node) => node.recipe,
+        None => false,
+    }
+}
+
+/// Whether the goals reach the name, and it has a recipe without a record. Allocates nothing.
+fn lacks_record(subject: &Subject<'_>, name: &str) -> bool
+    ensures { result ≡ lacks_record subject.now name.now }
+{
+    let number = subject.names().number_of(name);
+    has_recipe(subject.graph(), number) && subject.setting().record_of(name).is_none()
+}
+
+/// The claim that a recipe reads an unknown file that no line lets it need: by whether the file has
+/// a recipe without a record, and else by what may make it.
+fn unwritten_claim<'a>(recipe: &'a str, file: &'a str, lacks: bool, makers: Makers<'a>) -> Claim<'a>
+    ensures { claim_view result ≡
+        unwritten_claim recipe.entry.now file.entry.now lacks (makers_view makers.entry) }
+{
+    if lacks {
+        return about(Kind::UnrecordedRead, false, recipe, file);
+    }
+    unmade_claim(recipe, file, makers)
+}
+
+/// The claim that a recipe reads an unknown file, by the word that the finding gives, whether the
+/// file has a recipe without a record, and what may make it.
 fn unknown_claim<'a>(
     recipe: &'a str,
     file: &'a str,
     word: Option<Word<'a>>,
+    lacks: bool,
     makers: Makers<'a>,
 ) -> Claim<'a>
     ensures { claim_view result ≡ unknown_claim recipe.entry.now file.entry.now
-        (option_map word_view word.entry) (makers_view makers.entry) }
+        (option_map word_view word.entry) lacks (makers_view makers.entry) }
 {
     match word {
         Some(Word::Needs { prerequisite, .. }) => {
@@ -139,7 +172,7 @@ fn unknown_claim<'a>(
                 what: file,
             }
         }
-        Some(Word::Phony { .. }) | None => unmade_claim(recipe, file, makers),
+        Some(Word::Phony { .. }) | None => unwritten_claim(recipe, file, lacks, makers),
     }
 }
 
@@ -177,8 +210,9 @@ fn claim_of<'a>(subject: &'a Subject<'_>, lookups: &Lookups<'a>, finding: &'a Fi
         }
         Finding::UnknownRead { recipe, file } => {
             let word = word_of(subject, lookups, finding);
+            let lacks = lacks_record(subject, file.as_str());
             let makers = makers_of(subject, lookups, file.as_str());
-            unknown_claim(recipe.as_str(), file.as_str(), word, makers)
+            unknown_claim(recipe.as_str(), file.as_str(), word, lacks, makers)
         }
         Finding::Loose { name, writer } => {
             if needs_directly(subject, writer.as_str(), name.as_str()) {

@@ -17,7 +17,11 @@ fn file_about<'a>(claim: &Claim<'a>) -> &'a str
     match claim.topic.kind {
         Kind::NoRecord | Kind::NoTarget | Kind::TwoWriters | Kind::Loose | Kind::OwnPrerequisite =>
             claim.who,
-        Kind::GivenWritten | Kind::OwnRead | Kind::UnknownRead | Kind::UnreachedRead => claim.what,
+        Kind::GivenWritten
+        | Kind::OwnRead
+        | Kind::UnknownRead
+        | Kind::UnrecordedRead
+        | Kind::UnreachedRead => claim.what,
         _ => "",
     }
 }

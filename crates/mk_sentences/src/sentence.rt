@@ -4,7 +4,7 @@ ghost use Rattle.std.specs.Prelude.{◌≡◌, ◌++◌, IfOk, OnOk};
 ghost use Rattle.std.specs.String.{string_bytes};
 ghost use Rattle.mk_repair.specs.Rows.{names_view};
 ghost use Rattle.mk_sentences.specs.Topics.{topic_view};
-ghost use Rattle.mk_sentences.specs.Sentences.{both_effects, given_written, loose, no_record, no_target, other_commands, output_race, output_race_and_stale, output_stale, own_read, race, race_and_stale, reads, recipes_of, selection, sentence, stale, stays_old, two_writers, unknown_read, unreached_read, varying_commands};
+ghost use Rattle.mk_sentences.specs.Sentences.{both_effects, given_written, loose, no_record, no_target, other_commands, output_race, output_race_and_stale, output_stale, own_read, race, race_and_stale, reads, recipes_of, selection, sentence, stale, stays_old, two_writers, unknown_read, unreached_read, unrecorded_read, varying_commands};
 
 use crate::phrases::{by, shown};
 use crate::topic::{Kind, Topic};
@@ -165,6 +165,27 @@ fn push_unknown_read(
         ", which are neither sources nor written by recipes: nothing says when they change",
     );
     write!(out, "{recipes}{read}{files}{effect}")
+}
+
+/// Appends the sentence on recipes that read files whose recipes have no record.
+fn push_unrecorded_read(
+    alloc: Global,
+    out: &mut String,
+    who: &[&str],
+    what: &[&str],
+) -> Result<(), AllocError>
+    ensures { OnOk result (string_bytes out.new ≡
+        string_bytes out.old ++ unrecorded_read (names_view who.now) (names_view what.now)) }
+{
+    let recipes = recipes_of(alloc, who)?;
+    let read = by(who, " reads ", " read ");
+    let files = shown(alloc, what)?;
+    let lack = by(
+        what,
+        ", whose recipe has no record, so nothing is known of what it writes",
+        ", whose recipes have no records, so nothing is known of what they write",
+    );
+    write!(out, "{recipes}{read}{files}{lack}")
 }
 
 /// Appends the sentence on names that don't wait for the recipes that write their files.
@@ -404,6 +425,7 @@ pub fn push_sentence(
         Kind::GivenWritten => push_given_written(alloc, out, who, what),
         Kind::OwnRead => push_own_read(alloc, out, who, what),
         Kind::UnknownRead => push_unknown_read(alloc, out, who, what),
+        Kind::UnrecordedRead => push_unrecorded_read(alloc, out, who, what),
         Kind::UnreachedRead => push_unreached_read(alloc, out, topic.first, who, what),
         Kind::Loose => push_loose(alloc, out, who, what),
         Kind::OwnPrerequisite => push_loose(alloc, out, who, what),

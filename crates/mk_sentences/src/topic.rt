@@ -23,6 +23,8 @@ pub enum Kind {
     OwnRead,
     /// Recipes that read files of unknown origin.
     UnknownRead,
+    /// The same; the files have recipes without records.
+    UnrecordedRead,
     /// Recipes that read files which a recipe makes that the goals don't reach.
     UnreachedRead,
     /// Names without a recipe that don't wait for the recipe that writes their file.
@@ -75,6 +77,7 @@ pub fn kind_word(kind: Kind) -> &'static str
         Kind::GivenWritten => "given",
         Kind::OwnRead => "own",
         Kind::UnknownRead => "unknown",
+        Kind::UnrecordedRead => "unknown",
         Kind::UnreachedRead => "unknown",
         Kind::Loose => "loose",
         Kind::OwnPrerequisite => "loose",

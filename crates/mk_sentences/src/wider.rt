@@ -1,14 +1,16 @@
 //! The lines that claims ask for, without those that would close a cycle: with the graph of the
 //! goals, and of the names in lines that the goals don't reach.
 
-ghost use Rattle.std.specs.Prelude.{◌≡◌, ◌++◌, false, map, option_map, option_to_list, Some, Ok, IfOk, OnOk};
+ghost use Rattle.std.specs.Prelude.{◌≡◌, ◌++◌, false, filter, fold, map, option_map, None, Some, Ok, IfOk, MatchOption, OnOk};
 ghost use Rattle.mk_infer.specs.Goals.{goal_names};
 ghost use Rattle.mk_infer.specs.Steps.{is_out_of_memory};
+ghost use Rattle.mk_infer.specs.Targets.{is_target};
+ghost use Rattle.mk_lines.specs.Names.{with_name};
 ghost use Rattle.mk_repair.specs.Rows.{names_view};
 ghost use Rattle.mk_repair.specs.Words.{word_view};
 ghost use Rattle.mk_sentences.specs.Claims.{claim_view};
-ghost use Rattle.mk_sentences.specs.Offers.{Settles, offer_of, offer_view, word_of_claim};
-ghost use Rattle.mk_sentences.specs.Wider.{AreOffers, AreOn, AreOver, Leads, far_in, far_names, goals_with};
+ghost use Rattle.mk_sentences.specs.Offers.{offer_view, word_of_claim};
+ghost use Rattle.mk_sentences.specs.Wider.{AreOffers, AreOn, AreOver, HasCommandFault, Leads, LeadsNowhere, goals_with, is_made, unreached_by, unreached_in, unreached_names};
 ghost use Rattle.mk_subject.specs.Subject.{name_of};
 ghost use Rattle.mk_build.specs.Setting as build;
 ghost use Rattle.mk_infer.specs.Selection.{Selects};
@@ -16,18 +18,18 @@ ghost use Rattle.mk_infer.specs.Selection.{Selects};
 use crate::claim::Claim;
 use crate::offer::{Offer, settled, word_of_claim};
 use mk_graph::Graph;
-use mk_infer::{Choices, Exists, InferFault};
+use mk_infer::{Choices, Exists, InferFault, RuleTable, choice};
 use mk_infer_select::{goal_names, select};
-use mk_lines::Name;
+use mk_lines::{BorrowedNames, Name};
 use mk_repair::Word;
 use mk_subject::Subject;
 use mk_subject::laws::selected_goals;
 use std::alloc::{AllocError, Global};
 
-/// The prerequisite of a line that says this word, where it is a target that the goals don't reach.
-fn far_of<'a>(subject: &Subject<'_>, word: Word<'a>) -> Option<&'a str>
+/// The prerequisite of a line that says this word, where the goals don't reach it.
+fn unreached_of<'a>(subject: &Subject<'_>, word: Word<'a>) -> Option<&'a str>
     ensures { option_map (λ name. name.now) result ≡
-        far_in subject.now (Some (word_view word.entry)) }
+        unreached_in subject.now (Some (word_view word.entry)) }
 {
     let Word::Needs { prerequisite, .. } = word else {
         return None;
@@ -35,53 +37,96 @@ fn far_of<'a>(subject: &Subject<'_>, word: Word<'a>) -> Option<&'a str>
     if subject.names().contains(prerequisite) {
         return None;
     }
-    if subject.table().target(prerequisite).is_none() {
-        return None;
-    }
     Some(prerequisite)
 }
 
-/// The prerequisite in the line that mends a claim, where it is a target that the goals don't reach.
-fn far_in<'a>(subject: &Subject<'_>, claim: &Claim<'a>) -> Option<&'a str>
+/// The prerequisite in the line that mends a claim, where the goals don't reach it.
+fn unreached_in<'a>(subject: &Subject<'_>, claim: &Claim<'a>) -> Option<&'a str>
     ensures { option_map (λ name. name.now) result ≡
-        far_in subject.now (word_of_claim (claim_view claim.now)) }
+        unreached_in subject.now (word_of_claim (claim_view claim.now)) }
 {
     match word_of_claim(claim) {
-        Some(word) => far_of(subject, word),
+        Some(word) => unreached_of(subject, word),
         None => None,
     }
 }
 
-/// Adds the prerequisite in the line that mends a claim, where it is a target that the goals don't
-/// reach.
-fn push_far<'a>(
-    names: &mut Vec<&'a str>,
+/// Adds the prerequisite in the line that mends a claim, where the goals don't reach it.
+fn insert_unreached<'a>(
+    names: &mut BorrowedNames<'a>,
     subject: &Subject<'_>,
     claim: &Claim<'a>,
 ) -> Result<(), AllocError>
-    ensures { OnOk result (names_view names.new.items ≡ names_view names.old.items ++
-        option_to_list (far_in subject.now (word_of_claim (claim_view claim.now)))) }
+    ensures { OnOk result (names.new ≡
+        fold with_name names.old (unreached_by subject.now (claim_view claim.now))) }
 {
-    if let Some(name) = far_in(subject, claim) {
-        names.push(name)?;
+    if let Some(name) = unreached_in(subject, claim) {
+        names.insert(name)?;
     }
     Ok(())
 }
 
-/// The prerequisites in the lines that mend claims which are targets that the goals don't reach.
-fn far_names<'a>(
+/// The prerequisites in the lines that mend claims which the goals don't reach, each once.
+fn unreached_names<'a>(
     alloc: Global,
     subject: &Subject<'_>,
     claims: &[Claim<'a>],
-) -> Result<Vec<&'a str>, AllocError>
-    ensures { IfOk result (λ names. names_view names.items ≡
-        far_names subject.now (map claim_view claims.now)) }
+) -> Result<BorrowedNames<'a>, AllocError>
+    ensures { IfOk result (λ names. names ≡
+        unreached_names subject.now (map claim_view claims.now)) }
 {
-    let mut names = Vec::new(alloc);
+    let mut names = BorrowedNames::new(alloc);
     for claim in claims {
-        push_far(&mut names, subject, claim)?;
+        insert_unreached(&mut names, subject, claim)?;
     }
     Ok(names)
+}
+
+/// Whether a target rule or an inference rule makes the name. The only error is out of memory.
+fn is_made(alloc: Global, choices: &Choices<'_>, name: &str) -> Result<bool, AllocError>
+    ensures { IfOk result (λ made. made ≡
+        is_made choices.now.makefile choices.now.exists name.now) }
+{
+    if choices.table().target(name).is_some() {
+        return Ok(true);
+    }
+    Ok(choice(alloc, choices, name)?.is_some())
+}
+
+/// Those of the names which rules make. The only error is out of memory.
+fn made_among<'a>(
+    alloc: Global,
+    choices: &Choices<'_>,
+    names: &[&'a str],
+) -> Result<Vec<&'a str>, AllocError>
+    ensures { IfOk result (λ made. names_view made.items ≡
+        filter (is_made choices.now.makefile choices.now.exists) (names_view names.now)) }
+{
+    let mut made = Vec::new(alloc);
+    for name in names {
+        if is_made(alloc, choices, name)? {
+            made.push(*name)?;
+        }
+    }
+    Ok(made)
+}
+
+/// Those of the names which are targets. The only error is out of memory.
+fn targets_among<'a>(
+    alloc: Global,
+    table: &RuleTable<'_>,
+    names: &[&'a str],
+) -> Result<Vec<&'a str>, AllocError>
+    ensures { IfOk result (λ targets. names_view targets.items ≡
+        filter (is_target table.now) (names_view names.now)) }
+{
+    let mut targets = Vec::new(alloc);
+    for name in names {
+        if table.target(name).is_some() {
+            targets.push(*name)?;
+        }
+    }
+    Ok(targets)
 }
 
 /// The names of the goals.
@@ -121,35 +166,29 @@ fn graph_of<'m>(
     select(alloc, choices, &goals)
 }
 
-/// The claims with their lines, without those that would close a cycle with the graph of the goals
-/// alone, since other names have this fault. The only error is out of memory.
-fn settled_alone<'a>(
-    alloc: Global,
-    subject: &Subject<'_>,
-    claims: &[Claim<'a>],
-    fault: &InferFault,
-) -> Result<Vec<Offer<'a>>, AllocError>
-    ensures { IfOk result (λ offers. (is_out_of_memory fault.now ≡ false) × Settles subject.now
-        (map offer_of (map claim_view claims.now)) (map offer_view offers.items)) }
+/// No lines, where the fault isn't out of memory, which is the only error.
+fn none_for<'a>(fault: &InferFault) -> Result<Option<Vec<Offer<'a>>>, AllocError>
+    ensures { IfOk result (λ found. (found ≡ None) × (is_out_of_memory fault.now ≡ false)) }
 {
     if fault.is_out_of_memory() {
         return Err(AllocError);
     }
-    settled(alloc, subject, claims)
+    Ok(None)
 }
 
-/// The claims with their lines, without those that would close a cycle with this graph. The only
-/// error is out of memory.
+/// The claims with their lines, without those that would close a cycle with this graph; `None` where
+/// its commands have a fault. The only error is out of memory.
 fn settled_on<'a>(
     alloc: Global,
     subject: &Subject<'_>,
     graph: &Graph,
     claims: &[Claim<'a>],
-) -> Result<Vec<Offer<'a>>, AllocError>
+) -> Result<Option<Vec<Offer<'a>>>, AllocError>
     requires { Selects subject.now.makefile subject.now.there
         (map (build.name graph.now) graph.now.goals) (Ok graph.now) }
-    ensures { IfOk result (λ offers. AreOn subject.now graph.now
-        (map claim_view claims.now) (map offer_view offers.items)) }
+    ensures { IfOk result (λ found. MatchOption found (HasCommandFault subject.now graph.now)
+        (λ offers. AreOn subject.now graph.now
+        (map claim_view claims.now) (map offer_view offers.items))) }
 {
     let _graph = subject.graph();
     let there = subject.there();
@@ -161,28 +200,32 @@ fn settled_on<'a>(
         more: there.more,
     };
     match Subject::new(alloc, subject.table(), exists, graph, subject.setting()) {
-        Ok(wider) => settled(alloc, &wider, claims),
-        Err(fault) => settled_alone(alloc, subject, claims, &fault),
+        Ok(wider) => Ok(Some(settled(alloc, &wider, claims)?)),
+        Err(fault) => none_for(&fault),
     }
 }
 
 /// The claims with their lines, without those that would close a cycle with the graph of the goals
-/// and these names. The only error is out of memory.
+/// and these names; `None` where they lead to a fault. The only error is out of memory.
 fn settled_with<'a>(
     alloc: Global,
     subject: &Subject<'_>,
+    choices: &Choices<'_>,
     names: &[&str],
     claims: &[Claim<'a>],
-) -> Result<Vec<Offer<'a>>, AllocError>
-    ensures { IfOk result (λ offers. AreOver subject.now (names_view names.now)
-        (map claim_view claims.now) (map offer_view offers.items)) }
+) -> Result<Option<Vec<Offer<'a>>>, AllocError>
+    requires makefile { choices.now.makefile ≡ subject.now.makefile }
+    requires exists { choices.now.exists ≡ subject.now.there }
+    ensures { IfOk result (λ found. MatchOption found
+        (LeadsNowhere subject.now (names_view names.now))
+        (λ offers. AreOver subject.now (names_view names.now)
+        (map claim_view claims.now) (map offer_view offers.items))) }
 {
     selected_goals();
-    let choices = Choices::new(alloc, subject.table(), subject.there())?;
     let goals = goals_with(alloc, subject, names)?;
-    match graph_of(alloc, &choices, goals.as_slice()) {
+    match graph_of(alloc, choices, goals.as_slice()) {
         Ok(graph) => settled_on(alloc, subject, &graph, claims),
-        Err(fault) => settled_alone(alloc, subject, claims, &fault),
+        Err(fault) => none_for(&fault),
     }
 }
 
@@ -197,9 +240,21 @@ pub fn offers_of<'a>(
     ensures { IfOk result (λ offers. AreOffers subject.now
         (map claim_view claims.now) (map offer_view offers.items)) }
 {
-    let far = far_names(alloc, subject, claims)?;
-    if far.is_empty() {
+    let unreached = unreached_names(alloc, subject, claims)?;
+    if unreached.as_slice().is_empty() {
         return settled(alloc, subject, claims);
     }
-    settled_with(alloc, subject, &far, claims)
+    let choices = Choices::new(alloc, subject.table(), subject.there())?;
+    let made = made_among(alloc, &choices, unreached.as_slice())?;
+    if made.is_empty() {
+        return settled(alloc, subject, claims);
+    }
+    if let Some(offers) = settled_with(alloc, subject, &choices, &made, claims)? {
+        return Ok(offers);
+    }
+    let targets = targets_among(alloc, subject.table(), unreached.as_slice())?;
+    if let Some(offers) = settled_with(alloc, subject, &choices, &targets, claims)? {
+        return Ok(offers);
+    }
+    settled(alloc, subject, claims)
 }

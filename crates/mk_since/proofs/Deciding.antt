@@ -17,16 +17,16 @@ use Rattle.mk_graph.specs.Membership.{Has}
 use Rattle.mk_graph.specs.Serial.{serial_order}
 use Rattle.mk_build.specs.BuildLaws.{NamesHaveOneNumber}
 use Rattle.mk_build_behaviours.specs.Behaviours.{Behaviours}
-use Rattle.mk_build_since.specs.Named.{AreSameFiles, CantStay, HasFile, HoldsOf, IsWritten, NewRecipe, OtherCommands, OtherWrites, OwnsFile, ReadGone, ReadText, Rule, WasRecipe, all_rules}
+use Rattle.mk_build_since.specs.Named.{AreSameFiles, CantStay, HasFile, HoldsOf, IsWritten, NewRecipe, OtherCommands, OtherWrites, OwnsFile, OtherReads, ReadText, Rule, WasRecipe, all_rules}
 use Rattle.mk_subject.specs.Laws.{AllWritesExactly}
-use Rattle.mk_subject.specs.NodeRow.{NodeRow, IsEntry, entry_writes, lines_eq, writers_of}
+use Rattle.mk_subject.specs.NodeRow.{NodeRow, IsEntry, entry_reads, entry_writes, lines_eq, writers_of}
 use Rattle.mk_subject.specs.Subject.{Subject, IsRecipe, all_writes, commands_of, name_of, reads_of, writes_of}
 use Rattle.mk_subject.proofs.Decided.{lines_same}
-use Rattle.mk_subject.proofs.Entries.{same_writes}
+use Rattle.mk_subject.proofs.Entries.{same_reads, same_writes}
 use Rattle.mk_subject.proofs.InOrder.{in_order, recipe_is_node}
 use Rattle.mk_since.specs.Named.{build_of}
 use Rattle.mk_since.specs.Past.{PastRecipe, lines_in, past_of, recipe_of}
-use Rattle.mk_since.specs.Parts.{are_among, are_others, cant_stay, cant_stay_by, has_file, is_other, read_gone, read_text, recipe_for}
+use Rattle.mk_since.specs.Parts.{are_among, are_others, cant_stay, cant_stay_by, has_file, is_other, read_text, recipe_for}
 
 -- a test that says no
 pub not_from : (v : Bool) → not v ≡ true → v ≡ true → ⊥
@@ -100,6 +100,11 @@ lines_equal xs ys same = subst (λ (l : List (List ℕ)). lines_eq xs l ≡ true
     own [] = refl
     own (z ∷ zs) = and_from (bytes_eq z z) (lines_eq zs zs) ((bytes_eq-Decides z z).1 refl) (own zs)
 
+-- equal lists have the same files
+pub equal_are_same : (xs ys : List (List ℕ)) → lines_eq xs ys ≡ true → are_others xs ys ≡ false
+equal_are_same xs ys e =
+    ap (λ b. not b) ((same_decides xs ys).1 (subst (λ (l : List (List ℕ)). AreSameFiles xs l) (lines_same xs ys e) (λ f. (λ h. h, λ h. h))))
+
 -- which files a build has
 module _ (x : Subject) (is : IsGraph x.graph) (exact : AllWritesExactly) (b : Behaviours) (f : List ℕ) where
   pub written_is : (has_name (all_writes x) f ≡ true) ↔ IsWritten (build_of x b) f
@@ -140,10 +145,9 @@ module _ (x y : Subject) (b c : Behaviours) (is_x : IsGraph x.graph) (is_y : IsG
     other_writes h =
         (OtherWrites, inr (inr (inl refl)), (o, was, λ k. not_from (are_among (writes_of x o) (entry_writes e) && are_among (entry_writes e) (writes_of x o)) h ((same_decides (writes_of x o) (entry_writes e)).1 (subst (λ (l : List (List ℕ)). AreSameFiles (writes_of x o) l) (sym (same_writes y e is_e)) k))))
 
-    gone : read_gone y (recipe_of x o) ≡ true → CantStay all_rules (build_of x b) (build_of y c) e.number
-    gone h =
-        let found = any_from (λ f. not (has_file y f)) (reads_of x o) h in
-        (ReadGone, inr (inr (inr (inl refl))), (o, was, (found.0, found.1, λ k. not_from (has_file y found.0) found.2 ((has_is y is_y exact c found.0).1 k))))
+    other_reads : are_others (reads_of x o) (entry_reads e) ≡ true → CantStay all_rules (build_of x b) (build_of y c) e.number
+    other_reads h =
+        (OtherReads, inr (inr (inr (inl refl))), (o, was, λ k. not_from (are_among (reads_of x o) (entry_reads e) && are_among (entry_reads e) (reads_of x o)) h ((same_decides (reads_of x o) (entry_reads e)).1 (subst (λ (l : List (List ℕ)). AreSameFiles (reads_of x o) l) (sym (same_reads y e is_e)) k))))
 
     text : read_text y (recipe_of x o) ≡ true → CantStay all_rules (build_of x b) (build_of y c) e.number
     text h =
@@ -155,9 +159,9 @@ module _ (x y : Subject) (b c : Behaviours) (is_x : IsGraph x.graph) (is_y : IsG
     other_cant h =
         let one_test = not (lines_eq (lines_in (commands_of x o)) e.commands.lines) in
         let two = are_others (writes_of x o) (entry_writes e) in
-        let three = read_gone y (recipe_of x o) in
+        let three = are_others (reads_of x o) (entry_reads e) in
         let four = read_text y (recipe_of x o) in
-        ⊎_elim other_commands (λ r. ⊎_elim other_writes (λ s. ⊎_elim gone text (or_cases three four s)) (or_cases two (three || four) r)) (or_cases one_test (two || (three || four)) h)
+        ⊎_elim other_commands (λ r. ⊎_elim other_writes (λ s. ⊎_elim other_reads text (or_cases three four s)) (or_cases two (three || four) r)) (or_cases one_test (two || (three || four)) h)
 
     read_here : (n : ℕ) (f : List ℕ) → WasRecipe (build_of x b) (build_of y c) n e.number → Has (reads_of x n) f → Has (reads_of x o) f
     read_here n f w h = subst (λ (k : ℕ). Has (reads_of x k) f) (this n w) h
@@ -170,9 +174,9 @@ module _ (x y : Subject) (b c : Behaviours) (is_x : IsGraph x.graph) (is_y : IsG
     by_writes n w differ =
         not_true (are_among (writes_of x o) (entry_writes e) && are_among (entry_writes e) (writes_of x o)) (λ k. differ (subst (λ (i : ℕ). AreSameFiles (writes_of x i) (writes_of y e.number)) (sym (this n w)) (subst (λ (l : List (List ℕ)). AreSameFiles (writes_of x o) l) (same_writes y e is_e) ((same_decides (writes_of x o) (entry_writes e)).0 k))))
 
-    by_gone : (n : ℕ) → WasRecipe (build_of x b) (build_of y c) n e.number → (f : List ℕ) → Has (reads_of x n) f → ¬ (HasFile (build_of y c) f) → read_gone y (recipe_of x o) ≡ true
-    by_gone n w f h lacks =
-        any_for (λ k. not (has_file y k)) (reads_of x o) f (read_here n f w h) (not_true (has_file y f) (λ k. lacks ((has_is y is_y exact c f).0 k)))
+    by_reads : (n : ℕ) → WasRecipe (build_of x b) (build_of y c) n e.number → ¬ (AreSameFiles (reads_of x n) (reads_of y e.number)) → are_others (reads_of x o) (entry_reads e) ≡ true
+    by_reads n w differ =
+        not_true (are_among (reads_of x o) (entry_reads e) && are_among (entry_reads e) (reads_of x o)) (λ k. differ (subst (λ (i : ℕ). AreSameFiles (reads_of x i) (reads_of y e.number)) (sym (this n w)) (subst (λ (l : List (List ℕ)). AreSameFiles (reads_of x o) l) (same_reads y e is_e) ((same_decides (reads_of x o) (entry_reads e)).0 k))))
 
     by_text : (n : ℕ) → WasRecipe (build_of x b) (build_of y c) n e.number → (f : List ℕ) → Has (reads_of x n) f → Has y.setting.texts f → read_text y (recipe_of x o) ≡ true
     by_text n w f h k = any_for (has_name y.setting.texts) (reads_of x o) f (read_here n f w h) (has_name-from_Has y.setting.texts f k)
@@ -187,7 +191,7 @@ module _ (x y : Subject) (b c : Behaviours) (is_x : IsGraph x.graph) (is_y : IsG
         second = are_others (writes_of x o) (entry_writes e)
 
         third : Bool
-        third = read_gone y (recipe_of x o)
+        third = are_others (reads_of x o) (entry_reads e)
 
         fourth : Bool
         fourth = read_text y (recipe_of x o)
@@ -196,7 +200,7 @@ module _ (x y : Subject) (b c : Behaviours) (is_x : IsGraph x.graph) (is_y : IsG
         by NewRecipe none = absurd (none o was)
         by OtherCommands (n, w, differ) = or_left first (second || (third || fourth)) (by_commands n w differ)
         by OtherWrites (n, w, differ) = or_right first (second || (third || fourth)) (or_left second (third || fourth) (by_writes n w differ))
-        by ReadGone (n, w, (f, h, lacks)) = or_right first (second || (third || fourth)) (or_right second (third || fourth) (or_left third fourth (by_gone n w f h lacks)))
+        by OtherReads (n, w, differ) = or_right first (second || (third || fourth)) (or_right second (third || fourth) (or_left third fourth (by_reads n w differ)))
         by ReadText (n, w, (f, h, k)) = or_right first (second || (third || fourth)) (or_right second (third || fourth) (or_right third fourth (by_text n w f h k)))
 
     -- just where it can't

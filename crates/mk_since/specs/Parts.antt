@@ -32,10 +32,6 @@ are_among names others = list_all (has_name others) names
 abbrev pub are_others : List FileName → List FileName → Bool
 are_others names others = not (are_among names others && are_among others names)
 
--- Whether the old recipe read a file that the new build y doesn't have.
-abbrev pub read_gone : Subject → PastRecipe → Bool
-read_gone y r = list_any (λ f. not (has_file y f)) r.reads
-
 -- Whether the old recipe read a makefile text of the new build y.
 abbrev pub read_text : Subject → PastRecipe → Bool
 read_text y r = list_any (has_name y.setting.texts) r.reads
@@ -44,7 +40,8 @@ read_text y r = list_any (has_name y.setting.texts) r.reads
 abbrev pub is_other : Subject → PastRecipe → NodeRow → Bool
 is_other y r e =
     not (lines_eq r.commands e.commands.lines) ||
-    (are_others r.writes (entry_writes e) || (read_gone y r || read_text y r))
+    (are_others r.writes (entry_writes e) ||
+    (are_others r.reads (entry_reads e) || read_text y r))
 
 -- The old recipe with this target, if there is one.
 abbrev pub recipe_for : Past → FileName → Option PastRecipe

@@ -5,7 +5,7 @@ ghost use Rattle.std.specs.String.{string_bytes};
 ghost use Rattle.mk_lines.specs.Names.{has_name};
 ghost use Rattle.mk_subject.specs.NodeRow.{lines_eq};
 ghost use Rattle.mk_subject.specs.Subject.{all_writes};
-ghost use Rattle.mk_since.specs.Parts.{are_among, are_others, cant_stay, has_file, is_other, read_gone, read_text};
+ghost use Rattle.mk_since.specs.Parts.{are_among, are_others, cant_stay, has_file, is_other, read_text};
 
 use crate::past::Past;
 use crate::past_recipe::PastRecipe;
@@ -87,25 +87,31 @@ fn are_among(alloc: Global, names: &[String], others: &[String]) -> Result<bool,
     Ok(true)
 }
 
+/// Whether both lists have the same names in the same order.
+fn are_equal(names: &[String], others: &[String]) -> bool
+    ensures { result ≡ lines_eq (map string_bytes names.now) (map string_bytes others.now) }
+{
+    if names.len() != others.len() {
+        return false;
+    }
+    for (place, name) in names.iter().enumerate() {
+        if name.as_str() != others[place].as_str() {
+            return false;
+        }
+    }
+    true
+}
+
 /// Whether the lists have different names. The only error is out of memory.
 fn are_others(alloc: Global, names: &[String], others: &[String]) -> Result<bool, AllocError>
     ensures { IfOk result (λ differ. differ ≡
         are_others (map string_bytes names.now) (map string_bytes others.now)) }
 {
+    if are_equal(names, others) {
+        return Ok(false);
+    }
     let same = are_among(alloc, names, others)? && are_among(alloc, others, names)?;
     Ok(!same)
-}
-
-/// Whether the old recipe read a file that the build doesn't have.
-fn read_gone(subject: &Subject<'_>, old: &PastRecipe) -> bool
-    ensures { result ≡ read_gone subject.now old.now }
-{
-    for file in &old.reads {
-        if !has_file(subject, file.as_str()) {
-            return true;
-        }
-    }
-    false
 }
 
 /// Whether the old recipe read a makefile text of the build.
@@ -134,15 +140,14 @@ fn is_other(
     Ok(
         !are_commands(&old.commands, entry)
             || are_others(alloc, &old.writes, entry.writes())?
-            || read_gone(subject, old)
+            || are_others(alloc, &old.reads, entry.reads())?
             || read_text(subject, old),
     )
 }
 
 /// Whether what the recipe of a node of the new build wrote before can't stay: the old build has no
-/// recipe with its target, or one with other commands, one that writes other files, one that read a
-/// file which the new build doesn't have, or one that read a makefile text of it. The only error is
-/// out of memory.
+/// recipe with its target, or one with other commands, one that writes other files, one that reads
+/// other files, or one that read a makefile text of it. The only error is out of memory.
 pub fn cant_stay(
     alloc: Global,
     past: &Past,

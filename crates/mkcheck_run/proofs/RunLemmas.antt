@@ -21,6 +21,7 @@ use Rattle.mk_core_text.specs.declared.fault.Fault.TheVariants.{Memory}
 use Rattle.mk_core.specs.declared.request.Request.{Request}
 use Rattle.mk_core_evidence.specs.declared.showing.Evidence.{Evidence}
 use Rattle.mk_core_evidence.specs.declared.showing.Evidence.TheVariants.{Plan, NoPlan}
+use Rattle.mk_read_files.specs.declared.cause.Cause.TheVariants.{Other}
 use Rattle.mk_command.specs.declared.invocation.Form.{Form}
 use Rattle.mk_command.specs.declared.invocation.Form.TheVariants.{Lines, Words, Json}
 use Rattle.mk_command.specs.declared.invocation.Invocation.{Invocation}
@@ -78,8 +79,8 @@ pub no_memory_mends : (told : Told) (request : Request) (form : Form) → Answer
 no_memory_mends told request form = (Err Memory, tt, refl)
 
 -- and to one to compare two builds
-pub no_memory_compares : (was told : Told) (request : Request) (folder : List ℕ) → AnswersOver was told (Since request folder) (Err Memory)
-no_memory_compares was told request folder = (Err Memory, inl refl, refl)
+pub no_memory_compares : (was told : Told) (request : Request) (folder : List ℕ) (form : Form) → AnswersOver was told (Since request folder form) (Err Memory)
+no_memory_compares was told request folder form = (Err Memory, inl refl, (Other, refl))
 
 module _ (told : Told) (request : Request) where
   text_mends : (found : Repaired) → Suffices told request (Ok found) → repair_status (outcome_of found) ≡ 0 → Mends told request (outcome_text (outcome_of found))
@@ -125,7 +126,9 @@ refusal_status (CheckInJson request) text = refl
 refusal_status (Repair request form) text = refl
 refusal_status (Explain what) text = refl
 refusal_status (Verify request certificate form) text = refl
-refusal_status (Since request folder) text = refl
+refusal_status (Since request folder Lines) text = refl
+refusal_status (Since request folder Words) text = refl
+refusal_status (Since request folder Json) text = refl
 refusal_status (Simulate request plan form) text = refl
 
 -- what status 0 of an answer promises, it promises where it is written

@@ -21,9 +21,10 @@ use Rattle.mk_core_text.specs.VerdictText.{verdict_text}
 use Rattle.mk_core.specs.VerifyAnswer.{AnswersVerify}
 use Rattle.mk_explain.specs.Explain.{explained, overview_text}
 use Rattle.mk_explain.specs.Near.{near_text}
-use Rattle.mk_core_json.specs.AnswerValue.{answer_text, refusal_value}
+use Rattle.mk_core_json.specs.AnswerValue.{answer_text, old_refusal_value, refusal_value}
 use Rattle.mk_read_files.specs.declared.cause.Cause.{Cause}
 use Rattle.mk_core_json.specs.OtherValues.{mended_value, printed_value, run_value, unmended_value}
+use Rattle.mk_core_json.specs.SinceValues.{named_value, told_values}
 use Rattle.mk_core_json.specs.declared.checking.InJson.{InJson}
 use Rattle.mk_core_json.specs.declared.checking.InJson.TheVariants as json
 use Rattle.mk_core_json.specs.InJsonAnswer.{AnswersInJson}
@@ -166,15 +167,29 @@ since_status (since.No found) = 1
 since_status (since.Unsure found) = 1
 since_status (since.Refused fault) = 2
 
--- The response with what comes of `since`, from this folder: named files alone go to standard
--- output.
-abbrev pub since_response : List ℕ → Found → Response
-since_response folder found =
+-- What comes of `since`, as JSON; a refusal with this cause of a failed read.
+abbrev pub since_in_json : Cause → Found → List ℕ
+since_in_json cause (since.Named names) = answer_text (named_value names)
+since_in_json cause (since.No found) = answer_text (told_values (codes "new") found)
+since_in_json cause (since.Unsure found) = answer_text (told_values (codes "old") found)
+since_in_json cause (since.Refused fault) = answer_text (old_refusal_value fault cause)
+
+-- The response with what comes of `since`, from this folder, in lines: named files alone go to
+-- standard output. A refusal is in words where a cause is given.
+abbrev pub since_lines : List ℕ → Option Cause → Found → Response
+since_lines folder cause found =
     record {
       text = since_output found;
-      err = since_message folder found;
+      err = since_message folder cause found;
       status = since_status found;
     }
+
+-- The response with what comes of `since` in this form, with this cause of a failed read.
+abbrev pub since_response : Form → Cause → List ℕ → Found → Response
+since_response Lines cause folder found = since_lines folder None found
+since_response Words cause folder found = since_lines folder (Some cause) found
+since_response Json cause folder found =
+    printed_response (since_in_json cause found) (since_status found)
 
 -- The response with the run of a plan: status 2 where a line was refused, else 0.
 abbrev pub run_response : Form → Simulation → Response
@@ -272,15 +287,15 @@ AnswersInvocation files (Simulate request plan form) answer =
     (run : Result Simulation Fault) ×
     Answers files request (AnswersSimulation files plan) run ×
     (answer ≡ seen (run_response form) run)
-AnswersInvocation files (Since request folder) answer = ⊥
+AnswersInvocation files (Since request folder form) answer = ⊥
 
 -- The same, where the folder of `since` has the first contents, by names in it. Other commands read
--- no folder.
+-- no folder. A failed read has some cause.
 abbrev pub AnswersOver : Told → Told → Invocation → Result Response Fault → Type 0
-AnswersOver was files (Since request folder) answer =
+AnswersOver was files (Since request folder form) answer =
     (found : Result Found Fault) ×
     AnswersSince was files folder request found ×
-    (answer ≡ seen (since_response folder) found)
+    ((cause : Cause) × (answer ≡ seen (since_response form cause folder) found))
 AnswersOver was files asked answer = AnswersInvocation files asked answer
 
 -- The text that `repair` prints in this form mends the makefile, or has the lines that do.
@@ -317,10 +332,16 @@ line_in Json request fault = option_and_then (λ asked. line_place asked fault) 
 abbrev pub line_shown : Invocation → Fault → Option Place
 line_shown asked fault = line_in (form_of asked) (request_of asked) fault
 
+-- A refusal of `since` with this text in this form goes to standard error, or as JSON to standard
+-- output.
+abbrev pub since_refusal : Form → List ℕ → Written
+since_refusal Json text = record { out = text; err = []; status = 2 }
+since_refusal form text = record { out = []; err = text; status = 2 }
+
 -- A refusal of the command with this text is written to standard output, that of `since` to
--- standard error, with status 2.
+-- standard error unless it is JSON, with status 2.
 abbrev pub refusal_written : Invocation → List ℕ → Written
-refusal_written (Since request folder) text = record { out = []; err = text; status = 2 }
+refusal_written (Since request folder form) text = since_refusal form text
 refusal_written asked text = record { out = text; err = []; status = 2 }
 
 -- The response to the command is written to both streams, with its status; a fault as a refusal on

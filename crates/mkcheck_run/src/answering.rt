@@ -12,7 +12,7 @@ ghost use Rattle.mk_cert_text.specs.Writing.{value_of};
 ghost use Rattle.serde_json.specs.Written.{compact_text};
 ghost use Rattle.mk_command.specs.Invocation.{request_in};
 ghost use Rattle.mk_core_repair.specs.Outcome.{outcome_of};
-ghost use Rattle.mkcheck_run.specs.Run.{AnswersInvocation, AnswersOver, Promises, evidence_response, form_response, plan_response, lines_response, repair_in_json, repair_response, repair_status, explain_response, explained_response, first_explained, first_near, instead_text, near, printed_response, json_response, noted_response, run_printed, run_response, run_status, since_response, text_response, unknown_text, verdict_response, words_response, response_without_plan, yes_note};
+ghost use Rattle.mkcheck_run.specs.Run.{AnswersInvocation, AnswersOver, Promises, evidence_response, form_response, plan_response, lines_response, repair_in_json, repair_response, repair_status, explain_response, explained_response, first_explained, first_near, instead_text, near, printed_response, json_response, noted_response, run_printed, run_response, run_status, since_response, since_status, text_response, unknown_text, verdict_response, words_response, response_without_plan, since_in_json, since_lines, yes_note};
 ghost use Rattle.mk_command.specs.declared.invocation.Invocation.TheVariants.{Check, CheckInJson, CheckInWords, Explain, Graph, Repair as Mend, Simulate, Since as Compare, Verify};
 
 use crate::running::{DONE, NO, REFUSED};
@@ -24,12 +24,14 @@ use mk_core::{
 };
 use mk_core_evidence::{Evidence, evidence_or_verdict};
 use mk_core_json::{
-    InJson, check_in_json, mended_in_json, printed_in_json, run_in_json, unmended_in_json,
+    InJson, check_in_json, mended_in_json, named_in_json, old_refusal_in_json, printed_in_json,
+    run_in_json, told_in_json, unmended_in_json,
 };
 use mk_core_repair::{Repair, repair, repair_message, repair_text};
 use mk_core_sentences::{InWords, check_in_words};
 use mk_core_since::{Change, Folder, Since, since, since_message, since_output};
 use mk_explain::{explain, near_words, overview};
+use mk_read_files::Cause;
 use std::alloc::{AllocError, Global};
 use std::marker::Model;
 
@@ -534,18 +536,65 @@ fn answer_plan_run<F: Files>(
     Ok(shown)
 }
 
-// The response with what comes of `since`: status 1 for findings, 2 where the old build is refused.
-fn since_response(alloc: Global, found: &Since, folder: &str) -> Result<Response, AllocError>
-    ensures { IfOk result (λ shown. shown ≡ since_response folder.now found.now) }
+// The status of what comes of `since`: 1 for findings, 2 where the old build is refused.
+fn since_status(found: &Since) -> u8
+    ensures { result ≡ since_status found.now }
 {
-    let text = since_output(alloc, found)?;
-    let err = since_message(alloc, found, folder)?;
-    let status = match found {
+    match found {
         Since::Named(_) => DONE,
         Since::No(_) | Since::Unsure(_) => NO,
         Since::Refused(_) => REFUSED,
-    };
-    Ok(Response { text, err, status })
+    }
+}
+
+// What comes of `since`, as JSON.
+fn since_in_json(alloc: Global, found: &Since, cause: Cause) -> Result<Vec<u8>, AllocError>
+    ensures { IfOk result (λ text. text.items ≡ since_in_json cause found.now) }
+{
+    match found {
+        Since::Named(names) => named_in_json(alloc, names.as_slice()),
+        Since::No(found) => told_in_json(alloc, "new", found.as_slice()),
+        Since::Unsure(found) => told_in_json(alloc, "old", found.as_slice()),
+        Since::Refused(fault) => old_refusal_in_json(alloc, fault, cause),
+    }
+}
+
+// The response with what comes of `since`, in lines; a refusal in words where a cause is given.
+fn since_lines(
+    alloc: Global,
+    found: &Since,
+    folder: &str,
+    cause: Option<Cause>,
+) -> Result<Response, AllocError>
+    ensures { IfOk result (λ shown. shown ≡ since_lines folder.now cause found.now) }
+{
+    let text = since_output(alloc, found)?;
+    let err = since_message(alloc, found, folder, cause)?;
+    Ok(Response {
+        text,
+        err,
+        status: since_status(found),
+    })
+}
+
+// The response with what comes of `since` in this form, given the cause of the last failed read.
+fn since_response(
+    alloc: Global,
+    form: Form,
+    cause: Cause,
+    found: &Since,
+    folder: &str,
+) -> Result<Response, AllocError>
+    ensures { IfOk result (λ shown. shown ≡ since_response form cause folder.now found.now) }
+{
+    match form {
+        Form::Lines => since_lines(alloc, found, folder, None),
+        Form::Words => since_lines(alloc, found, folder, Some(cause)),
+        Form::Json => {
+            let text = since_in_json(alloc, found, cause)?;
+            Ok(printed_response(alloc, text, since_status(found)))
+        }
+    }
 }
 
 // Carries out `since`.
@@ -554,18 +603,19 @@ fn answer_since<F: Files, B: Folder>(
     files: &mut F,
     below: &mut B,
     change: &Change<'_>,
+    form: Form,
 ) -> Result<Response, Fault>
     ensures keeps { Keeps (F.fits files.old) (F.fits files.new) }
     ensures answer { IfFits (B.fits below.new)
         (λ was. IfFits (F.fits files.new)
         (λ told. AnswersOver was told
-        (Compare change.now.request.now change.now.folder.now) result)) }
+        (Compare change.now.request.now change.now.folder.now form) result)) }
     ensures noted { NotesFailure (F.failed files.old) (F.failed files.new) result }
     ensures untouched { OnErr (macros_for change.now.request.now) (files.new ≡ files.old) }
 {
     below.enter(alloc, change.folder)?;
     let found = since(alloc, below, files, change)?;
-    let shown = since_response(alloc, &found, change.folder)?;
+    let shown = since_response(alloc, form, below.cause(), &found, change.folder)?;
     drop_or_leak(found, change.request.leaves_memory);
     Ok(shown)
 }
@@ -613,12 +663,16 @@ pub fn answer<F: Files, B: Folder>(
             certificate,
             form,
         } => answer_verify(alloc, files, request, certificate, *form),
-        Invocation::Since { request, folder } => {
+        Invocation::Since {
+            request,
+            folder,
+            form,
+        } => {
             let change = Change {
                 request,
                 folder: folder.as_str(),
             };
-            answer_since(alloc, files, below, &change)
+            answer_since(alloc, files, below, &change, *form)
         }
         Invocation::Simulate {
             request,

@@ -8,7 +8,7 @@ ghost use Rattle.mk_core_sentences.specs.RefusedLine.{FindsLine};
 ghost use Rattle.mk_command.specs.Invocation.{AreRefusedUnread, invocation_of, asked_with, asking, faults_of, form_of, request_in};
 ghost use Rattle.mk_command.specs.CommandLine.{HasNoOption, graph_words};
 ghost use Rattle.mkcheck_host.specs.Outcome.{written};
-ghost use Rattle.mkcheck_run.specs.Run.{Explains, IsAnswered, IsRefused, Promises, Shows, line_shown, refusal_text, refusal_written};
+ghost use Rattle.mkcheck_run.specs.Run.{Explains, IsAnswered, IsRefused, Promises, Shows, line_shown, refusal_text, refusal_written, since_refusal};
 ghost use Rattle.mk_command.specs.declared.invocation.Form.TheVariants.{Lines};
 ghost use Rattle.mk_command.specs.declared.invocation.Invocation.TheVariants.{Graph};
 
@@ -75,16 +75,30 @@ fn line_after<F: Files>(
     }
 }
 
+// The outcome of a refusal of `since` with this text.
+fn since_refusal(alloc: Global, form: Form, text: Vec<u8>) -> Outcome
+    ensures { written result ≡ since_refusal form text.items }
+{
+    match form {
+        Form::Json => Outcome {
+            out: text,
+            err: Vec::new(alloc),
+            status: REFUSED,
+        },
+        Form::Lines | Form::Words => Outcome {
+            out: Vec::new(alloc),
+            err: text,
+            status: REFUSED,
+        },
+    }
+}
+
 // The outcome of a refusal with this text.
 fn refusal_outcome(alloc: Global, asked: &Invocation, text: Vec<u8>) -> Outcome
     ensures { written result ≡ refusal_written asked.now text.items }
 {
     match asked {
-        Invocation::Since { .. } => Outcome {
-            out: Vec::new(alloc),
-            err: text,
-            status: REFUSED,
-        },
+        Invocation::Since { form, .. } => since_refusal(alloc, *form, text),
         _ => Outcome {
             out: text,
             err: Vec::new(alloc),

@@ -26,7 +26,7 @@ fn files_of(alloc: Global, makefile: &str, book: &str, text: &str) -> Result<Mem
 /// What both streams get, the error stream last.
 fn shown(alloc: Global, found: &Since) -> Result<Vec<u8>, AllocError> {
     let mut text = since_output(alloc, found)?;
-    text.extend_from_slice(&since_message(alloc, found, "old")?)?;
+    text.extend_from_slice(&since_message(alloc, found, "old", None)?)?;
     Ok(text)
 }
 

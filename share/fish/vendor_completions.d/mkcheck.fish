@@ -15,9 +15,8 @@ set -l judging graph check repair verify since simulate
 complete -c mkcheck -n "__fish_seen_subcommand_from $judging" -s f -r -d 'The makefile'
 complete -c mkcheck -n "__fish_seen_subcommand_from $judging" -s r -d 'Leave out the default text'
 complete -c mkcheck -n "__fish_seen_subcommand_from $judging" -s b -r -d 'The recorded footprints'
-set -l telling graph check repair verify simulate
-complete -c mkcheck -n "__fish_seen_subcommand_from $telling" -s w -d 'Print faults in words'
-complete -c mkcheck -n "__fish_seen_subcommand_from $telling" -l json -d 'Print one JSON value'
+complete -c mkcheck -n "__fish_seen_subcommand_from $judging" -s w -d 'Print faults in words'
+complete -c mkcheck -n "__fish_seen_subcommand_from $judging" -l json -d 'Print one JSON value'
 complete -c mkcheck -n '__fish_seen_subcommand_from graph' -s c -d 'Print the commands'
 complete -c mkcheck -n '__fish_seen_subcommand_from check' -s c -d 'Print only the certificate'
 complete -c mkcheck -n '__fish_seen_subcommand_from check' -s e -x -d 'Print the plan of a finding'

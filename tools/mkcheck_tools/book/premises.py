@@ -30,7 +30,7 @@ from mkcheck_tools.replay.versions import (
 )
 from mkcheck_tools.run.paths import RealPath
 
-FORMAT = 1
+FORMAT = 2
 # Variables that tell of the terminal and the session, and nothing of the build.
 OF_SESSION = frozenset(
     "_ OLDPWD PWD SHLVL TERM COLUMNS LINES WINDOWID DISPLAY WAYLAND_DISPLAY XAUTHORITY"
@@ -60,6 +60,9 @@ class Premises:
 
     recipes: int
     """How many recipes there are."""
+
+    conditions: str = ""
+    """On what recipes go beside their commands and files, as `--keep` writes it."""
 
     salt: str = ""
     variables: Mapping[str, str] = field(default_factory=dict)
@@ -143,6 +146,7 @@ class Premises:
             "looks": [row_of(name, version) for name, version in self.looks.items()],
             "lists": dict(self.lists),
             "recipes": self.recipes,
+            "conditions": self.conditions,
             "salt": self.salt,
             "variables": dict(self.variables),
             "stamps": {path: list(stamp) for path, stamp in self.stamps.items()},
@@ -168,6 +172,7 @@ def read(book: str) -> Premises | None:
             {row[0]: Version(*row[1:]) if len(row) > 1 else None for row in body["looks"]},
             body["lists"],
             body["recipes"],
+            body["conditions"],
             body["salt"],
             body["variables"],
             {path: stamp_in(row) for path, row in body["stamps"].items()},

@@ -50,8 +50,11 @@ class Conditions:
     environment: Mapping[str, str]
 
     @classmethod
-    def of(cls, asked: Mapping[str, str], environment: Mapping[str, str]) -> Conditions:
-        """The conditions now: what is asked, and what else may change what a recording gives."""
+    def of(
+        cls, asked: Mapping[str, str], environment: Mapping[str, str], given: Container[str] = ()
+    ) -> Conditions:
+        """The conditions now: what is asked, and what else may change what a recording gives.
+        `given` are variables that the makefile or an operand sets, so they count in any case."""
         umask = os.umask(0)
         os.umask(umask)
         own = {
@@ -60,7 +63,11 @@ class Conditions:
             "user": f"{os.geteuid()} {os.getegid()}",
             "umask": f"{umask:o}",
         }
-        kept = {name: value for name, value in environment.items() if name not in OF_SESSION}
+        kept = {
+            name: value
+            for name, value in environment.items()
+            if name not in OF_SESSION or name in given
+        }
         return cls({**own, **asked}, kept)
 
     def salted(self, salt: str) -> dict[str, str]:
@@ -254,7 +261,9 @@ class Updating:
             elif target in waiting:
                 entry = self.entry_of(footprint, trials[target], [])
                 entries[target] = entry.unreplayed(trials[target])
-        state = State(self.conditions.salted(secrets.token_hex(16)), self.choice, entries)
+        # With the same salt what is kept of two builds can be compared.
+        salt = secrets.token_hex(16) if self.state is None else self.state.conditions["salt"]
+        state = State(self.conditions.salted(salt), self.choice, entries)
         write_text(states.text_of(state), path_of_state(self.book))
         self.saved = state
         self.drop(state.digests())

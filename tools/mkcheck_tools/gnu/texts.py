@@ -138,10 +138,9 @@ def expanded_by_halves(prober: Prober, texts: Sequence[str]) -> list[str]:
     ]
 
 
-def is_strict(prober: Prober, text: Text) -> bool:
+def is_strict(flags: str, text: Text) -> bool:
     """Whether make starts the shell so that a command ends at the first part of it that fails: as
-    .SHELLFLAGS says, or where `.POSIX` is a target."""
-    (flags,) = prober.values(".SHELLFLAGS")
+    the value of .SHELLFLAGS says, or where `.POSIX` is a target."""
     if flags:
         return ends_early(flags)
     return any(STRICT in rule.targets for rule in text.rules)

@@ -315,6 +315,11 @@ def path_name(root: str, folder: str, text: str) -> str:
     return full[len(root) + 1 :] if full.startswith(root + "/") else full
 
 
+def in_folder(folder: str) -> str:
+    """The words for what is or happens in a folder, a path from the root."""
+    return "in the project's folder" if folder in (".", "") else f"in {folder}"
+
+
 def is_foreign(name: str) -> bool:
     """Whether a file lies in a folder whose files aren't the project's."""
     return any(part in FOREIGN for part in name.split("/")[:-1])

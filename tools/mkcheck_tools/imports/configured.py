@@ -13,7 +13,7 @@ from collections.abc import Iterable
 from dataclasses import dataclass, field
 
 from mkcheck_tools.faults import Fault
-from mkcheck_tools.imports.builds import FOREIGN, Build
+from mkcheck_tools.imports.builds import FOREIGN, Build, in_folder
 
 CMAKE = "CMake"
 # What CMake writes beside the folders `CMakeFiles`.
@@ -56,7 +56,7 @@ class Configured:
         self.tools.update((name, tool) for name in found)
         if found:
             self.notes.append(
-                f"{count(found, 'file')} in {folder} that {tool} wrote when it configured"
+                f"{count(found, 'file')} {in_folder(folder)} that {tool} wrote when it configured"
                 f" {'is' if len(found) == 1 else 'are'} taken as never changing"
             )
 

@@ -8,7 +8,7 @@ import re
 from dataclasses import dataclass
 
 from mkcheck_tools.faults import Fault
-from mkcheck_tools.imports.builds import path_name
+from mkcheck_tools.imports.builds import in_folder, path_name
 from mkcheck_tools.imports.database import Rule
 from mkcheck_tools.imports.gnumake import Make
 from mkcheck_tools.imports.transcripts import printed
@@ -153,7 +153,7 @@ def failure_of_make(root: str, top: Make, makes: list[Make]) -> Failure:
     errors = lines_of(make.last_errors)
     spots = make.transcript.spots
     if not spots or not any(OF_RECIPE.match(line) for line in errors):
-        what = "" if make is top else f"make in {path_name(root, make.folder, '.')}"
+        what = "" if make is top else f"make {in_folder(path_name(root, make.folder, '.'))}"
         first = next((at for at, line in enumerate(errors) if OWN.match(line)), None)
         # With -k make goes on after what fails.
         return Failure(what, [], lines_of(make.errors) if first is None else errors[first:])
@@ -178,7 +178,7 @@ def failure_of_asking(root: str, makes: list[Make]) -> str:
         return ""
     lines = lines_of(make.errors)
     at = next((at for at, line in enumerate(lines) if "*** " in line), None)
-    where = f"in {path_name(root, make.folder, '.')}"
+    where = in_folder(path_name(root, make.folder, "."))
     if at is None:
         return f"{where}: {lines[-1] if lines else 'it printed nothing'}"
     found = TARGET.search(lines[at])

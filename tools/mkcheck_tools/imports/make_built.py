@@ -8,7 +8,7 @@ import shlex
 from dataclasses import dataclass, replace
 
 from mkcheck_tools.imports.asking import Asking
-from mkcheck_tools.imports.builds import path_name
+from mkcheck_tools.imports.builds import in_folder, path_name
 from mkcheck_tools.imports.confining import OWN, Confined
 from mkcheck_tools.imports.copies import links_in, listing
 from mkcheck_tools.imports.database import Rule
@@ -155,7 +155,7 @@ def first_build(shown: MakeShown) -> tuple[MakeShown, list[Make]]:
     if built[0].status != 0:
         front = shown.front
         found = failure_of_make(front.copies.seen, built[0], built)
-        command = f"`{shlex.join(['make', *front.words])}` in {front.folder}"
+        command = f"`{shlex.join(['make', *front.words])}` {in_folder(front.folder)}"
         raise build_fault(found, command, shown.leftovers.sentence())
     return shown, built
 

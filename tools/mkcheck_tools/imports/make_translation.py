@@ -5,7 +5,7 @@ from __future__ import annotations
 import contextlib
 
 from mkcheck_tools.imports.answers import counted
-from mkcheck_tools.imports.builds import Build, path_name
+from mkcheck_tools.imports.builds import Build, in_folder, path_name
 from mkcheck_tools.imports.depfiles import DepfileFault, read_depfile
 from mkcheck_tools.imports.gnumake import Make, content, last_words, outer_environment, passing
 from mkcheck_tools.imports.later import add_later
@@ -16,6 +16,7 @@ from mkcheck_tools.imports.overlaps import name_overlaps
 from mkcheck_tools.imports.own_folders import take_longer
 from mkcheck_tools.imports.real_commands import take_unseen, to_build
 from mkcheck_tools.imports.rereading import changed, is_dependency_file, place_of
+from mkcheck_tools.imports.telling import Far
 from mkcheck_tools.imports.translating import Translation
 from mkcheck_tools.imports.unchanged import mark_unchanged
 from mkcheck_tools.imports.views import Subject
@@ -42,8 +43,8 @@ def shown_build(shown: MakeShown) -> Build:
     return build
 
 
-def made_build(built: MakeBuilt) -> Build:
-    """The build as make made it."""
+def made_build(built: MakeBuilt, far: Far) -> Build:
+    """The build as make made it; `far` tells how far that is."""
     shown, front = built.shown, built.shown.front
     makes = shown.makes
     reason = "--build was given" if front.is_built else to_build(front, makes, built.makes)
@@ -70,7 +71,7 @@ def made_build(built: MakeBuilt) -> Build:
     build.unread = unread_dependencies(built)
     if built.unchanged:
         place = front.copies.shut("built")
-        mark_unchanged(build, built.unchanged, place, outer_environment())
+        mark_unchanged(build, built.unchanged, place, outer_environment(), far)
     name_overlaps(translation)
     name_makefiles(translation, makes, dependencies)
     name_changes(build, built, makes)
@@ -111,8 +112,8 @@ def name_passing(build: Build, front: MakeFolder, makes: list[Make]) -> None:
         if option:
             folder = path_name(front.copies.seen, front.copies.seen, make.folder)
             build.problem(
-                f"a recipe starts make in {folder} with {option}, by which it runs nothing or"
-                " passes over files: what it does then isn't judged; leave that option out"
+                f"a recipe starts make {in_folder(folder)} with {option}, by which it runs nothing"
+                " or passes over files: what it does then isn't judged; leave that option out"
             )
 
 

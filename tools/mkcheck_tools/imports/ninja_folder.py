@@ -6,7 +6,7 @@ import shlex
 from dataclasses import dataclass, replace
 
 from mkcheck_tools.faults import Fault
-from mkcheck_tools.imports.builds import Build
+from mkcheck_tools.imports.builds import Build, in_folder
 from mkcheck_tools.imports.copies import Copies, Tail, listing, run_here
 from mkcheck_tools.imports.failing import NINJA_STATUS, build_fault, failure_of_ninja
 from mkcheck_tools.imports.gnumake import outer_environment
@@ -15,6 +15,7 @@ from mkcheck_tools.imports.ninja_dyndeps import add_dyndeps
 from mkcheck_tools.imports.ninja_files import Manifest
 from mkcheck_tools.imports.ninja_learning import learn
 from mkcheck_tools.imports.ninja_text import NinjaFault
+from mkcheck_tools.imports.telling import Far
 from mkcheck_tools.run.places import Place
 
 
@@ -65,13 +66,14 @@ def ninja_built(shown: NinjaShown, tail: Tail) -> NinjaShown:
         status, said, errors = run_here(place, command, environment)
         is_late = status == 0
     if status != 0:
-        words = f"`{shlex.join(['ninja', *front.words])}` in {front.folder}"
+        words = f"`{shlex.join(['ninja', *front.words])}` {in_folder(front.folder)}"
         raise build_fault(failure_of_ninja(said, errors), words)
     return replace(shown, is_built=True, is_late=is_late)
 
 
-def ninja_build(shown: NinjaShown) -> Build:
-    """The build, with what is known after a build where one was made."""
+def ninja_build(shown: NinjaShown, far: Far) -> Build:
+    """The build, with what is known after a build where one was made; `far` tells how far that
+    is."""
     copies = shown.front.copies
     place = copies.place("read")
     before = listing(place.folder)
@@ -87,7 +89,7 @@ def ninja_build(shown: NinjaShown) -> Build:
             " late"
         )
     if built is not None:
-        learn(translation, built, outer_environment())
+        learn(translation, built, outer_environment(), far)
         translation.build.made = listing(built.folder) - before
     return translation.build
 

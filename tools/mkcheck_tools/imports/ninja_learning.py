@@ -12,6 +12,7 @@ from mkcheck_tools.imports.depfiles import DepfileFault, read_depfile
 from mkcheck_tools.imports.ninja import NinjaBuild
 from mkcheck_tools.imports.ninja_files import Edge, canonical
 from mkcheck_tools.imports.ninja_inputs import Inputs
+from mkcheck_tools.imports.telling import Far
 from mkcheck_tools.run.places import Place, run
 
 # A time that no file has that was written in a build.
@@ -21,19 +22,24 @@ OTHER_BYTES = b"These bytes were put here by mkcheck-import, to see whether they
 NOTED = re.compile(r"(.*): #deps \d+, deps mtime ")
 
 
-def learn(translation: NinjaBuild, built: Place, environment: Mapping[str, str]) -> None:
-    """Adds to a translation what is known after a build, which ninja made in a place."""
+def learn(
+    translation: NinjaBuild, built: Place, environment: Mapping[str, str], far: Far
+) -> None:
+    """Adds to a translation what is known after a build, which ninja made in a place; `far` tells
+    how far that is."""
     folders: set[str] = set()
     noted = noted_by_ninja(translation, built, environment)
-    for edge in list(translation.reached):
+    reached = list(translation.reached)
+    for edge in reached:
         if edge.value("deps"):
             add_late(translation, edge, noted.get(edge.outputs[0], []))
         else:
             learn_depfile(translation, edge, built)
         folders |= learn_outputs(translation, edge, built)
         test_phony(translation, edge, built)
-        if edge.restat:
-            try_restat(translation, edge, built, environment)
+    restat = [edge for edge in reached if edge.restat]
+    for edge in far.each("tried", restat, lambda edge: edge.outputs[0]):
+        try_restat(translation, edge, built, environment)
     for node in translation.build.nodes.values():
         found = [name for group in node.groups for name in group if name in folders]
         if found and node.has_rule and (node.commands or node.kind is Kind.FILE):
@@ -171,7 +177,8 @@ def try_restat(
         build.note(
             f"{where} has `restat`, and its command leaves {os.path.basename(left[0])} as it was"
             " when nothing changed. Then ninja doesn't build what needs that; so a change of what"
-            " the command reads counts as reaching its outputs alone, and it isn't replayed",
+            " the command reads counts as reaching its outputs alone, and that a replay leaves them"
+            " as they are is no fault",
             os.path.basename(left[0]),
         )
         if "symbolextractor" in edge.value("command"):

@@ -57,7 +57,7 @@ from mkcheck_tools.imports.request import Request
 from mkcheck_tools.imports.saving import build_of_text, recorded_of_text, text_of_build
 from mkcheck_tools.imports.sentences import Sentences
 from mkcheck_tools.imports.settling import Settling
-from mkcheck_tools.imports.telling import COUNT
+from mkcheck_tools.imports.telling import COUNT, Far
 from mkcheck_tools.imports.told import Teller
 from mkcheck_tools.imports.tools import Built, NinjaTool, Shown, Tool, program_of, tool_of
 from mkcheck_tools.judge.notes import Kind
@@ -233,7 +233,8 @@ class Import(Generic[Shown, Built]):
             add_configured(build, place, self.request.configured)
             return written(build, place, self.desk)
 
-        translated = self.desk.step("translate", translate, word_of_translation)
+        look = self.tool.far.text
+        translated = self.desk.step("translate", translate, word_of_translation, look)
         made = translated.build
         for text in grouped(made.problems, made.subjects) if self.request.is_whole else ():
             self.desk.say(f"not judged: {text}")
@@ -372,7 +373,7 @@ def add_configured(build: Build, place: Place, asked: tuple[str, ...]) -> None:
     for name in configuring(build):
         build.note(
             f"{name}: its recipe runs config.status, so it is of the configure step, and is"
-            " recorded as it is, and not replayed",
+            " recorded as it is, whatever its replay shows",
             name,
         )
 
@@ -384,18 +385,19 @@ def look(translated: Translated, desk: Desk, why: str) -> int:
     recipes = [node for node in build.nodes.values() if node.commands]
     named = [node for node in recipes if node.name not in build.unjudged]
     goals = ", ".join(build.goals[:5]) + (" .." if len(build.goals) > 5 else "")
+    problems = grouped(build.problems, build.subjects)
+    heading = "Not judged:"
     if why:
         print(f"only a build shows what will be judged, for {goals}, by {build.tool}: {why}")
-        problems = []
+        heading = "Left open by `make -n` (a build may show it):"
     else:
         desk.step("graph", partial(translated.judge.graph, translated.has_first), str)
         all_of = f"{len(named)} of {counted(len(recipes), 'recipe')}"
         print(f"{all_of} will be judged, for {goals}, by {build.tool}")
-        problems = grouped(build.problems, build.subjects)
     notes = grouped(build.notes, build.subjects)
-    for heading, texts in (("Not judged:", problems), ("Notes:", notes)):
+    for front, texts in ((heading, problems), ("Notes:", notes)):
         if texts:
-            print("\n".join(["", heading, *(f"    {text}" for text in texts)]))
+            print("\n".join(["", front, *(f"    {text}" for text in texts)]))
     return 0
 
 
@@ -481,8 +483,8 @@ def is_other_choice(book: str, fixed: Sequence[str], trusted: Sequence[str]) -> 
 
 
 def own_trusted(judge: Judge) -> list[str]:
-    """The targets whose recipes aren't replayed without being asked for: those of `restat`, and
-    those that configure again."""
+    """The targets whose recipes are trusted without being asked for: those of `restat`, and those
+    that configure again."""
     names, build = judge.names().written, judge.build
     alike = [name for name, node in build.nodes.items() if node.left_alike]
     return [names[name] for name in [*alike, *configuring(build)] if name in names]
@@ -519,14 +521,15 @@ def judged_by(
         if copies is not None and "built" in copies.made:
             place = copies.shut("built")
         said = replace(recording.recorded, looked=settled.looked)
-        tried = probing(settled, before, place, judge.environment).probe()
+        tried = probing(settled, before, place, judge.environment).probe(far)
         if place is not None and copies is not None:
             copies.place("read")
         judge.write_book(settled.footprints, said.noted)
         has_first = save(judge, desk, said)
         return Judged(settled.build, settled.footprints, judge.check(has_first), has_first, tried)
 
-    return desk.step("check", check, word_of_check)
+    far = Far()
+    return desk.step("check", check, word_of_check, far.text)
 
 
 def word_of_check(judged: Judged) -> str:

@@ -22,6 +22,7 @@ from mkcheck_tools.imports.gnumake import content
 from mkcheck_tools.imports.kept import Entry, Tried, basis_of, digest_of_value
 from mkcheck_tools.imports.plain import shell_text
 from mkcheck_tools.imports.readings import followed
+from mkcheck_tools.imports.telling import Far
 from mkcheck_tools.run.places import Place
 
 BETWEEN_WORDS = re.compile(r"[\s;&|()<>\"'`=:{}\[\]]+")
@@ -91,12 +92,12 @@ class Probing:
         built."""
         return any(self.known(*waiting) is None for waiting in self.waiting())
 
-    def probe(self) -> dict[str, Tried]:
+    def probe(self, far: Far) -> dict[str, Tried]:
         """Adds a problem for each recipe to which such a folder matters; gives what came of trying
-        recipes, now or before."""
+        recipes, now or before. `far` tells how far that is."""
         results: dict[str, Tried] = {}
         left = TRIED_AT_MOST
-        for node, record, found in self.waiting():
+        for node, record, found in far.each("tried", [*self.waiting()], lambda one: one[0].name):
             one = self.known(node, record, found)
             if one is None:
                 what, file = UNKNOWN, ""

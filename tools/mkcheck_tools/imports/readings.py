@@ -11,7 +11,7 @@ from collections.abc import Callable
 from dataclasses import dataclass, field
 
 from mkcheck_tools.faults import Fault
-from mkcheck_tools.imports.builds import Build, Kind, Node, is_foreign, path_name
+from mkcheck_tools.imports.builds import Build, Kind, Node, in_folder, is_foreign, path_name
 from mkcheck_tools.imports.copies import Copies
 from mkcheck_tools.imports.database import Rule
 from mkcheck_tools.imports.gnumake import Make, Start, own_environment
@@ -221,7 +221,7 @@ class Readings:
             if names:
                 folder = path_name(self.copies.seen, self.copies.seen, make.folder)
                 self.sentences.append(
-                    f"the make in the folder {folder} reads {names[0]} beside its makefiles, and"
+                    f"the make {in_folder(folder)} reads {names[0]} beside its makefiles, and"
                     " whether its commands depend on it can't be asked, since a recipe starts it by"
                     " its name: start it by $(MAKE)"
                 )

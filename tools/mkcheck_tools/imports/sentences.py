@@ -8,7 +8,7 @@ from dataclasses import dataclass, field
 
 from mkcheck_tools.book.footprint_files import Footprints
 from mkcheck_tools.gnu.rule_lines import pattern_rule
-from mkcheck_tools.imports.builds import Build, Kind, Node
+from mkcheck_tools.imports.builds import Build, Kind, Node, in_folder
 from mkcheck_tools.imports.configured import CMAKE
 from mkcheck_tools.imports.judging import UNAWARE, BuildFinding
 
@@ -393,16 +393,17 @@ class Sentences:
         if above is not None:
             return (
                 f"let {self.called(recipe)} need {self.called(above)}, whose recipe starts the make"
-                f" in {other.folder}"
+                f" {in_folder(other.folder)}"
             )
         above = self.starter(one.make, other.make)
         if above is not None:
             return (
-                f"let {self.called(above)}, whose recipe starts the make in {one.folder}, need"
-                f" {self.called(writer)}"
+                f"let {self.called(above)}, whose recipe starts the make {in_folder(one.folder)},"
+                f" need {self.called(writer)}"
             )
         if one.folder != other.folder:
-            return f"let the one in {other.folder} be done before the one in {one.folder} begins"
+            first, second = in_folder(other.folder), in_folder(one.folder)
+            return f"let the one {first} be done before the one {second} begins"
         starters = [self.build.starters.get(node.make, "") for node in (other, one)]
         targets = [self.cmake_target(name) for name in starters]
         if all(targets):

@@ -7,18 +7,20 @@ import shutil
 import sys
 import threading
 import time
-from collections.abc import Callable
+from collections.abc import Callable, Iterator, Sequence
 from typing import TextIO, TypeVar
 
 from mkcheck_tools.run.progress import CLEAR, duration
 
 Given = TypeVar("Given")
+Item = TypeVar("Item")
 # How often a terminal and another file get a line, in seconds.
 SECONDS_ON_TERMINAL = 1.0
 SECONDS_ELSEWHERE = 60.0
 # A count in a line of another program, as `[replay 3/10 0:05 left] a.o` or `[3/10] `, and `[3/0]`
-# where the whole isn't known.
+# where the whole isn't known; and what such a line says of a recipe that goes on.
 COUNT = re.compile(r"\[(?:(\w+) )?(\d+)/(\d+)(?: ([\d:]+) left)?\]")
+GOES_ON = re.compile(r"\] (.+? goes on)(?:, ([\d:]+))?$", re.MULTILINE)
 # In place of a count, where make is asked what it would do: it begins no commands then.
 ASKED = "[asked 0/0]"
 DOING = {
@@ -30,10 +32,31 @@ DOING = {
     "translate": "translating",
     "record": "recording",
     "replay": "replaying",
+    "alike": "replaying each of those that are alike",
+    "folders": "replaying with the folders of other recipes",
     "alone": "replaying alone what differed",
     "failing": "replaying where writes fail",
     "check": "checking",
+    "tried": "trying recipes again",
 }
+
+
+class Far:
+    """How far a step of this program is, as a text with a count."""
+
+    def __init__(self) -> None:
+        self.told = ""
+
+    def text(self) -> str:
+        """The text."""
+        return self.told
+
+    def each(self, part: str, items: Sequence[Item], name: Callable[[Item], str]) -> Iterator[Item]:
+        """Gives these items, and tells which one a part of the step is at."""
+        for number, item in enumerate(items):
+            self.told = f"[{part} {number}/{len(items)}] {name(item)} goes on"
+            yield item
+        self.told = ""
 
 
 class Telling:
@@ -97,8 +120,8 @@ class Telling:
 
 
 def how_far(text: str, seconds: float) -> str:
-    """The last count in a text, and the time that is left, where the whole is known; empty where
-    there is no count, or it counts nothing."""
+    """The last count in a text, the time that is left, where the whole is known, and the recipe of
+    which that line says that it goes on; empty where there is no count, or it counts nothing."""
     counts = list(COUNT.finditer(text))
     done, total = map(int, counts[-1].group(2, 3)) if counts else (0, 0)
     if total == 0:
@@ -106,7 +129,11 @@ def how_far(text: str, seconds: float) -> str:
     left = counts[-1].group(4)
     if left is None and 0 < done < total:
         left = duration(seconds / done * (total - done))
-    return f", {done} of {total}{f', {left} left' if left else ''}"
+    more = f", {left} left" if left else ""
+    going = GOES_ON.search(text, counts[-1].start())
+    if going is not None:
+        more += f", {going.group(1)}"
+    return f", {done} of {total}{more}"
 
 
 def doing(word: str, text: str) -> str:

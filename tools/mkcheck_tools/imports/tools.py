@@ -30,7 +30,7 @@ from mkcheck_tools.imports.ninja_folder import (
 )
 from mkcheck_tools.imports.real_commands import to_build
 from mkcheck_tools.imports.request import Request
-from mkcheck_tools.imports.telling import ASKED
+from mkcheck_tools.imports.telling import ASKED, Far
 from mkcheck_tools.run.paths import SeenPath
 
 Shown = TypeVar("Shown")
@@ -63,6 +63,10 @@ class Basis:
 
 class Tool(Protocol[Shown, Built]):
     """What a build tool is asked; what a step gives the next one takes."""
+
+    @property
+    def far(self) -> Far:
+        """How far the translation is."""
 
     def read(self) -> Shown:
         """Asks the tool what it would do."""
@@ -105,6 +109,7 @@ class MakeTool:
     request: Request
     copies: Copies
     scratch: str
+    far: Far = field(default_factory=Far)
 
     def read(self) -> MakeShown:
         """Asks make what it would do. Raises `Fault` where make would let CMake write its makefiles
@@ -163,7 +168,7 @@ class MakeTool:
 
     def translate_built(self, built: MakeBuilt) -> Build:
         """The build as make made it."""
-        return made_build(built)
+        return made_build(built, self.far)
 
     def basis(self, built: MakeBuilt) -> Basis:
         """What the translation depends on: each edit of a file that make reads, and any edit where
@@ -257,6 +262,7 @@ class NinjaTool:
     request: Request
     copies: Copies
     tail: Tail = field(default_factory=Tail)
+    far: Far = field(default_factory=Far)
 
     def read(self) -> NinjaShown:
         """Reads `build.ninja`, and asks ninja whether it could build."""
@@ -294,11 +300,11 @@ class NinjaTool:
 
     def translate(self, shown: NinjaShown) -> Build:
         """The build as `build.ninja` says it."""
-        return ninja_build(shown)
+        return ninja_build(shown, self.far)
 
     def translate_built(self, built: NinjaShown) -> Build:
         """The same, with what is known after a build."""
-        return ninja_build(built)
+        return ninja_build(built, self.far)
 
     def basis(self, built: NinjaShown) -> Basis:
         """What the translation depends on: all edges are asked for what only a build shows of

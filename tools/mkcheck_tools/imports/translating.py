@@ -4,11 +4,11 @@ from __future__ import annotations
 
 from dataclasses import replace
 
-from mkcheck_tools.imports.builds import Build, Kind, Node
+from mkcheck_tools.imports.builds import Build, Kind, Node, in_folder
 from mkcheck_tools.imports.cmake import is_beside
 from mkcheck_tools.imports.commands import Commands
 from mkcheck_tools.imports.database import Rule, Shown
-from mkcheck_tools.imports.failing import failure_of_make
+from mkcheck_tools.imports.failing import below_last, failure_of_make
 from mkcheck_tools.imports.gnumake import Make
 from mkcheck_tools.imports.recursion import is_only_makes, runs_at_once, without_makes
 from mkcheck_tools.imports.views import Edge, View
@@ -36,13 +36,15 @@ class Translation(Commands):
         return self.build
 
     def name_failed(self, makes: list[Make]) -> None:
-        """Names makes that failed, though the one that started them may have gone on."""
+        """Names makes that failed, though the one that started them may have gone on; not those
+        that only failed since one below them did."""
         for make in makes:
             if make.status != 0:
-                self.build.problem(
-                    f"make failed in {self.short(make.folder)} with status {make.status}:"
-                    f" {failure_of_make(self.root, make, makes).brief}"
-                )
+                if below_last(make, makes) is None:
+                    self.build.problem(
+                        f"make failed {in_folder(self.short(make.folder))} with status"
+                        f" {make.status}: {failure_of_make(self.root, make, makes).brief}"
+                    )
                 self.build.failed = (
                     "a make that a recipe starts fails, and the build goes on (by a `-` before the"
                     " command, `-k` or `||`): what is left then can't be judged; mend that make, or"
@@ -307,9 +309,9 @@ class Translation(Commands):
             if command.ignored:
                 folder = self.short(makes[0].folder)
                 self.build.note(
-                    f"{self.place_of(node)}: the recipe of {node.name} goes on when the make in"
-                    f" {folder} fails (by `-`): then a make that ends well may leave old files,"
-                    " which isn't judged",
+                    f"{self.place_of(node)}: the recipe of {node.name} goes on when the make"
+                    f" {in_folder(folder)} fails (by `-`): then a make that ends well may leave old"
+                    " files, which isn't judged",
                     folder,
                 )
             if runs_at_once(command.text):

@@ -14,6 +14,7 @@ from mkcheck_tools.imports.copies import run_here
 from mkcheck_tools.imports.database import Rule
 from mkcheck_tools.imports.gnumake import Make, content
 from mkcheck_tools.imports.plain import shell_text
+from mkcheck_tools.imports.telling import Far
 from mkcheck_tools.run.places import Place
 
 # A time that no file has that was written in a build.
@@ -45,10 +46,11 @@ def is_own(rule: Rule, starting: set[int]) -> bool:
 
 
 def mark_unchanged(
-    build: Build, names: list[str], built: Place, environment: dict[str, str]
+    build: Build, names: list[str], built: Place, environment: dict[str, str], far: Far
 ) -> None:
-    """Marks the nodes of such files, after a try whether their recipes write what changed."""
-    for name in names:
+    """Marks the nodes of such files, after a try whether their recipes write what changed; `far`
+    tells how far that is."""
+    for name in far.each("tried", names, str):
         node = build.nodes.get(name)
         if node is None or node.kind is not Kind.FILE or not node.commands:
             continue
@@ -62,8 +64,8 @@ def mark_unchanged(
             )
         build.note(
             f"{where}: the recipe of {name} left it as it was when nothing changed. Then make"
-            " doesn't make what needs it again; so it isn't replayed, and a change of what it reads"
-            f" reaches what needs {name} only where {name} changes too",
+            " doesn't make what needs it again; so a change of what it reads reaches what needs"
+            f" {name} only where {name} changes too, and that a replay leaves it is no fault",
             name,
         )
 

@@ -23,6 +23,7 @@ class Kind(Enum):
     COUNTED = ("counted", DOUBT, "a recipe reads what the kernel counts, as its load is")
     CONFIGURATION = ("configuration", HINT, "a recipe reads a program's configuration")
     DATE = ("date", DOUBT, "a recipe writes today's date into a file")
+    EARLIER = ("earlier", DOUBT, "a recipe uses files that it may have left before an edit")
     ENDS_EARLY = ("ends-early", HINT, "a recipe fails where the shell is started by `-e`")
     ENVIRONMENT = ("environment", DOUBT, "make takes a macro or an option from the environment")
     FLAGS = ("flags", DOUBT, "the makefile gives make options, or makes it read otherwise")

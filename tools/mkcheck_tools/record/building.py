@@ -58,6 +58,8 @@ class Build:
     macros: Mapping[str, str]
     texts: Mapping[str, bytes]
     left: frozenset[str]
+    flags: str
+    """The options of the shell that the makefile gives, if any."""
 
     @property
     def unrecorded(self) -> Unrecorded:
@@ -92,13 +94,14 @@ def build_of(request: Request, scratch: RealPath, warn: Warn) -> Build:
     refuse_mark(folder, names)
     texts = {} if request.keep is None else read_texts(folder, names)
     text_of_makefile = text_of(prober)
-    graph = with_shell(graph, prober, is_strict(prober, text_of_makefile), warn)
+    (flags,) = prober.values(".SHELLFLAGS")
+    graph = with_shell(graph, prober, is_strict(flags, text_of_makefile), warn)
     refuse_absent_compiler(graph)
     warn_of_stem(graph, prober, text_of_makefile, warn)
     warn_of_makes(graph, prober, choice.operands, warn)
     varying = warn_of_varying(unrecorded, warn)
     macros = handed_down(prober, choice.operands)
-    return Build(prober, graph, frozenset(varying), macros, texts, left)
+    return Build(prober, graph, frozenset(varying), macros, texts, left, flags)
 
 
 def warn_of_varying(build: Unrecorded, warn: Warn) -> list[str]:

@@ -2,15 +2,43 @@
 
 from __future__ import annotations
 
+import json
 import os
 import shutil
 from collections.abc import Iterable, Mapping
+from dataclasses import dataclass
 from pathlib import Path
 
+from mkcheck_tools.book.choices import Choice
 from mkcheck_tools.faults import Fault
 
 BOOK = "footprint.json"
 WORDS = "words"
+OPTIONS = "options"
+CONDITIONS = "conditions.json"
+OF_USER = ("user", "umask")
+
+
+@dataclass(frozen=True)
+class Made:
+    """What a build is made from: the texts of its makefile by their paths where they are kept, its
+    footprint file, its words and options, and what else its recipes go by, as a text."""
+
+    texts: Mapping[str, bytes]
+    book: str
+    words: Iterable[str]
+    options: Iterable[str]
+    conditions: str
+
+    def files(self) -> dict[str, bytes]:
+        """The files that are kept."""
+        return {
+            **self.texts,
+            BOOK: self.book.encode("utf-8"),
+            WORDS: text_of_words(self.words),
+            OPTIONS: text_of_words(self.options),
+            CONDITIONS: self.conditions.encode("ascii"),
+        }
 
 
 def read_texts(folder: str, names: Iterable[str]) -> dict[str, bytes]:
@@ -26,14 +54,36 @@ def read_texts(folder: str, names: Iterable[str]) -> dict[str, bytes]:
     return found
 
 
-def keep_build(kept: str, texts: Mapping[str, bytes], book: str, words: Iterable[str]) -> None:
-    """Writes the texts of a makefile, its footprint file and its words into a folder of their own,
-    in place of what was kept there before. Whatever ends it, that folder is whole, or isn't there.
+def text_of_conditions(
+    conditions: Mapping[str, str],
+    choice: Choice,
+    macros: Mapping[str, str],
+    shells: Iterable[str],
+    links: Mapping[str, str],
+) -> str:
+    """On what recipes go beside their commands and files: a value that is the same text where all
+    is the same. `conditions` are those of the state; `macros` are the variables to which the
+    makefile gives other values, `links` lead to these names.
+    """
+    value = {
+        "operands": [word for word in choice.words if "=" in word],
+        "shells": sorted(shells),
+        "macros": dict(macros),
+        "links": dict(links),
+        **{name: one for name, one in conditions.items() if name in ("path", "salt", *OF_USER)},
+        "variables": {name[1:]: one for name, one in conditions.items() if name.startswith("$")},
+    }
+    return json.dumps(value, indent=1, sort_keys=True) + "\n"
+
+
+def keep_build(kept: str, made: Made) -> None:
+    """Writes what a build is made from into a folder of its own, in place of what was kept there
+    before. Whatever ends it, that folder is whole, or isn't there.
     """
     refuse_other_folder(kept)
     goal = Path(os.path.realpath(kept))
     beside, before = (goal.with_name(f".{goal.name}.{os.getpid()}{end}") for end in ("", ".old"))
-    files = {**texts, BOOK: book.encode("utf-8"), WORDS: text_of_words(words)}
+    files = made.files()
     try:
         try:
             for name, text in files.items():
@@ -65,7 +115,7 @@ def path_of(name: str) -> str:
     parts = [part for part in name.split("/") if part not in ("", ".")]
     if ".." in parts:
         raise Fault(f"--keep: {name} lies above the project's folder, so it can't be kept")
-    if parts in ([BOOK], [WORDS]):
+    if parts in ([BOOK], [WORDS], [OPTIONS], [CONDITIONS]):
         raise Fault(f"--keep: the text {name} of the makefile needs another name, to be kept")
     return "/".join(parts)
 

@@ -5,10 +5,12 @@ their replay, the verdict on each, and the footprint file with its notes and its
 from __future__ import annotations
 
 import os
+import secrets
 from collections.abc import Mapping
 from contextlib import AbstractContextManager, nullcontext
 from dataclasses import dataclass, replace
 
+from mkcheck_tools.answers.graphs import Recipe
 from mkcheck_tools.book import formats
 from mkcheck_tools.book.answer_files import RecordingAnswer
 from mkcheck_tools.book.books import make_book
@@ -29,7 +31,7 @@ from mkcheck_tools.judge.notes import Kind, Note, Notes, Warn, ignore
 from mkcheck_tools.replay.verdicts import ReplayVerdict, judge
 from mkcheck_tools.record.answering import status_of, tell, tell_of_update, write_answer
 from mkcheck_tools.record.building import Build, build_of, makefile_of, removes_on_error
-from mkcheck_tools.record.keeping import keep_build
+from mkcheck_tools.record.keeping import Made, keep_build, text_of_conditions
 from mkcheck_tools.record.leaving import with_folders
 from mkcheck_tools.record.presuming import Beginning, keep_premises
 from mkcheck_tools.record.recording import Recorded, Workshop, record
@@ -106,9 +108,12 @@ def recorded_and_written(
         result = replace(result, failures=[*recorded.failures, *compared, *result.failures])
         status, kept = write(shop, recorded, verdict, result, notes)
         if kept and before is not None and shop.updating is not None:
-            keep_premises(shop, build, recorded, shop.updating, before)
+            conditions = conditions_of(shop, build, recorded)
+            keep_premises(shop, build, recorded, shop.updating, before, conditions)
         if status == 0 and request.keep is not None and result.text is not None:
-            keep_build(request.keep, build.texts, result.text, request.choice.words)
+            choice, conditions = request.choice, conditions_of(shop, build, recorded)
+            made = Made(build.texts, result.text, choice.words, choice.options, conditions)
+            keep_build(request.keep, made)
         return status
     except BaseException as end:
         raise told_of_end(end, request, keep(shop, recorded, verdict, False))
@@ -131,7 +136,8 @@ def workshop(request: Request, build: Build, scratch: RealPath, warn: Warn) -> W
         warn(Note("", Kind.UNBOUND, UNBOUND))
     graph = build.graph
     environment = tracing.environment(place, choice.operands, build.macros)
-    conditions = Conditions.of(asked_of(request, place), environment)
+    set_here = {*choice.operands, *build.macros}
+    conditions = Conditions.of(asked_of(request, place), environment, set_here)
     updating = updating_of(request, build, conditions, warn)
     return Workshop(
         request,
@@ -142,6 +148,7 @@ def workshop(request: Request, build: Build, scratch: RealPath, warn: Warn) -> W
         build.macros,
         build.varying,
         build.prober.ruled,
+        conditions,
         updating,
         not removes_on_error(request),
         None if updating is None else Digests(place.seen),
@@ -179,6 +186,28 @@ def updating_of(
             else:
                 tell(f"{state} {reason}: all recipes are recorded")
     return updating
+
+
+def conditions_of(shop: Workshop, build: Build, recorded: Recorded) -> str:
+    """On what the recipes go beside their commands and files, for `--keep`. Without a state each
+    text has a salt of its own, and is like no other one."""
+    updating = shop.updating
+    saved = None if updating is None else updating.saved
+    conditions = shop.conditions.salted(secrets.token_hex(16))
+    given = (name for name in recorded.given if name not in recorded.writers)
+    paths = ((name, real_in(shop.folder, name)) for name in given)
+    return text_of_conditions(
+        conditions if saved is None else saved.conditions,
+        shop.request.choice,
+        build.macros,
+        {shell_of(recipe, build.flags) for recipe in build.graph.recipes},
+        {name: os.readlink(path) for name, path in paths if os.path.islink(path)},
+    )
+
+
+def shell_of(recipe: Recipe, flags: str) -> str:
+    """The shell that runs a recipe, and how: by the flags that the makefile gives, if any."""
+    return f"{recipe.shell} {flags or ('-ec' if recipe.strict else '-c')}"
 
 
 def early_replays_of(shop: Workshop, build: Build) -> AbstractContextManager[Early | None]:

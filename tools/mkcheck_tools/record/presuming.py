@@ -88,7 +88,12 @@ def found_at(folder: RealPath, names: Iterable[str]) -> dict[str, Version | None
 
 
 def keep_premises(
-    shop: Workshop, build: Build, recorded: Recorded, updating: Updating, before: Beginning
+    shop: Workshop,
+    build: Build,
+    recorded: Recorded,
+    updating: Updating,
+    before: Beginning,
+    conditions: str,
 ) -> None:
     """Writes on what a whole recording depends, or removes what is kept of that, where it depends
     on more, or something has changed meanwhile."""
@@ -96,6 +101,7 @@ def keep_premises(
     with contextlib.suppress(Fault, OSError):
         premises = premises_of(shop, build, recorded, updating, before)
         if premises is not None:
+            premises = replace(premises, conditions=conditions)
             premises = premises.stamped(shop.request.hidden_paths)
         if premises is not None:
             write_text(premises.text(), path)
@@ -135,8 +141,8 @@ def premises_of(
         looks,
         {**before.lists, **lists},
         len(graph.recipes),
-        salt,
-        variables_now(session_in(before.texts.values()), salt),
+        salt=salt,
+        variables=variables_now(session_in(before.texts.values()), salt),
     )
 
 

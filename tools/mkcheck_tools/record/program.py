@@ -8,6 +8,7 @@ import os
 import shlex
 import sys
 import threading
+from dataclasses import replace
 from functools import partial
 from pathlib import Path
 
@@ -127,8 +128,12 @@ def request_of(asked: argparse.Namespace, before: Premises | None) -> Request:
     if asked.keep is not None:
         from mkcheck_tools.record.keeping import refuse_other_folder, text_of_words
 
+        # What is kept is what a make is given, and that one knows nothing of the recording before.
+        choice = replace(
+            choice, makefile=given.makefile, bare=given.bare, words=given.words
+        )
         refuse_other_folder(asked.keep)
-        text_of_words(choice.words)
+        text_of_words([*choice.options, *choice.words])
     taken = [word for word in choice.given() if word not in given.given()]
     if taken:
         tell(f"as before: {shlex.join(choice.given())}")
@@ -193,7 +198,7 @@ def record(asked: argparse.Namespace) -> int:
         status = unchanged(request, before)
         if status is not None:
             if status == 0:
-                keep_as_before(request)
+                keep_as_before(request, before.conditions)
             return status
         before.know()
     from mkcheck_tools.run import places
@@ -211,17 +216,18 @@ def record(asked: argparse.Namespace) -> int:
         places.end_all()
 
 
-def keep_as_before(request: Request) -> None:
+def keep_as_before(request: Request, conditions: str) -> None:
     """Keeps a build of which nothing has changed, where that is asked for."""
     if request.keep is None or request.book is None:
         return
     from mkcheck_tools.gnu.texts import plainly_included
     from mkcheck_tools.record.building import makefile_of
-    from mkcheck_tools.record.keeping import keep_build, read_texts
+    from mkcheck_tools.record.keeping import Made, keep_build, read_texts
 
     texts = read_texts(request.folder, plainly_included(request.folder, makefile_of(request)))
     text = Path(request.book).read_text(encoding="utf-8")
-    keep_build(request.keep, texts, text, request.choice.words)
+    choice = request.choice
+    keep_build(request.keep, Made(texts, text, choice.words, choice.options, conditions))
 
 
 def answered(asked: argparse.Namespace) -> int:

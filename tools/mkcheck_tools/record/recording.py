@@ -14,7 +14,7 @@ from contextlib import AbstractContextManager, nullcontext
 from dataclasses import dataclass, field, replace
 
 from mkcheck_tools.answers.graphs import Ancestors, Command, Recipe
-from mkcheck_tools.book.updating import Updating
+from mkcheck_tools.book.updating import Conditions, Updating
 from mkcheck_tools.faults import (
     FAILED,
     FULL,
@@ -81,6 +81,7 @@ class Workshop:
     macros: Mapping[str, str] = field(default_factory=dict)
     varying: frozenset[str] = frozenset()
     ruled: Callable[[list[str], str], list[str]] = lambda _names, _user: []
+    conditions: Conditions = Conditions({}, {})
     updating: Updating | None = None
     failing: bool = True
     """Whether the replay tries what recipes leave where a write fails."""
@@ -186,34 +187,32 @@ def record(
     tree = shop.set_up(warn)
     world = follow() if follow is not None else None
     naming = Naming(shop.place.seen, shop.fixed, shop.steady)
-    progress = Progress(len(recipes))
     given = frozenset(named([*tree.there, *tree.folders], naming))
     done = Recorded([], [], [], world, given, shop.ancestors)
-    bench = Bench(shop, tree, naming, progress, early)
     failed: set[str] = set()
     try:
-        for recipe in recipes:
-            target = recipe.target
-            progress.begin(target)
-            if shop.ancestors.any_before(failed, target):
-                failed.add(target)
-                text = f"the recipe of {target} wasn't run, since it depends on one that failed"
-                done.failures.append(Failure(target, text))
-                continue
-            try:
-                bench.record(recipe, warn, done)
-            except Disturbed:
-                raise
-            except Exception as error:
-                if is_of_system(error, done):
+        with Progress(len(recipes)) as progress:
+            bench = Bench(shop, tree, naming, progress, early)
+            for recipe in recipes:
+                target = recipe.target
+                progress.begin(target)
+                if shop.ancestors.any_before(failed, target):
+                    failed.add(target)
+                    text = f"the recipe of {target} wasn't run, since it depends on one that failed"
+                    done.failures.append(Failure(target, text))
+                    continue
+                try:
+                    bench.record(recipe, warn, done)
+                except Disturbed:
                     raise
-                failed.add(target)
-                done.failures.append(failure_of(error, target))
-                bench.clear(world)
+                except Exception as error:
+                    if is_of_system(error, done):
+                        raise
+                    failed.add(target)
+                    done.failures.append(failure_of(error, target))
+                    bench.clear(world)
     except (OSError, Stopped) as end:
         return replace(done, stopped=end)
-    finally:
-        progress.clear()
     return done
 
 

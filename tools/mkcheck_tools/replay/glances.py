@@ -70,7 +70,13 @@ class Glances:
                 found = self.varied(trial, {**counted, **open_ones}, others, newest, size)
                 if not found.passed:
                     return {}, replace(found, glanced=tuple(sorted(others)))
-                for group in (without(made, counted), without(needed, counted)):
+                groups = (without(made, counted), without(needed, counted))
+                # One group alone is all that was tried, so it needn't be tried again.
+                alone = [group for group in groups if group] if not others else []
+                if len(alone) == 1:
+                    counted |= alone[0]
+                    continue
+                for group in groups:
                     rest = {**counted, **without(open_ones, group), **others}
                     if not self.varied(trial, rest, group, newest, size).passed:
                         counted |= group

@@ -35,7 +35,7 @@ from mkcheck_tools.judge.late import Late, Met, folders_of
 from mkcheck_tools.replay import orders
 from mkcheck_tools.replay.alike import groups_of, way_of
 from mkcheck_tools.replay.glances import Glances
-from mkcheck_tools.replay.halves import Halves, size_of_target
+from mkcheck_tools.replay.halves import Halves, size_of_target, watch
 from mkcheck_tools.replay.layouts import Layout
 from mkcheck_tools.replay.listings import Age, age_of, is_listed
 from mkcheck_tools.replay.meetings import Meetings, Turns
@@ -55,6 +55,7 @@ from mkcheck_tools.replay.stamps import with_other_stamps
 from mkcheck_tools.replay.surroundings import (
     AS_RECORDED,
     CLOCK,
+    EARLIER,
     FLAGS,
     FOLDERS,
     JOBS,
@@ -74,7 +75,7 @@ from mkcheck_tools.trace.accesses import Accesses, Follower
 from mkcheck_tools.trace.trees import Tree
 
 # What most recipes go by that do something else amid other surroundings.
-LIKELY = (FLAGS, CLOCK, FOLDERS)
+LIKELY = (FLAGS, CLOCK, FOLDERS, EARLIER)
 # How many replays there are for each processor. Most wait for the clock, which takes none.
 WAITING = 4
 
@@ -144,6 +145,10 @@ class Replay:
     """Whether it is run once, unless that run shows something."""
     whole: frozenset[int] = frozenset()
     """The places of recipes that have each run, for those that are alike."""
+
+    def is_trusted(self, trial: Trial) -> bool:
+        """Whether the recipe is taken as it is."""
+        return trial.recipe.target in self.trusted
 
     @functools.cached_property
     def layout(self) -> Layout:
@@ -271,6 +276,8 @@ class Replay:
             for number in group
             if outcomes[number].lean and not all(outcomes[one].shows_nothing for one in group)
         }
+        names = {number: outcomes[number].trial.recipe.target for number in again}
+        watch(again, names, Progress(len(again), title="alike"))
         return [
             again[number].result() if number in again else outcome
             for number, outcome in enumerate(outcomes)
@@ -346,6 +353,9 @@ class Replay:
         """What a recipe shows in the second of its recording. What it doesn't show now, or shows
         otherwise than it should, is left to the replay."""
         found = Ahead(self.layout.premises(trial))
+        if self.is_trusted(trial):
+            # Most of these show something then, and all would be run once more.
+            return found
         with contextlib.suppress(Exception), self.in_memory(trial, f"{number}.ahead") as place:
             # Where the program ends, no more folders are laid.
             places.pause(0)
@@ -371,25 +381,26 @@ class Replay:
         make have later stamps.
         """
         own = replace(self, later_ones=True)
-        left: set[Future[Any]] = set()
         waiting = {
             number: one
             for number, one in enumerate(outcomes)
-            if not one.passed and one.trial.recipe.target not in self.trusted
+            if not one.passed and not self.is_trusted(one.trial)
         }
-        if waiting:
-            left.update(others)
-        while left:
-            left = futures.wait(left, SECONDS_SHOWN).not_done
-        progress = Progress(len(waiting), title="alone")
+        if not waiting:
+            return outcomes
+        left = set(others)
+        with Progress(len(left), title="failing") as progress:
+            while left:
+                done, left = futures.wait(left, SECONDS_SHOWN, futures.FIRST_COMPLETED)
+                for _ in done:
+                    progress.ended("a recipe whose writes fail")
         found = dict(enumerate(outcomes))
-        for number, outcome in waiting.items():
-            progress.goes_on(outcome.trial.recipe.target)
-            if not own.differs_alone(outcome, number):
-                found[number] = own.replay_safely(outcome.trial, number, outcome.given)
-            progress.ended(outcome.trial.recipe.target)
-        if waiting:
-            progress.clear()
+        with Progress(len(waiting), title="alone") as progress:
+            for number, outcome in waiting.items():
+                progress.goes_on(outcome.trial.recipe.target)
+                if not own.differs_alone(outcome, number):
+                    found[number] = own.replay_safely(outcome.trial, number, outcome.given)
+                progress.ended(outcome.trial.recipe.target)
         return list(found.values())
 
     def differs_alone(self, outcome: Outcome, number: int) -> bool:
@@ -417,7 +428,7 @@ class Replay:
         Where such a folder was there already in the recording, its trace doesn't show who makes it.
         """
         left = {outcome.trial.recipe.target: outcome.folders for outcome in outcomes}
-        tried: list[Future[Outcome] | Outcome] = []
+        again: dict[int, Future[Outcome]] = {}
         for number, outcome in enumerate(outcomes):
             others: frozenset[Name] = frozenset()
             if outcome.run == BARE and not outcome.passed:
@@ -431,10 +442,14 @@ class Replay:
                     *self.layout.folders_of(outcome.trial),
                     *self.layout.taken_away(outcome.trial),
                 }
-            tried.append(
-                pool.submit(self.in_turn, outcome.trial, number, others) if others else outcome
-            )
-        return [one.result() if isinstance(one, Future) else one for one in tried]
+            if others:
+                again[number] = pool.submit(self.in_turn, outcome.trial, number, others)
+        names = {number: outcomes[number].trial.recipe.target for number in again}
+        watch(again, names, Progress(len(again), title="folders"))
+        return [
+            again[number].result() if number in again else outcome
+            for number, outcome in enumerate(outcomes)
+        ]
 
     def replay(self, trial: Trial, number: int, folders: frozenset[Name]) -> Outcome:
         """Replays one recipe, with these further folders: in memory, where there is room, and
@@ -519,6 +534,9 @@ class Replay:
                     return replace(outcome, half=half)
                 failed.append(outcome)
             absent = trial.known - {*self.layout.folders_of(trial), *folders}
+            if self.is_trusted(trial):
+                # What is said of it doesn't depend on why.
+                return replace(failed[-1], trial=trial, absent=absent, laid=len(sets[-1]))
             for outcome, seen in zip(failed, sets):
                 if self.needs_stamps(trial.with_reads(seen), place, folders):
                     return replace(outcome, absent=absent, stamps=True)
@@ -541,12 +559,15 @@ class Replay:
         """The runs of a recipe in a folder that is made for them.
 
         Where one fails or differs over outputs, they are repeated with the stamps in the old order
-        and all else as it was recorded, and then with each of that alone.
+        and all else as it was recorded, and then with each of that alone. Not so where a trusted
+        recipe passes over its outputs, which is the same each time.
         """
         others = all_others(trial.recipe.strict, place.is_bound)
         bench = Bench(self.runner, trial, place, folders, self.ahead)
         outcome = bench.tried(orders.OTHER, others)
         if outcome.passed or outcome.run == BARE:
+            return outcome
+        if self.is_trusted(trial) and outcome.passes_over:
             return outcome
         found = bench.tried(orders.OLD)
         if not found.passed:

@@ -2,7 +2,9 @@
 
 from __future__ import annotations
 
+import contextlib
 import os
+import shutil
 import threading
 import time
 from collections.abc import Mapping, Sequence
@@ -13,9 +15,16 @@ from mkcheck_tools.faults import Fault
 from mkcheck_tools.judge.late import Met
 from mkcheck_tools.replay.differences import Comparison, Difference, is_file, only_touched
 from mkcheck_tools.replay.layouts import Layout, aged, damage
-from mkcheck_tools.replay.surroundings import AS_RECORDED, CLOCK, Surroundings, beside, clear
+from mkcheck_tools.replay.surroundings import (
+    AS_RECORDED,
+    CLOCK,
+    EARLIER,
+    Surroundings,
+    beside,
+    clear,
+)
 from mkcheck_tools.replay.versions import Version, version_of
-from mkcheck_tools.replay.worlds import Trial, entries, stamp_of, stamps_of
+from mkcheck_tools.replay.worlds import Trial, above, entries, stamp_of, stamps_of
 from mkcheck_tools.run import places
 from mkcheck_tools.run.folders import remove
 from mkcheck_tools.run.memory import LACKS
@@ -95,6 +104,13 @@ class Outcome:
     def passed(self) -> bool:
         """Whether all runs gave what the recording gave."""
         return not self.failed and not self.differences and not self.broken
+
+    @property
+    def passes_over(self) -> bool:
+        """Whether all that the recipe did otherwise is that it left outputs as they were, which
+        were whole: what it leaves is the same in each run."""
+        is_all = self.run == AGAIN and not self.failed and not self.broken
+        return is_all and bool(self.differences) and all(one.kept for one in self.differences)
 
     @property
     def shows_nothing(self) -> bool:
@@ -284,6 +300,10 @@ class Runner:
         amid: Surroundings,
     ) -> Outcome:
         """A run where outputs were laid, amid other surroundings."""
+        if EARLIER in amid:
+            for name, other in left_earlier(trial).items():
+                with contextlib.suppress(OSError):
+                    shutil.copy(real_in(place.folder, name), real_in(place.folder, other))
         self.layout.close(trial, place.folder)
         amid.name_again(place.folder, [name for name in laid if laid[name]])
         amid.touch_folders(place.folder)
@@ -302,6 +322,9 @@ class Runner:
     ) -> Outcome:
         """One run of a recipe in a folder that is ready for it."""
         failed = self.run_commands(trial, place, amid=amid)
+        for name in left_earlier(trial).values() if EARLIER in amid else ():
+            with contextlib.suppress(OSError):
+                os.unlink(real_in(place.folder, name))
         if failed:
             return Outcome(trial, run, failed)
         return Outcome(
@@ -363,6 +386,21 @@ class Runner:
                     [f"status {ended.status}, at {first_line(command.text)}", *shown(output)]
                 )
         return ""
+
+
+def left_earlier(trial: Trial) -> dict[Name, Name]:
+    """The files that a recipe writes besides its target in folders whose names it reads, each with
+    the name of one more that it may have left there before an edit. Patterns that match the begin
+    or the end of the one name match that of the other."""
+    listed = {Name("" if folder == "." else folder) for folder in trial.listed}
+    found: dict[Name, Name] = {}
+    for name in trial.writes:
+        is_other = name != trial.recipe.target and name not in trial.caches
+        if is_other and is_file(trial.after.get(name)) and above(name) in listed:
+            other = Name(f"{name}.left{os.path.splitext(name)[1]}")
+            if other not in trial.known and other not in trial.after:
+                found[name] = other
+    return found
 
 
 def wait_for_clock(trial: Trial) -> None:

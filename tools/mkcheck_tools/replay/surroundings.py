@@ -1,6 +1,6 @@
 """What a recipe finds besides its files when it runs again: shell options, variables that make
-sets, the time, standard input, a terminal, stamps of folders, and second names of the files that it
-reads.
+sets, the time, standard input, a terminal, stamps of folders, second names of the files that it
+reads, and files that it may have left before an edit.
 
 The recording has one of each. Where the outputs are there already, the recipe runs amid all others
 at once, which takes no run of its own. Where that run shows something, each is tried alone.
@@ -24,6 +24,8 @@ from mkcheck_tools.run.terminals import Terminal, has_terminals, terminal
 
 FLAGS, JOBS, CLOCK, INPUT = "flags", "jobs", "clock", "input"
 NAMES, FOLDERS, TERMINAL = "names", "folders", "terminal"
+# A file that the recipe may have left before an edit of what it is made from.
+EARLIER = "earlier"
 # A run of its own: folders list their names the other way round.
 LISTING = "listing"
 # What GNU make 4 gives to recipes where it has two jobs.
@@ -155,7 +157,7 @@ def clear(process: int) -> None:
 def all_others(strict: bool, bound: bool) -> Surroundings:
     """All other surroundings that there can be. Under `.POSIX` make starts shells by `-e` in any
     case. Where the folder of a run isn't `bound`, nothing may be beside it."""
-    found = {JOBS, INPUT, FOLDERS}
+    found = {JOBS, INPUT, FOLDERS, EARLIER}
     if not strict:
         found.add(FLAGS)
     if bound:

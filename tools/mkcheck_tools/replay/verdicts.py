@@ -15,8 +15,26 @@ from mkcheck_tools.judge.modules import CURE as MODULES_CURE
 from mkcheck_tools.judge.modules import folder_of_modules
 from mkcheck_tools.judge.notes import Kind, Note
 from mkcheck_tools.judge.refusals import listed
-from mkcheck_tools.replay.runs import AGAIN, BARE, DAMAGED, HANDED, LOOKED, ORDERED, VARIED, Outcome
-from mkcheck_tools.replay.surroundings import CLOCK, FLAGS, FOLDERS, INPUT, LISTING, NAMES, TERMINAL
+from mkcheck_tools.replay.runs import (
+    AGAIN,
+    BARE,
+    DAMAGED,
+    HANDED,
+    LOOKED,
+    ORDERED,
+    VARIED,
+    Outcome,
+)
+from mkcheck_tools.replay.surroundings import (
+    CLOCK,
+    EARLIER,
+    FLAGS,
+    FOLDERS,
+    INPUT,
+    LISTING,
+    NAMES,
+    TERMINAL,
+)
 from mkcheck_tools.replay.worlds import GIVEN, Trial
 from mkcheck_tools.run.paths import Name
 
@@ -45,6 +63,12 @@ AMID = {
         Kind.CLOCK,
         "at another time of another day",
         "no make notices when that changes; let it take what it needs from a file",
+    ),
+    EARLIER: (
+        Kind.EARLIER,
+        "where an earlier run left one more file like those that it writes",
+        "after an edit it may write fewer of them, and old ones would count, so let it first remove"
+        " them all by a pattern",
     ),
     FOLDERS: (
         Kind.FOLDER_STAMP,
@@ -100,9 +124,9 @@ CURES = {
     HANDED: "Let the recipe do without MAKEFLAGS and MAKELEVEL",
 }
 KEPT = (
-    "it writes that only where it finds that it has to, as a make in a subfolder, cmp -s or test"
-    " -nt do. A recipe that reads what it is made from, and learns of a change by it alone, then"
-    " isn't run, so that change is lost"
+    "it writes that only where it finds that it has to, as a make in a subfolder, cmp -s, cp -u or"
+    " test -nt do. A recipe that reads what it is made from, and learns of a change by it alone,"
+    " then isn't run, so that change is lost"
 )
 KEPT_CURE = "Let the recipe write all its outputs each time, or split it as shown here"
 MODULES = "and then only looks at their texts"
@@ -179,7 +203,7 @@ def judge(
         try:
             if target in trusted:
                 verdict.notes.append(note_of_trusted(outcome))
-                if not outcome.passed and not passes_over(outcome):
+                if not outcome.passed and not outcome.passes_over:
                     verdict.unsteady.add(target)
             elif outcome.run == AGAIN and outcome.failed and target in once:
                 verdict.notes.append(note_of_stop(outcome, AGAIN, outcome.failed))
@@ -280,13 +304,6 @@ def split_of(outcome: Outcome, kept: str) -> list[str]:
 def is_kept(outcome: Outcome) -> bool:
     """Whether the first difference is an output that the recipe passed over."""
     return bool(outcome.differences) and outcome.differences[0].kept and outcome.run != ORDERED
-
-
-def passes_over(outcome: Outcome) -> bool:
-    """Whether all that a recipe did otherwise is that it left outputs as they were, which were
-    whole: what it leaves is the same in each run."""
-    is_all = outcome.run == AGAIN and not outcome.failed and not outcome.broken
-    return is_all and bool(outcome.differences) and all(one.kept for one in outcome.differences)
 
 
 def likely_causes(outcome: Outcome, makers: Mapping[Name, list[str]]) -> list[str]:

@@ -5,6 +5,7 @@ from __future__ import annotations
 import math
 import shutil
 import sys
+import threading
 import time
 from typing import TextIO
 
@@ -17,7 +18,11 @@ CLEAR = "\r\033[K"
 
 
 class Progress:
-    """Tells which recipe of how many runs, what it does, and how long the others may take."""
+    """Tells which recipe of how many runs, what it does, and how long the others may take.
+
+    In a `with` statement it also tells, as long as a recipe goes on, that it does. A thread tells
+    that, since the program itself waits for the recipe then.
+    """
 
     def __init__(
         self,
@@ -34,6 +39,33 @@ class Progress:
         self.terminal = self.stream.isatty()
         self.apart = apart
         self.begun = self.told = time.monotonic()
+        self.running = ""
+        """The recipe that goes on, where there is one."""
+
+        self.since = self.begun
+        self.done = 0
+        self.lock = threading.Lock()
+        self.is_over = threading.Event()
+        self.thread: threading.Thread | None = None
+
+    def __enter__(self) -> Progress:
+        self.thread = threading.Thread(target=self.tell_now_and_then, daemon=True)
+        self.thread.start()
+        return self
+
+    def __exit__(self, *_: object) -> None:
+        self.is_over.set()
+        if self.thread is not None:
+            self.thread.join()
+        self.clear()
+
+    def tell_now_and_then(self) -> None:
+        """Tells that a recipe goes on, and since when, until all have ended."""
+        while not self.is_over.wait(SECONDS_SHOWN):
+            with self.lock:
+                if self.running:
+                    seconds = time.monotonic() - self.since
+                    self.show(f"{self.running} goes on, {duration(seconds)}")
 
     def at_once(self) -> None:
         """Has the next line shown at once: what was shown last counts something else."""
@@ -46,7 +78,7 @@ class Progress:
 
     def step(self, text: str) -> None:
         """The recipe runs a command."""
-        self.tell(self.number - 1, f"{self.name}: {first_line(text)}")
+        self.tell(self.number - 1, f"{self.name}: {first_line(text)}", self.name)
 
     def ended(self, name: str) -> None:
         """A recipe has ended, where several are under way."""
@@ -55,31 +87,44 @@ class Progress:
 
     def goes_on(self, name: str) -> None:
         """A recipe goes on, and none has ended for a while."""
-        self.tell(self.number, f"{name} goes on")
+        self.tell(self.number, f"{name} goes on", name)
 
-    def tell(self, done: int, text: str) -> None:
-        """Shows a line, if it is time for one. `done` is the number of recipes that have ended."""
+    def tell(self, done: int, text: str, running: str = "") -> None:
+        """Shows a line, if it is time for one. `done` is the number of recipes that have ended, and
+        `running` is one that goes on."""
+        with self.lock:
+            self.done = done
+            now = self.show(text)
+            if running != self.running:
+                self.running, self.since = running, now
+
+    def show(self, text: str) -> float:
+        """The same, where no other thread shows one; gives the time."""
         now = time.monotonic()
         if self.terminal:
             width = shutil.get_terminal_size().columns
-            self.stream.write(f"{CLEAR}{self.line(done, now, text)[: width - 1]}")
+            self.stream.write(f"{CLEAR}{self.line(now, text)[: width - 1]}")
             self.stream.flush()
         elif now - self.told >= self.apart:
             self.told = now
-            print(self.line(done, now, text)[:WIDTH], file=self.stream, flush=True)
+            print(self.line(now, text)[:WIDTH], file=self.stream, flush=True)
+        return now
 
-    def line(self, done: int, now: float, text: str) -> str:
+    def line(self, now: float, text: str) -> str:
         """A line: the recipe's number of all, an estimate of the time that is left, and a text."""
         left = ""
-        if 0 < done < self.total:
-            left = f" {duration((now - self.begun) / done * (self.total - done))} left"
+        if 0 < self.done < self.total:
+            seconds = (now - self.begun) / self.done * (self.total - self.done)
+            left = f" {duration(seconds)} left"
         return f"[{self.title}{self.number}/{self.total}{left}] {text}"
 
     def clear(self) -> None:
         """Makes room for another line, and is called at the end."""
-        if self.terminal:
-            self.stream.write(CLEAR)
-            self.stream.flush()
+        with self.lock:
+            self.running = ""
+            if self.terminal:
+                self.stream.write(CLEAR)
+                self.stream.flush()
 
 
 def first_line(text: str) -> str:

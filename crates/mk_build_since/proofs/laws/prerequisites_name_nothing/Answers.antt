@@ -3,4 +3,4 @@ use Rattle.mk_build_since.proofs.Unchanged.{nothing_named}
 use Rattle.mk_build_since.proofs.laws.prerequisites_name_nothing.Goals as goal
 
 pub returns : goal.returns
-returns c = λ old new sound setting commands there back no_text f named. nothing_named old new sound setting commands there back no_text f named
+returns c = λ old new setting commands there back no_text f named. nothing_named old new setting commands there back no_text f named

@@ -11,10 +11,10 @@ use Rattle.mk_find.proofs.certifying.certify.Goals as goal
 pub returns-clause-certificate : goal.returns-clause-certificate
 returns-clause-certificate c =
     let x = c.args.subject.now in
-    let found = subst (λ (l : List Finding). Adds x (stale_candidates x) l c.judge_all.new.found.items) c.new-found.ensures.items c.in_ok-ways.ensures.found in
+    let found = subst (λ (l : List Finding). Adds x (stale_candidates x) l c.judge_all.new.found) c.new-found.ensures c.in_ok-ways.ensures.found in
     record {
       goals = c.in_ok-goals.ensures ∙ ap (map (name_of x)) (c.goals.ensures.value ∙ ap (λ (g : Graph). g.goals) c.graph-graph.ensures.value);
-      ways = c.in_ok-ways.ensures.ways (none_added c.list_is_one.ensures x (stale_candidates x) c.judge_all.new.found.items c.requires.no_stale found);
+      ways = c.in_ok-ways.ensures.ways (none_added c.list_is_one.ensures x (stale_candidates x) c.judge_all.new.found c.requires.no_stale found);
     }
 
 pub returns-clause-shortest : goal.returns-clause-shortest

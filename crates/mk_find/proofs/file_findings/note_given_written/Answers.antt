@@ -31,8 +31,8 @@ loop-place-preserved c =
     let number : c.entry.inside.number ≡ e.number = ap (λ (k : NodeRow). k.number) c.entry.view_is in
     let low : i < length (writes_of x e.number) = omega (arith, c.loop-place-test.true, c.count_of_written-place-end.ensures, ap (λ n. length (writes_of x n)) number) in
     let is = written_at x c.written-file.result c.entry.inside.number e.number i number c.written-file.ensures in
-    leads_map x (λ f. given_written e.number f) (writes_of x e.number) i [] _ c.loop-place.found.items c.note_taken.new.found.items c.args.found.now.items low c.loop-place.invariant
-    (subst (λ (f : List ℕ). Adds x (given_written e.number f ∷ []) c.loop-place.found.items c.note_taken.new.found.items) (sym is) c.in_ok-note_taken.ensures)
+    leads_map x (λ f. given_written e.number f) (writes_of x e.number) i [] _ c.loop-place.found c.note_taken.new.found c.args.found.now low c.loop-place.invariant
+    (subst (λ (f : List ℕ). Adds x (given_written e.number f ∷ []) c.loop-place.found c.note_taken.new.found) (sym is) c.in_ok-note_taken.ensures)
 
 pub returns : goal.returns
 returns c =
@@ -42,4 +42,4 @@ returns c =
     let files = writes_of x e.number in
     let number : c.entry.inside.number ≡ e.number = ap (λ (k : NodeRow). k.number) c.entry.view_is in
     let past : length files ≤ i = omega (arith, c.loop-place-test.false, c.count_of_written-place-end.ensures, ap (λ n. length (writes_of x n)) number) in
-    leads_done x (map (λ f. given_written e.number f) (drop i files)) _ c.loop-place.found.items c.args.found.now.items (ap (map (λ f. given_written e.number f)) (drop_past files i past)) c.loop-place.invariant
+    leads_done x (map (λ f. given_written e.number f) (drop i files)) _ c.loop-place.found c.args.found.now (ap (map (λ f. given_written e.number f)) (drop_past files i past)) c.loop-place.invariant

@@ -8,6 +8,6 @@ use Rattle.mk_find.proofs.file_findings.note_own_reads.Given as goal
 -- the files that are left, of those that aren't settled
 abbrev pub invariant-loop-place : goal.invariant-loop-place
 invariant-loop-place l = record {
-  leads : Leads l.subject (map (λ f. own_read l.entry.number f) (drop l.place (unsettled_of l.subject l.entry.number))) (map (λ f. own_read l.entry.number f) (unsettled_of l.subject l.entry.number)) l.found.items l.initial.found.items;
+  leads : Leads l.subject (map (λ f. own_read l.entry.number f) (drop l.place (unsettled_of l.subject l.entry.number))) (map (λ f. own_read l.entry.number f) (unsettled_of l.subject l.entry.number)) l.found l.initial.found;
   written : IfSome l.written (λ list. list ≡ entry_writes l.entry);
 }

@@ -29,8 +29,8 @@ loop-place-preserved c =
     let number : c.entry.inside.number ≡ e.number = ap (λ (k : NodeRow). k.number) c.entry.view_is in
     let at = open_at x c.entry.inside.number e.number i c.count_of_unsettled-place-end.result c.unsettled-file.result number c.count_of_unsettled-place-end.ensures (omega arith) c.unsettled-file.ensures in
     let candidate = λ (f : List ℕ). unknown_read e.number f in
-    leads_map x candidate (unsettled_of x e.number) i [] _ c.loop-place.found.items c.note_unknown.new.found.items c.args.found.now.items at.low c.loop-place.invariant
-    (subst (λ (f : List ℕ). Adds x (candidate f ∷ []) c.loop-place.found.items c.note_unknown.new.found.items) at.file c.in_ok-note_unknown.ensures)
+    leads_map x candidate (unsettled_of x e.number) i [] _ c.loop-place.found c.note_unknown.new.found c.args.found.now at.low c.loop-place.invariant
+    (subst (λ (f : List ℕ). Adds x (candidate f ∷ []) c.loop-place.found c.note_unknown.new.found) at.file c.in_ok-note_unknown.ensures)
 
 pub returns : goal.returns
 returns c =
@@ -41,6 +41,6 @@ returns c =
     let left = unsettled_of x e.number in
     let none = none_left x c.entry.inside.number e.number i c.count_of_unsettled-place-end.result number c.count_of_unsettled-place-end.ensures (omega arith) in
     let candidate = λ (f : List ℕ). unknown_read e.number f in
-    adds_lifted x candidate (λ f. not (is_settled (known_of x f))) (reads_of x e.number) c.args.found.now.items c.loop-place.found.items
+    adds_lifted x candidate (λ f. not (is_settled (known_of x f))) (reads_of x e.number) c.args.found.now c.loop-place.found
     (λ f out. not_unknown x f (settled (known_of x f) out) e.number)
-    (leads_done x (map candidate (drop i left)) _ c.loop-place.found.items c.args.found.now.items (ap (map candidate) none) c.loop-place.invariant)
+    (leads_done x (map candidate (drop i left)) _ c.loop-place.found c.args.found.now (ap (map candidate) none) c.loop-place.invariant)

@@ -9,5 +9,5 @@ pub returns : goal.returns
 returns c =
     let x = c.args.subject.now in
     let all = candidates_after_pairs x in
-    let found = c.run_checks_after_pairs.new.found.items in
-    tells_of x all found c.first_of.result (subst (λ (old : List Finding). Adds x all old found) c.new-found.ensures.items c.in_ok-run_checks_after_pairs.ensures) c.first_of.ensures
+    let found = c.run_checks_after_pairs.new.found in
+    tells_of x all found c.first_of.result (subst (λ (old : List Finding). Adds x all old found) c.new-found.ensures c.in_ok-run_checks_after_pairs.ensures) c.first_of.ensures

@@ -1,8 +1,13 @@
+use Rattle.std.proofs.Common.{List, subst}
+use Rattle.mk_find.specs.declared.finding.Finding.{Finding}
 use Rattle.mk_find.specs.Candidates.{race_candidates}
+use Rattle.mk_find.specs.Listed.{Adds}
 use Rattle.mk_find.proofs.FirstFound.{tells_of}
 use Rattle.mk_find.proofs.first.first_race.Goals as goal
 
 pub returns : goal.returns
 returns c =
     let x = c.args.subject.now in
-    tells_of x (race_candidates x) c.in_ok-found.found.items c.first_of.result c.in_ok-found.ensures c.first_of.ensures
+    let all = race_candidates x in
+    let found = c.note_races.new.found in
+    tells_of x all found c.first_of.result (subst (λ (old : List Finding). Adds x all old found) c.new-found.ensures c.in_ok-note_races.ensures) c.first_of.ensures

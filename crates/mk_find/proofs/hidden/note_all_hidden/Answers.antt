@@ -12,7 +12,7 @@ use Rattle.mk_find.proofs.hidden.note_all_hidden.Goals as goal
 pub loop-entry-init : goal.loop-entry-init
 loop-entry-init c =
     let x = c.args.subject.now in
-    λ last h. subst (λ (ns : List ℕ). Adds x (flat_map (hidden_reads x) ns) c.args.found.now.items last) c.entries-entries.ensures.in_order h
+    λ last h. subst (λ (ns : List ℕ). Adds x (flat_map (hidden_reads x) ns) c.args.found.now last) c.entries-entries.ensures.in_order h
 
 pub search_hidden-requires-clause-entry : goal.search_hidden-requires-clause-entry
 search_hidden-requires-clause-entry c =
@@ -30,8 +30,8 @@ loop-entry-preserved c =
     let lt : i < length entries = omega arith in
     let low : i < length (map number entries) = omega (arith, length-map entries number) in
     let is : get_or (map number entries) i 0 ≡ c.entry-item.result.number = get_or-map number entries i c.entry-item.result 0 lt ∙ ap number (sym c.entry-item.is) in
-    leads_each x (hidden_reads x) (map number entries) i 0 _ c.loop-entry.found.items c.search_hidden.new.found.items c.args.found.now.items low c.loop-entry.invariant
-    (subst (λ (n : ℕ). Adds x (hidden_reads x n) c.loop-entry.found.items c.search_hidden.new.found.items) (sym is) c.in_ok-search_hidden.ensures.found)
+    leads_each x (hidden_reads x) (map number entries) i 0 _ c.loop-entry.found c.search_hidden.new.found c.args.found.now low c.loop-entry.invariant
+    (subst (λ (n : ℕ). Adds x (hidden_reads x n) c.loop-entry.found c.search_hidden.new.found) (sym is) c.in_ok-search_hidden.ensures)
 
 pub returns : goal.returns
 returns c =
@@ -40,4 +40,4 @@ returns c =
     let entries = c.entries-entries.result.now in
     let i = c.loop-entry.entry-index in
     let past : length (map number entries) ≤ i = omega (arith, length-map entries number) in
-    leads_done x (flat_map (hidden_reads x) (drop i (map number entries))) _ c.loop-entry.found.items c.args.found.now.items (ap (flat_map (hidden_reads x)) (drop_past (map number entries) i past)) c.loop-entry.invariant
+    leads_done x (flat_map (hidden_reads x) (drop i (map number entries))) _ c.loop-entry.found c.args.found.now (ap (flat_map (hidden_reads x)) (drop_past (map number entries) i past)) c.loop-entry.invariant

@@ -9,4 +9,4 @@ use Rattle.mk_find.proofs.hidden.note_all_hidden.Given as goal
 -- the nodes that are left
 abbrev pub invariant-loop-entry : goal.invariant-loop-entry
 invariant-loop-entry l =
-    Leads l.subject (flat_map (hidden_reads l.subject) (drop l.entry-index (map (λ (e : NodeRow). e.number) l.entries))) (by_node l.subject (hidden_reads l.subject)) l.found.items l.initial.found.items
+    Leads l.fn.subject (flat_map (hidden_reads l.fn.subject) (drop l.entry-index (map (λ (e : NodeRow). e.number) l.entries))) (by_node l.fn.subject (hidden_reads l.fn.subject)) l.found l.initial.found

@@ -3,8 +3,6 @@ use Rattle.std.proofs.Common.{arith, ◌≡◌, ◌∙◌, ℕ, List, [], ap, sy
 use Rattle.std.specs.List.{flat_map}
 use Rattle.std.proofs.lemmas.List.{nil_from_length}
 use Rattle.mk_graph_search.specs.Places.{SearchInput}
-use Rattle.mk_graph_search.specs.Ways.{successors}
-use Rattle.mk_subject.specs.Carried.{carried}
 use Rattle.mk_subject.specs.NodeRow.{NodeRow}
 use Rattle.mk_find.specs.Listed.{Adds}
 use Rattle.mk_subject.specs.Subject.{reads_of}
@@ -12,18 +10,15 @@ use Rattle.mk_find.specs.Findings.{hidden_read}
 use Rattle.mk_find.proofs.Adding.{adds_nothing}
 use Rattle.mk_find.proofs.hidden.search_hidden.Goals as goal
 
-pub note_hidden_reads-requires-clause-rows : goal.note_hidden_reads-requires-clause-rows
-note_hidden_reads-requires-clause-rows c =
-    subst (λ (task : SearchInput). (t : ℕ) → successors task.rows t ≡ carried c.args.subject.now t) (sym c.in_ok-search.ensures) c.requires.rows
-
-pub note_hidden_reads-requires-clause-start : goal.note_hidden_reads-requires-clause-start
-note_hidden_reads-requires-clause-start c =
-    ap (λ (task : SearchInput). task.start) c.in_ok-search.ensures ∙ ap (λ (k : NodeRow). k.number) c.entry.view_is
+pub note_hidden_reads-requires-clause-search : goal.note_hidden_reads-requires-clause-search
+note_hidden_reads-requires-clause-search c =
+    let from : ℕ → SearchInput = λ start. record { rows = c.args.tables.now.rows; start = start } in
+    c.in_ok-search.ensures ∙ ap (λ (k : NodeRow). from k.number) c.entry.view_is
 
 pub returns-then-count_of_reads-eq0 : goal.returns-then-count_of_reads-eq0
 returns-then-count_of_reads-eq0 c =
-    let x = c.args.subject.now in
+    let x = c.args.tables.now.subject.now in
     let t = c.args.entry.now.number in
     let few : length (reads_of x c.entry.inside.number) ≡ 0 = omega (arith, c.count_of_reads.ensures, c.if-count_of_reads-eq0.true) in
     let none : reads_of x t ≡ [] = nil_from_length (reads_of x t) (ap (λ (k : NodeRow). length (reads_of x k.number)) (sym c.entry.view_is) ∙ few) in
-    record { found = subst (λ (fs : List (List ℕ)). Adds x (flat_map (hidden_read x t) fs) c.args.found.now.items c.args.found.now.items) (sym none) (adds_nothing x c.args.found.now.items) }
+    subst (λ (fs : List (List ℕ)). Adds x (flat_map (hidden_read x t) fs) c.args.found.now c.args.found.now) (sym none) (adds_nothing x c.args.found.now)

@@ -7,8 +7,8 @@ use Rattle.mk_find.proofs.Decided.{target_lacking, target_there, name_is}
 use Rattle.mk_find.proofs.node_findings.note_no_target.Goals as goal
 
 pub returns-then-not-entry : goal.returns-then-not-entry
-returns-then-not-entry c = λ x is. adds_none x (no_target c.args.entry.now.number) c.args.found.now.items (target_there x c.args.entry.now is (sym (ap (λ (e : NodeRow). e.unwritten) c.entry.view_is) ∙ c.if-not-entry.true))
+returns-then-not-entry c = λ x is. adds_none x (no_target c.args.entry.now.number) c.args.found.now (target_there x c.args.entry.now is (sym (ap (λ (e : NodeRow). e.unwritten) c.entry.view_is) ∙ c.if-not-entry.true))
 
 pub returns : goal.returns
-returns c = λ x is. adds_one x (no_target c.args.entry.now.number) c.args.found.now.items c.push.new.self.items (target_lacking x c.args.entry.now is (sym (ap (λ (e : NodeRow). e.unwritten) c.entry.view_is) ∙ c.if-not-entry.false))
-    (c.in_ok-push.ensures.items ∙ ap (λ (name : List ℕ). c.args.found.now.items ++ NoTarget name ∷ []) (name_is x c.args.entry.now c.in_ok-recipe.recipe is c.in_ok-recipe.ensures))
+returns c = λ x is. adds_one x (no_target c.args.entry.now.number) c.args.found.now c.push.new.self (target_lacking x c.args.entry.now is (sym (ap (λ (e : NodeRow). e.unwritten) c.entry.view_is) ∙ c.if-not-entry.false))
+    (c.in_ok-push.ensures ∙ ap (λ (name : List ℕ). c.args.found.now ++ NoTarget name ∷ []) (name_is x c.args.entry.now c.in_ok-recipe.recipe is c.in_ok-recipe.ensures))

@@ -11,7 +11,7 @@ loop-check-preserved c =
     let x = c.args.subject.now in
     let n = c.args.entry.now.number in
     let lt : c.loop-check.check-index < length c.args.checks.now = omega arith in
-    leads_each x (λ check. candidates_of_check x check n) c.args.checks.now c.loop-check.check-index _ _ c.loop-check.found.items c.run_check.new.found.items c.args.found.now.items lt c.loop-check.invariant c.in_ok-run_check.ensures
+    leads_each x (λ check. candidates_of_check x check n) c.args.checks.now c.loop-check.check-index _ _ c.loop-check.found c.run_check.new.found c.args.found.now lt c.loop-check.invariant c.in_ok-run_check.ensures
 
 pub returns : goal.returns
 returns c =
@@ -19,5 +19,5 @@ returns c =
     let n = c.args.entry.now.number in
     let past : length c.args.checks.now ≤ c.loop-check.check-index = omega arith in
     leads_done x (candidates_of_node x (drop c.loop-check.check-index c.args.checks.now) n) _
-    c.loop-check.found.items c.args.found.now.items (ap (λ checks. candidates_of_node x checks n)
+    c.loop-check.found c.args.found.now (ap (λ checks. candidates_of_node x checks n)
     (drop_past c.args.checks.now c.loop-check.check-index past)) c.loop-check.invariant

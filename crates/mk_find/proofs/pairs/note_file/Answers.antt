@@ -51,8 +51,8 @@ returns c =
     ∙ (ap (λ n. behind n c.writers-writers.result.now) number
     ∙ (ap (behind e.number) writers ∙ behind_filter writes e.number order
     ((has_decides (writes_of x e.number) f).1 c.requires.written))) in
-    let old = c.args.found.now.items in
-    let new = c.note_pairs_with.new.found.items in
+    let old = c.args.found.now in
+    let new = c.note_pairs_with.new.found in
     on_ok_weaker c.note_pairs_with.result
     (λ h. adds_lifted x (λ t. two_writers e.number t f) writes (behind e.number order) old new
     (λ t out k. true≢false (sym ((has_decides (writes_of x t) f).1 k.2) ∙ out))

@@ -34,8 +34,8 @@ loop-place-preserved c =
     let number : c.entry.inside.number ≡ e.number = ap (λ (k : NodeRow). k.number) c.entry.view_is in
     let low : i < length (writes_of x e.number) = omega (arith, c.loop-place-test.true, c.count_of_written-place-end.ensures, ap (λ n. length (writes_of x n)) number) in
     let is = written_at x c.written-file.result c.entry.inside.number e.number i number c.written-file.ensures in
-    leads_each x (λ f. map (λ t. two_writers e.number t f) (behind e.number (serial_order x.graph))) (writes_of x e.number) i [] _ c.loop-place.found.items c.note_file.new.found.items c.args.found.now.items low c.loop-place.invariant
-    (subst (λ (f : List ℕ). Adds x (map (λ t. two_writers e.number t f) (behind e.number (serial_order x.graph))) c.loop-place.found.items c.note_file.new.found.items) (sym is) c.in_ok-note_file.ensures)
+    leads_each x (λ f. map (λ t. two_writers e.number t f) (behind e.number (serial_order x.graph))) (writes_of x e.number) i [] _ c.loop-place.found c.note_file.new.found c.args.found.now low c.loop-place.invariant
+    (subst (λ (f : List ℕ). Adds x (map (λ t. two_writers e.number t f) (behind e.number (serial_order x.graph))) c.loop-place.found c.note_file.new.found) (sym is) c.in_ok-note_file.ensures)
 
 pub returns : goal.returns
 returns c =
@@ -46,6 +46,6 @@ returns c =
     let number : c.entry.inside.number ≡ e.number = ap (λ (k : NodeRow). k.number) c.entry.view_is in
     let past : length files ≤ i = omega (arith, c.loop-place-test.false, c.count_of_written-place-end.ensures, ap (λ n. length (writes_of x n)) number) in
     leads_done x (flat_map (λ f. map (λ t. two_writers e.number t f) (behind e.number (serial_order x.graph)))
-    (drop i files)) _ c.loop-place.found.items c.args.found.now.items
+    (drop i files)) _ c.loop-place.found c.args.found.now
     (ap (flat_map (λ f. map (λ t. two_writers e.number t f) (behind e.number (serial_order x.graph))))
     (drop_past files i past)) c.loop-place.invariant

@@ -16,7 +16,7 @@ use Rattle.mk_find.proofs.pairs.note_pairs.Goals as goal
 pub loop-entry-init : goal.loop-entry-init
 loop-entry-init c =
     let x = c.args.subject.now in
-    λ last h. subst (λ (ns : List ℕ). Adds x (pairs_of_writers x ns) c.args.found.now.items last) c.entries-entries.ensures.in_order h
+    λ last h. subst (λ (ns : List ℕ). Adds x (pairs_of_writers x ns) c.args.found.now last) c.entries-entries.ensures.in_order h
 
 pub note_files-requires : goal.note_files-requires
 note_files-requires c =
@@ -38,10 +38,10 @@ loop-entry-preserved c =
     let same : order ≡ serial_order x.graph = c.entries-entries.ensures.in_order in
     let distinct : IsDistinct order = subst (λ (ns : List ℕ). IsDistinct ns) (sym same) (c.serial_reaches_each_once.ensures x.graph c.graph-graph.ensures.graph.no_cycle).0 in
     let later : behind c.entry-item.result.number (serial_order x.graph) ≡ drop (i + 1) order = ap (behind c.entry-item.result.number) (sym same) ∙ (ap (λ n. behind n order) is ∙ behind_after order i distinct low) in
-    leads_on x (flat_map (λ f. map (λ t. two_writers (get_or order i 0) t f) (drop (i + 1) order)) (writes_of x (get_or order i 0))) (pairs_of_writers x (drop (i + 1) order)) _ c.loop-entry.found.items c.note_files.new.found.items c.args.found.now.items
-    (subst (λ (ns : List ℕ). Leads x (pairs_of_writers x ns) (pairs_of_writers x (serial_order x.graph)) c.loop-entry.found.items c.args.found.now.items) (drop_more order i 0 low) c.loop-entry.invariant)
-    (subst (λ (n : ℕ). Adds x (flat_map (λ f. map (λ t. two_writers n t f) (drop (i + 1) order)) (writes_of x n)) c.loop-entry.found.items c.note_files.new.found.items) is
-    (subst (λ (ns : List ℕ). Adds x (flat_map (λ f. map (λ t. two_writers c.entry-item.result.number t f) ns) (writes_of x c.entry-item.result.number)) c.loop-entry.found.items c.note_files.new.found.items) later c.in_ok-note_files.ensures))
+    leads_on x (flat_map (λ f. map (λ t. two_writers (get_or order i 0) t f) (drop (i + 1) order)) (writes_of x (get_or order i 0))) (pairs_of_writers x (drop (i + 1) order)) _ c.loop-entry.found c.note_files.new.found c.args.found.now
+    (subst (λ (ns : List ℕ). Leads x (pairs_of_writers x ns) (pairs_of_writers x (serial_order x.graph)) c.loop-entry.found c.args.found.now) (drop_more order i 0 low) c.loop-entry.invariant)
+    (subst (λ (n : ℕ). Adds x (flat_map (λ f. map (λ t. two_writers n t f) (drop (i + 1) order)) (writes_of x n)) c.loop-entry.found c.note_files.new.found) is
+    (subst (λ (ns : List ℕ). Adds x (flat_map (λ f. map (λ t. two_writers c.entry-item.result.number t f) ns) (writes_of x c.entry-item.result.number)) c.loop-entry.found c.note_files.new.found) later c.in_ok-note_files.ensures))
 
 pub returns : goal.returns
 returns c =
@@ -50,4 +50,4 @@ returns c =
     let entries = c.entries-entries.result.now in
     let i = c.loop-entry.entry-index in
     let past : length (map number entries) ≤ i = omega (arith, length-map entries number) in
-    leads_done x (pairs_of_writers x (drop i (map number entries))) _ c.loop-entry.found.items c.args.found.now.items (ap (pairs_of_writers x) (drop_past (map number entries) i past)) c.loop-entry.invariant
+    leads_done x (pairs_of_writers x (drop i (map number entries))) _ c.loop-entry.found c.args.found.now (ap (pairs_of_writers x) (drop_past (map number entries) i past)) c.loop-entry.invariant

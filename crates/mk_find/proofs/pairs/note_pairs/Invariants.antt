@@ -7,4 +7,4 @@ use Rattle.mk_find.proofs.pairs.note_pairs.Given as goal
 
 -- the recipes that are left
 abbrev pub invariant-loop-entry : goal.invariant-loop-entry
-invariant-loop-entry l = Leads l.subject (pairs_of_writers l.subject (drop l.entry-index (map (λ (e : NodeRow). e.number) l.entries))) (pairs_of_writers l.subject (serial_order l.subject.graph)) l.found.items l.initial.found.items
+invariant-loop-entry l = Leads l.subject (pairs_of_writers l.subject (drop l.entry-index (map (λ (e : NodeRow). e.number) l.entries))) (pairs_of_writers l.subject (serial_order l.subject.graph)) l.found l.initial.found

@@ -24,38 +24,37 @@ with_writers x t f ns old new same h =
 
 pub returns-then-is_empty-clause-found : goal.returns-then-is_empty-clause-found
 returns-then-is_empty-clause-found c =
-    let x = c.args.subject.now in
-    let f = c.args.file.now.file in
-    let old = c.args.found.now.items in
+    let x = c.args.read.now.subject.now in
+    let f = c.args.read.now.file.file in
+    let old = c.args.found.now in
     let ns = c.writers-writers.result.now in
     let none : ns ≡ [] = nil_from_length ns (eqb-true (length ns) 0 (sym c.is_empty.ensures ∙ c.if-is_empty.true)) in
-    let writers : ns ≡ writers_of x f = c.writers-writers.ensures ∙ ap (λ (t : Target). t.known.writers) c.requires.file in
-    with_writers x c.args.entry.now.number f [] old old (sym none ∙ writers) (adds_nothing x old)
+    let writers : ns ≡ writers_of x f = c.writers-writers.ensures ∙ ap (λ (t : Target). t.known.writers) c.requires.read.file in
+    with_writers x c.args.read.now.entry.now.number f [] old old (sym none ∙ writers) (adds_nothing x old)
 
 pub note_races_with-requires : goal.note_races_with-requires
 note_races_with-requires c =
-    let x = c.args.subject.now in
-    let e = c.args.entry.now in
-    let f = c.args.file.now.file in
+    let x = c.args.read.now.subject.now in
+    let e = c.args.read.now.entry.now in
+    let f = c.args.read.now.file.file in
     let ns = c.writers-writers.result.now in
-    let writers : ns ≡ writers_of x f = c.writers-writers.ensures ∙ ap (λ (t : Target). t.known.writers) c.requires.file in
+    let writers : ns ≡ writers_of x f = c.writers-writers.ensures ∙ ap (λ (t : Target). t.known.writers) c.requires.read.file in
     record {
-      entry = c.requires.entry;
+      read = c.requires.read;
       graph = c.turn_to.ensures.graph ∙ c.requires.graph;
       number = c.turn_to.ensures.number ∙ ap (λ (k : NodeRow). k.number) c.entry.view_is;
-      read = c.requires.read;
       written = λ o h. writers_write x f ns writers o h;
     }
 
 pub returns-clause-found : goal.returns-clause-found
 returns-clause-found c =
-    let x = c.args.subject.now in
-    let t = c.args.entry.now.number in
-    let f = c.args.file.now.file in
+    let x = c.args.read.now.subject.now in
+    let t = c.args.read.now.entry.now.number in
+    let f = c.args.read.now.file.file in
     let ns = c.writers-writers.result.now in
-    let writers : ns ≡ writers_of x f = c.writers-writers.ensures ∙ ap (λ (k : Target). k.known.writers) c.requires.file in
-    let old = c.args.found.now.items in
-    let new = c.note_races_with.new.found.items in
+    let writers : ns ≡ writers_of x f = c.writers-writers.ensures ∙ ap (λ (k : Target). k.known.writers) c.requires.read.file in
+    let old = c.args.found.now in
+    let new = c.note_races_with.new.found in
     on_ok_weaker c.note_races_with.result
     (λ h. with_writers x t f ns old new writers h)
     c.note_races_with.ensures.found

@@ -13,6 +13,7 @@ use Rattle.mk_subject.specs.Target.{unsettled_of}
 use Rattle.mk_find.proofs.Adding.{adds_each_lifted, leads_each, leads_done}
 use Rattle.mk_find.proofs.SettledReads.{open_at, none_left, no_race}
 use Rattle.mk_subject.proofs.SettledReads.{settled}
+use Rattle.mk_subject.proofs.Targets.{by_name}
 use Rattle.mk_find.proofs.race_findings.note_files.Goals as goal
 
 pub loop-place-init : goal.loop-place-init
@@ -21,7 +22,11 @@ loop-place-init c = record { leads = λ last h. h; graph = refl }
 pub note_file-requires-clause-read : goal.note_file-requires-clause-read
 note_file-requires-clause-read c =
     let number : c.entry.inside.number ≡ c.args.entry.now.number = ap (λ (e : NodeRow). e.number) c.entry.view_is in
-    (open_at c.args.subject.now c.entry.inside.number c.args.entry.now.number c.loop-place.place c.count_of_unsettled-place-end.result c.unsettled-file.result number c.count_of_unsettled-place-end.ensures (omega arith) c.unsettled-file.ensures).read
+    record {
+      entry = c.requires.entry;
+      file = by_name c.args.subject.now c.unsettled-file.result _ c.unsettled-file.ensures;
+      read = (open_at c.args.subject.now c.entry.inside.number c.args.entry.now.number c.loop-place.place c.count_of_unsettled-place-end.result c.unsettled-file.result number c.count_of_unsettled-place-end.ensures (omega arith) c.unsettled-file.ensures).read;
+    }
 
 pub note_file-requires-clause-graph : goal.note_file-requires-clause-graph
 note_file-requires-clause-graph c = c.loop-place.invariant.graph ∙ c.requires.graph
@@ -35,8 +40,8 @@ loop-place-preserved c =
     let at = open_at x c.entry.inside.number e.number i c.count_of_unsettled-place-end.result c.unsettled-file.result number c.count_of_unsettled-place-end.ensures (omega arith) c.unsettled-file.ensures in
     let races = λ (f : List ℕ). map (λ o. race e.number o f) (serial_order x.graph) in
     record {
-      leads = leads_each x races (unsettled_of x e.number) i [] _ c.loop-place.found.items c.note_file.new.found.items c.args.found.now.items at.low c.loop-place.invariant.leads
-          (subst (λ (f : List ℕ). Adds x (races f) c.loop-place.found.items c.note_file.new.found.items) at.file c.in_ok-note_file.ensures.found);
+      leads = leads_each x races (unsettled_of x e.number) i [] _ c.loop-place.found c.note_file.new.found c.args.found.now at.low c.loop-place.invariant.leads
+          (subst (λ (f : List ℕ). Adds x (races f) c.loop-place.found c.note_file.new.found) at.file c.in_ok-note_file.ensures.found);
       graph = c.in_ok-note_file.ensures.graph ∙ c.loop-place.invariant.graph;
     }
 
@@ -49,6 +54,6 @@ returns-clause-found c =
     let left = unsettled_of x e.number in
     let none = none_left x c.entry.inside.number e.number i c.count_of_unsettled-place-end.result number c.count_of_unsettled-place-end.ensures (omega arith) in
     let races = λ (f : List ℕ). map (λ o. race e.number o f) (serial_order x.graph) in
-    adds_each_lifted x races (λ f. not (is_settled (known_of x f))) (reads_of x e.number) c.args.found.now.items c.loop-place.found.items
+    adds_each_lifted x races (λ f. not (is_settled (known_of x f))) (reads_of x e.number) c.args.found.now c.loop-place.found
     (λ f out. no_race x f (settled (known_of x f) out) e.number)
-    (leads_done x (flat_map races (drop i left)) _ c.loop-place.found.items c.args.found.now.items (ap (flat_map races) none) c.loop-place.invariant.leads)
+    (leads_done x (flat_map races (drop i left)) _ c.loop-place.found c.args.found.now (ap (flat_map races) none) c.loop-place.invariant.leads)

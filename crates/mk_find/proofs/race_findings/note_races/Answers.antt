@@ -1,4 +1,4 @@
-use Rattle.std.proofs.Common.{◌≡◌, ◌∙◌, ◌<◌, ◌≤◌, ℕ, List, refl, ap, sym, subst, length, get_or, map, drop, arith}
+use Rattle.std.proofs.Common.{◌≡◌, ◌∙◌, ◌<◌, ◌≤◌, ℕ, List, ap, sym, subst, length, get_or, map, drop, arith}
 use Rattle.std.specs.List.{flat_map}
 use Rattle.std.proofs.lemmas.List.{get_or-map, length-map}
 use Rattle.std.proofs.lemmas.List.Elements.{All-get_or}
@@ -14,12 +14,12 @@ pub loop-entry-init : goal.loop-entry-init
 loop-entry-init c =
     let x = c.args.subject.now in
     record {
-      leads = λ last h. subst (λ (ns : List ℕ). Adds x (flat_map (λ t. flat_map (λ f. map (λ o. race t o f) (serial_order x.graph)) (reads_of x t)) ns) c.args.found.now.items last) c.entries-entries.ensures.in_order h;
-      graph = refl;
+      leads = λ last h. subst (λ (ns : List ℕ). Adds x (flat_map (λ t. flat_map (λ f. map (λ o. race t o f) (serial_order x.graph)) (reads_of x t)) ns) c.args.found.now last) c.entries-entries.ensures.in_order h;
+      graph = c.new-earlier.ensures ∙ c.graph.ensures.value;
     }
 
 pub note_files-requires-clause-graph : goal.note_files-requires-clause-graph
-note_files-requires-clause-graph c = c.loop-entry.invariant.graph ∙ c.requires
+note_files-requires-clause-graph c = c.loop-entry.invariant.graph
 
 pub note_files-requires-clause-entry : goal.note_files-requires-clause-entry
 note_files-requires-clause-entry c =
@@ -38,8 +38,8 @@ loop-entry-preserved c =
     let low : i < length (map number entries) = omega (arith, length-map entries number) in
     let is : get_or (map number entries) i 0 ≡ c.entry-item.result.number = get_or-map number entries i c.entry-item.result 0 lt ∙ ap number (sym c.entry-item.is) in
     record {
-      leads = leads_each x (λ t. flat_map (λ f. map (λ o. race t o f) (serial_order x.graph)) (reads_of x t)) (map number entries) i 0 _ c.loop-entry.found.items c.note_files.new.found.items c.args.found.now.items low c.loop-entry.invariant.leads
-          (subst (λ (n : ℕ). Adds x (flat_map (λ f. map (λ o. race n o f) (serial_order x.graph)) (reads_of x n)) c.loop-entry.found.items c.note_files.new.found.items) (sym is) c.in_ok-note_files.ensures.found);
+      leads = leads_each x (λ t. flat_map (λ f. map (λ o. race t o f) (serial_order x.graph)) (reads_of x t)) (map number entries) i 0 _ c.loop-entry.found c.note_files.new.found c.args.found.now low c.loop-entry.invariant.leads
+          (subst (λ (n : ℕ). Adds x (flat_map (λ f. map (λ o. race n o f) (serial_order x.graph)) (reads_of x n)) c.loop-entry.found c.note_files.new.found) (sym is) c.in_ok-note_files.ensures.found);
       graph = c.in_ok-note_files.ensures.graph ∙ c.loop-entry.invariant.graph;
     }
 
@@ -51,6 +51,6 @@ returns c =
     let i = c.loop-entry.entry-index in
     let past : length (map number entries) ≤ i = omega (arith, length-map entries number) in
     leads_done x (flat_map (λ t. flat_map (λ f. map (λ o. race t o f) (serial_order x.graph)) (reads_of x t))
-    (drop i (map number entries))) _ c.loop-entry.found.items c.args.found.now.items
+    (drop i (map number entries))) _ c.loop-entry.found c.args.found.now
     (ap (flat_map (λ t. flat_map (λ f. map (λ o. race t o f) (serial_order x.graph)) (reads_of x t)))
     (drop_past (map number entries) i past)) c.loop-entry.invariant.leads

@@ -19,7 +19,7 @@ use Rattle.mk_find.proofs.stale_findings.judge_all.Goals as goal
 pub loop-entry-init : goal.loop-entry-init
 loop-entry-init c =
     let x = c.args.subject.now in
-    (λ last h. subst (λ (ns : List ℕ). Adds x (flat_map (λ t. map (λ f. stale t f) (reads_of x t)) ns) c.args.found.now.items last) c.entries-entries.ensures.in_order h, λ none. subst (λ (l : List Way). AddsEntries x [] [] l) (sym c.in_ok-ways.ensures) (adds_no_entries x []))
+    (λ last h. subst (λ (ns : List ℕ). Adds x (flat_map (λ t. map (λ f. stale t f) (reads_of x t)) ns) c.args.found.now last) c.entries-entries.ensures.in_order h, λ none. subst (λ (l : List Way). AddsEntries x [] [] l) (sym c.in_ok-ways.ensures) (adds_no_entries x []))
 
 pub judge_recipe-requires-clause-entry : goal.judge_recipe-requires-clause-entry
 judge_recipe-requires-clause-entry c =
@@ -48,13 +48,13 @@ loop-entry-preserved c =
     (sym (append-nil (reads_by x n))) ∙ (sym (flat_map-append (reads_by x) (map number (take i entries))
     (n ∷ [])) ∙ ap (flat_map (reads_by x)) (sym numbers)) in
     let added = c.in_ok-judge_recipe.ensures.found in (
-      leads_each x (λ t. map (λ f. stale t f) (reads_of x t)) (map number entries) i 0 _ c.loop-entry.found.items c.judge_recipe.new.found.items c.args.found.now.items low c.loop-entry.invariant.0
-          (subst (λ (k : ℕ). Adds x (map (λ f. stale k f) (reads_of x k)) c.loop-entry.found.items c.judge_recipe.new.found.items) (sym is) added),
+      leads_each x (λ t. map (λ f. stale t f) (reads_of x t)) (map number entries) i 0 _ c.loop-entry.found c.judge_recipe.new.found c.args.found.now low c.loop-entry.invariant.0
+          (subst (λ (k : ℕ). Adds x (map (λ f. stale k f) (reads_of x k)) c.loop-entry.found c.judge_recipe.new.found) (sym is) added),
       λ none. subst (λ (l : List Read). AddsEntries x l [] c.judge_recipe.new.ways) reads
           (adds_more_entries x (flat_map (reads_by x) (map number (take i entries))) (reads_by x n) []
           c.loop-entry.ways c.judge_recipe.new.ways (c.loop-entry.invariant.1
-          (nothing_before x (map (λ f. stale n f) (reads_of x n)) c.loop-entry.found.items
-          c.judge_recipe.new.found.items added none)) (c.in_ok-judge_recipe.ensures.ways none)),
+          (nothing_before x (map (λ f. stale n f) (reads_of x n)) c.loop-entry.found
+          c.judge_recipe.new.found added none)) (c.in_ok-judge_recipe.ensures.ways none)),
     )
 
 pub returns-clause-found : goal.returns-clause-found
@@ -64,7 +64,7 @@ returns-clause-found c =
     let entries = c.entries-entries.result.now in
     let i = c.loop-entry.entry-index in
     let past : length (map number entries) ≤ i = omega (arith, length-map entries number) in
-    leads_done x (flat_map (λ t. map (λ f. stale t f) (reads_of x t)) (drop i (map number entries))) _ c.loop-entry.found.items c.args.found.now.items (ap (flat_map (λ t. map (λ f. stale t f) (reads_of x t))) (drop_past (map number entries) i past)) c.loop-entry.invariant.0
+    leads_done x (flat_map (λ t. map (λ f. stale t f) (reads_of x t)) (drop i (map number entries))) _ c.loop-entry.found c.args.found.now (ap (flat_map (λ t. map (λ f. stale t f) (reads_of x t))) (drop_past (map number entries) i past)) c.loop-entry.invariant.0
 
 pub returns-clause-ways : goal.returns-clause-ways
 returns-clause-ways c none =

@@ -10,5 +10,5 @@ use Rattle.mk_find.proofs.stale_findings.judge_all.Given as goal
 -- the nodes that are left; and where nothing is found, the entries for the reads of those so far
 abbrev pub invariant-loop-entry : goal.invariant-loop-entry
 invariant-loop-entry l =
-    Leads l.subject (flat_map (λ t. map (λ f. stale t f) (reads_of l.subject t)) (drop l.entry-index (map (λ (e : NodeRow). e.number) l.entries))) (stale_candidates l.subject) l.found.items l.initial.found.items ×
-    (l.found.items ≡ [] → AddsEntries l.subject (flat_map (reads_by l.subject) (map (λ (e : NodeRow). e.number) (take l.entry-index l.entries))) [] l.ways)
+    Leads l.fn.subject (flat_map (λ t. map (λ f. stale t f) (reads_of l.fn.subject t)) (drop l.entry-index (map (λ (e : NodeRow). e.number) l.entries))) (stale_candidates l.fn.subject) l.found l.initial.found ×
+    (l.found ≡ [] → AddsEntries l.fn.subject (flat_map (reads_by l.fn.subject) (map (λ (e : NodeRow). e.number) (take l.entry-index l.entries))) [] l.ways)

@@ -3,8 +3,6 @@ use Rattle.std.proofs.Common.{arith, ◌≡◌, ◌∙◌, ℕ, List, [], ap, sy
 use Rattle.std.proofs.lemmas.List.{nil_from_length}
 use Rattle.mk_lines.specs.Names.{once}
 use Rattle.mk_graph_search.specs.Places.{SearchInput}
-use Rattle.mk_graph_search.specs.Ways.{successors}
-use Rattle.mk_subject.specs.Carried.{carried}
 use Rattle.mk_subject.specs.NodeRow.{NodeRow}
 use Rattle.mk_find.specs.Candidates.{stale}
 use Rattle.mk_find.specs.Listed.{Adds}
@@ -14,25 +12,22 @@ use Rattle.mk_find.proofs.Adding.{adds_nothing}
 use Rattle.mk_find.proofs.AddingEntries.{adds_no_entries, reads_of_files}
 use Rattle.mk_find.proofs.stale_findings.judge_recipe.Goals as goal
 
-pub judge_reads-requires-clause-rows : goal.judge_reads-requires-clause-rows
-judge_reads-requires-clause-rows c =
-    subst (λ (task : SearchInput). (t : ℕ) → successors task.rows t ≡ carried c.args.subject.now t) (sym c.in_ok-search.ensures) c.requires.rows
-
-pub judge_reads-requires-clause-start : goal.judge_reads-requires-clause-start
-judge_reads-requires-clause-start c =
-    ap (λ (task : SearchInput). task.start) c.in_ok-search.ensures ∙ ap (λ (k : NodeRow). k.number) c.entry.view_is
+pub judge_reads-requires-clause-search : goal.judge_reads-requires-clause-search
+judge_reads-requires-clause-search c =
+    let from : ℕ → SearchInput = λ start. record { rows = c.args.tables.now.rows; start = start } in
+    c.in_ok-search.ensures ∙ ap (λ (k : NodeRow). from k.number) c.entry.view_is
 
 pub returns-then-count_of_reads-eq0-clause-found : goal.returns-then-count_of_reads-eq0-clause-found
 returns-then-count_of_reads-eq0-clause-found c =
-    let x = c.args.subject.now in
+    let x = c.args.tables.now.subject.now in
     let t = c.args.entry.now.number in
     let few : length (reads_of x c.entry.inside.number) ≡ 0 = omega (arith, c.count_of_reads.ensures, c.if-count_of_reads-eq0.true) in
     let none : reads_of x t ≡ [] = nil_from_length (reads_of x t) (ap (λ (k : NodeRow). length (reads_of x k.number)) (sym c.entry.view_is) ∙ few) in
-    subst (λ (fs : List (List ℕ)). Adds x (map (λ f. stale t f) fs) c.args.found.now.items c.args.found.now.items) (sym none) (adds_nothing x c.args.found.now.items)
+    subst (λ (fs : List (List ℕ)). Adds x (map (λ f. stale t f) fs) c.args.found.now c.args.found.now) (sym none) (adds_nothing x c.args.found.now)
 
 pub returns-then-count_of_reads-eq0-clause-ways : goal.returns-then-count_of_reads-eq0-clause-ways
 returns-then-count_of_reads-eq0-clause-ways c = λ nothing.
-    let x = c.args.subject.now in
+    let x = c.args.tables.now.subject.now in
     let t = c.args.entry.now.number in
     let few : length (reads_of x c.entry.inside.number) ≡ 0 = omega (arith, c.count_of_reads.ensures, c.if-count_of_reads-eq0.true) in
     let none : reads_of x t ≡ [] = nil_from_length (reads_of x t) (ap (λ (k : NodeRow). length (reads_of x k.number)) (sym c.entry.view_is) ∙ few) in

@@ -19,7 +19,7 @@ returns-then-entry c =
     let x = c.args.subject.now in
     let e = c.args.entry.now in
     let recipe : (node x.graph e.number).recipe ≡ true = sym (ap (λ (n : Node). n.recipe) c.requires.same_node) ∙ (sym (ap (λ (k : NodeRow). k.node.recipe) c.entry.view_is) ∙ (sym c.entry.invariant ∙ c.if-entry.true)) in
-    adds_none_of x (λ o. loose e.number o) (serial_order x.graph) c.args.found.now.items (λ o h. true≢false (sym recipe ∙ h.0))
+    adds_none_of x (λ o. loose e.number o) (serial_order x.graph) c.args.found.now (λ o h. true≢false (sym recipe ∙ h.0))
 
 pub note_loose_writers-requires : goal.note_loose_writers-requires
 note_loose_writers-requires c =
@@ -36,8 +36,8 @@ pub returns : goal.returns
 returns c =
     let x = c.args.subject.now in
     let e = c.args.entry.now in
-    let old = c.args.found.now.items in
-    let new = c.note_loose_writers.new.found.items in
+    let old = c.args.found.now in
+    let new = c.note_loose_writers.new.found in
     let same : c.writers_for-writers.result.now ≡ writers_of x (name_of x e.number) = c.writers_for-writers.ensures in
     on_ok_weaker c.note_loose_writers.result
     (λ h. adds_lifted x (λ o. loose e.number o) (λ o. has_name (writes_of x o) (name_of x e.number)) (serial_order x.graph) old new

@@ -1,9 +1,9 @@
--- A recipe that read a file which the new build does not have.
+-- A recipe that reads other files: one that it read is gone.
 use Rattle.std.proofs.Common.{◌≡◌, ℕ, List, [], ◌∷◌, true, false, Option, Some, None, inl, inr, ⊎_elim, refl, sym, ◌∙◌, ap, subst, arith}
 use Rattle.std.proofs.lemmas.Bool.{true≢false, false≢true}
 use Rattle.std.proofs.lemmas.Slice.Eq.{bytes_eq-Decides}
 use Rattle.mk_graph.specs.Membership.{Has}
-use Rattle.mk_build.specs.Setting.{FileName, Setting, is_given, is_editable, name, writes}
+use Rattle.mk_build.specs.Setting.{FileName, Setting, is_given, is_editable, name, reads, writes}
 use Rattle.mk_build.specs.World.{File, Disk, Making, Idle, IsStartDisk, changed, written, without}
 use Rattle.mk_build.specs.Steps.{Step, Make, Begin, Look, Put, End, Pass}
 use Rattle.mk_build.specs.Clean.{given_contents}
@@ -14,7 +14,7 @@ use Rattle.mk_build_behaviours.specs.Behaviours.{Behaviours, Read, Write}
 use Rattle.mk_build_behaviours.specs.StepsBy.{after_all_by}
 use Rattle.mk_build_behaviours.proofs.Coherence.{start_is_coherent_by}
 use Rattle.mk_build_behaviours.proofs.Traces.{sound_without_reads}
-use Rattle.mk_build_since.specs.Named.{Build, HasFile, AreSameFiles, Rule, NewRecipe, OtherCommands, OtherWrites, ReadGone, ReadText, HoldsOf, IsNamed}
+use Rattle.mk_build_since.specs.Named.{Build, HasFile, AreSameFiles, Rule, NewRecipe, OtherCommands, OtherWrites, OtherReads, ReadText, HoldsOf, IsNamed}
 use Rattle.mk_build_since.specs.Alike.{gone, ends}
 use Rattle.mk_build_since.specs.Next.{IsAccepted, MayBecome, IsNext}
 use Rattle.mk_build_since.specs.Needed.{FallShort}
@@ -126,7 +126,7 @@ none_holds NewRecipe among t is none = none 0 (refl, subst (λ (k : ℕ). target
 none_holds OtherCommands among t is holds = holds.2 refl
 none_holds OtherWrites among t is holds = holds.2 (subst (λ (k : ℕ). AreSameFiles (writes (one true) with_header k) (writes (one true) without_header t)) (is ∙ sym (only_recipe true holds.0 holds.1.0).0) (λ f. (λ h. h, λ h. h)))
 none_holds ReadText among t is holds = holds.2.2
-none_holds ReadGone among t is holds = ⊎_elim (λ e. absurd (cc)) (λ rest. ⊎_elim (λ e. absurd (cc)) (λ more. ⊎_elim (λ e. absurd (cc)) (λ last. ⊎_elim (λ e. absurd (cc)) (λ none. none) last) more) rest) among
+none_holds OtherReads among t is holds = ⊎_elim (λ e. absurd (cc)) (λ rest. ⊎_elim (λ e. absurd (cc)) (λ more. ⊎_elim (λ e. absurd (cc)) (λ last. ⊎_elim (λ e. absurd (cc)) (λ none. none) last) more) rest) among
 
 unnamed : (f : FileName) → ¬ (IsNamed rules old new f)
 unnamed f named =
@@ -147,11 +147,11 @@ next = record {
 }
 
 -- a make of the new build passes the recipe
-pub without_read_gone : FallShort rules
-without_read_gone = record {
+pub without_other_reads : FallShort rules
+without_other_reads = record {
   old = old;
   new = new;
-  alike = λ o t same_recipe files. gone lacks (ends (hold_at with_header without_header o t (0 ∷ []) (0 ∷ []) (only_named true o t same_recipe.0.0 same_recipe.0.1) (λ at e. e)));
+  alike = λ o t same_recipe. gone lacks (ends (hold_at with_header without_header o t (0 ∷ []) (0 ∷ []) (only_named true o t same_recipe.0.0 same_recipe.0.1) (λ at e. e)));
   old_accepted = old_accepted;
   new_accepted = new_accepted;
   first = first;

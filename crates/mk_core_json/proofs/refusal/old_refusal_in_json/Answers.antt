@@ -1,0 +1,7 @@
+use Rattle.std.proofs.Common.{ap, ◌∙◌}
+use Rattle.serde_json.specs.Written.{has_float}
+use Rattle.mk_core_json.proofs.SinceTexts.{old_refusal_has_no_float}
+use Rattle.mk_core_json.proofs.refusal.old_refusal_in_json.Goals as goal
+
+pub push_value-requires : goal.push_value-requires
+push_value-requires c = ap has_float c.in_ok-value.ensures ∙ old_refusal_has_no_float c.args.fault.now c.args.cause
