@@ -169,8 +169,9 @@ that the goals reach. Nothing says where it comes from.
 No recipe writes the note, and it is no source: `no unknown b /home/me/note`.
 Take the file into the project, or, if it never changes, record with
 `--fixed /home/me/`. If F has a rule that the goals don't reach, write `R: F`:
-else a change of what F is made from never reaches R. If F has a recipe without
-a record, nothing says that this writes F: record again, so that it has one.
+else a change of what F is made from never reaches R. If F has a recipe
+without a record, nothing says that this writes F: record again, so that it
+has one.
 ";
 
 /// `no loose T R`.
