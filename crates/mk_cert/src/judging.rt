@@ -11,7 +11,7 @@ use crate::cursor::Cursor;
 use crate::fault::CertFault;
 use crate::read_lists::ReadLists;
 use crate::seen_names::SeenNames;
-use crate::walking::good_start;
+use crate::walking::{ReadFinder, good_start};
 use mk_build::build_laws::names_have_one_number;
 use mk_cert_text::{Way, Ways};
 use mk_lines::Name;
@@ -50,27 +50,26 @@ fn note_at<'a>(
 
 /// Whether an entry is good and the first for its recipe and file; if so, it is added to `seen`.
 fn note_good<'a, 's>(
-    alloc: Global,
     subject: &'s Subject<'_>,
     links: &WayTables<'_>,
-    lists: &mut ReadLists<'s>,
-    cursor: &mut Cursor,
+    finder: &mut ReadFinder<'s>,
     way: &Way<'a>,
     seen: &mut Vec<SeenNames<'a>>,
 ) -> Result<bool, AllocError>
     requires links { AreLinks subject.now links.now.carried.items
         links.now.ends.needed.items links.now.ends.always.items }
-    requires lists { IfSome lists.old.lists (λ lists. HoldReads subject.now lists.items) }
+    requires lists { IfSome finder.old.lists.lists (λ lists. HoldReads subject.now lists.items) }
     requires sets { HasSets subject.now seen.old.items }
     ensures judged { IfOk result (λ good.
         Judges subject.entry.now way.now seen.old.items seen.new.items good) }
     ensures lists { OnOk result
-        (IfSome lists.new.lists (λ lists. HoldReads subject.entry.now lists.items)) }
+        (IfSome finder.new.lists.lists (λ lists. HoldReads subject.entry.now lists.items)) }
     ensures sets { HasSets subject.entry.now seen.new.items }
 {
     names_have_one_number();
     let _graph = subject.graph();
-    let Some(start) = good_start(alloc, subject, links, lists, cursor, way)? else {
+    let alloc = *seen.allocator();
+    let Some(start) = good_start(alloc, subject, links, finder, way)? else {
         return Ok(false);
     };
     note_at(alloc, seen, start, way.file)
@@ -101,11 +100,13 @@ pub fn check_entries<'a>(
     ensures answer { (result ≡ Err Memory) ⊎ AnswersEntries subject.now ways.entry.now result }
     ensures seen { OnOk result (AreSeen subject.now ways.entry.now seen.new.items) }
 {
-    let mut lists = ReadLists::new();
-    let mut cursor = Cursor::new(alloc, subject)?;
+    let mut finder = ReadFinder {
+        cursor: Cursor::new(alloc, subject)?,
+        lists: ReadLists::new(),
+    };
     for place in 0..ways.len() {
         let way = ways.at(place);
-        if !note_good(alloc, subject, links, &mut lists, &mut cursor, &way, seen)? {
+        if !note_good(subject, links, &mut finder, &way, seen)? {
             return Err(bad_way(alloc, &way)?);
         }
     }

@@ -4,7 +4,7 @@ ghost use Rattle.std.specs.Prelude.{◌≡◌, ◌⊎◌, ◌↔◌, List, true,
 ghost use Rattle.mk_graph.specs.Membership.{Has};
 ghost use Rattle.mk_cert_text.specs.Certificate.{Way};
 ghost use Rattle.mk_subject.specs.Subject.{reads_of};
-ghost use Rattle.mk_subject.specs.NodeRow.{IsEntry};
+ghost use Rattle.mk_subject.specs.NodeRow.{IsRow};
 ghost use Rattle.mk_cert.specs.WalkTables.{AreSeen};
 ghost use Rattle.mk_subject.specs.Target.{target_of};
 ghost use Rattle.mk_find.specs.Listing.{IsFirstIn};
@@ -25,20 +25,20 @@ use std::alloc::{AllocError, Global};
 fn lacks(
     subject: &Subject<'_>,
     seen: &[SeenNames<'_>],
-    entry: &NodeRow<'_>,
+    row: &NodeRow<'_>,
     file: &Target<'_>,
 ) -> bool
-    requires entry { IsEntry subject.now entry.now }
+    requires row { IsRow subject.now row.now }
     requires file { file.now ≡ target_of subject.now file.now.file }
-    requires read { Has (reads_of subject.now entry.now.number) file.now.file }
+    requires read { Has (reads_of subject.now row.now.number) file.now.file }
     ensures { (ways : List Way) → AreSeen subject.now ways seen.now → (result ≡ true) ↔
         LacksWay subject.now ways (record {
-          recipe = entry.now.number;
+          recipe = row.now.number;
           file = file.now.file;
         }) }
 {
     let _graph = subject.graph();
-    file.can_change(subject) && !stands_at(seen, entry.number, file.file)
+    file.can_change(subject) && !stands_at(seen, row.number, file.file)
 }
 
 /// The first file that the recipe reads and that can change but isn't in the recipe's set of
@@ -46,20 +46,20 @@ fn lacks(
 fn first_lacking<'s>(
     subject: &'s Subject<'_>,
     seen: &[SeenNames<'_>],
-    entry: &NodeRow<'_>,
+    row: &NodeRow<'_>,
 ) -> Option<&'s str>
-    requires { IsEntry subject.now entry.now }
+    requires { IsRow subject.now row.now }
     ensures { (ways : List Way) → AreSeen subject.entry.now ways seen.now →
         MatchOption result
-        ((r : Read) → Has (reads_by subject.entry.now entry.now.number) r →
+        ((r : Read) → Has (reads_by subject.entry.now row.now.number) r →
         ¬ (LacksWay subject.entry.now ways r))
         (λ file. IsFirstIn (LacksWay subject.entry.now ways)
-        (reads_by subject.entry.now entry.now.number)
-        (record { recipe = entry.now.number; file = file.now })) }
+        (reads_by subject.entry.now row.now.number)
+        (record { recipe = row.now.number; file = file.now })) }
 {
-    for place in 0..subject.count_of_unsettled(entry.number) {
-        let file = subject.unsettled(entry.number, place);
-        if lacks(subject, seen, entry, &file) {
+    for place in 0..subject.count_of_unsettled(row.number) {
+        let file = subject.unsettled(row.number, place);
+        if lacks(subject, seen, row, &file) {
             return Some(file.file);
         }
     }
@@ -67,10 +67,10 @@ fn first_lacking<'s>(
 }
 
 /// The fault for a read without an entry.
-fn no_way(alloc: Global, entry: &NodeRow<'_>, file: &str) -> Result<CertFault, AllocError>
-    ensures { IfOk result (λ fault. fault ≡ NoWay entry.now.node.name file.now) }
+fn no_way(alloc: Global, row: &NodeRow<'_>, file: &str) -> Result<CertFault, AllocError>
+    ensures { IfOk result (λ fault. fault ≡ NoWay row.now.node.name file.now) }
 {
-    let recipe = entry.copy_of_name()?;
+    let recipe = row.copy_of_name()?;
     let file = Name::new(alloc, file)?;
     Ok(CertFault::NoWay { recipe, file })
 }

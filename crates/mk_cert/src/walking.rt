@@ -130,27 +130,35 @@ fn leads(
     ends_at(subject, &links.ends, file, way.finish, last)
 }
 
+/// What finds the reads that the entries are for.
+#[derive(Drop)]
+pub struct ReadFinder<'s> {
+    /// The guess at the next read, which is tried first.
+    pub cursor: Cursor,
+    /// The files that each recipe reads, for a read that isn't the guess.
+    pub lists: ReadLists<'s>,
+}
+
 /// The recipe and the file with these names, if the recipe reads the file. It tries the cursor's
 /// guess before it looks up the names.
 fn read_named<'s>(
     alloc: Global,
     subject: &'s Subject<'_>,
-    lists: &mut ReadLists<'s>,
-    cursor: &mut Cursor,
+    finder: &mut ReadFinder<'s>,
     recipe: &str,
     file: &str,
 ) -> Result<Option<NamedRead<'s>>, AllocError>
-    requires { IfSome lists.old.lists (λ lists. HoldReads subject.now lists.items) }
+    requires { IfSome finder.old.lists.lists (λ lists. HoldReads subject.now lists.items) }
     ensures found { IfOk result (λ found. MatchOption found
         ((t : ℕ) → IsRecipe subject.entry.now t → name_of subject.entry.now t ≡ recipe.now →
         ¬ (Has (reads_of subject.entry.now t) file.now))
         (λ found. IsReadOf subject.entry.now recipe.now file.now found.recipe found.file)) }
     ensures lists { OnOk result
-        (IfSome lists.new.lists (λ lists. HoldReads subject.entry.now lists.items)) }
+        (IfSome finder.new.lists.lists (λ lists. HoldReads subject.entry.now lists.items)) }
 {
     names_have_one_number();
     let _graph = subject.graph();
-    if let Some(found) = cursor.found(subject, recipe, file) {
+    if let Some(found) = finder.cursor.found(subject, recipe, file) {
         return Ok(Some(found));
     }
     let Some(number) = recipe_named(subject, 0, recipe) else {
@@ -159,7 +167,7 @@ fn read_named<'s>(
     let Some(target) = subject.file(file) else {
         return Ok(None);
     };
-    if !lists.has(alloc, subject, number, file)? {
+    if !finder.lists.has(alloc, subject, number, file)? {
         return Ok(None);
     }
     Ok(Some(NamedRead {
@@ -194,20 +202,19 @@ pub fn good_start<'s>(
     alloc: Global,
     subject: &'s Subject<'_>,
     links: &WayTables<'_>,
-    lists: &mut ReadLists<'s>,
-    cursor: &mut Cursor,
+    finder: &mut ReadFinder<'s>,
     way: &Way<'_>,
 ) -> Result<Option<usize>, AllocError>
     requires links { AreLinks subject.now links.now.carried.items
         links.now.ends.needed.items links.now.ends.always.items }
-    requires lists { IfSome lists.old.lists (λ lists. HoldReads subject.now lists.items) }
+    requires lists { IfSome finder.old.lists.lists (λ lists. HoldReads subject.now lists.items) }
     ensures start { IfOk result (λ start. MatchOption start (¬ (IsGood subject.entry.now way.now))
         (λ n. IsGood subject.entry.now way.now × IsRecipe subject.entry.now n ×
         (name_of subject.entry.now n ≡ way.now.recipe))) }
     ensures lists { OnOk result
-        (IfSome lists.new.lists (λ lists. HoldReads subject.entry.now lists.items)) }
+        (IfSome finder.new.lists.lists (λ lists. HoldReads subject.entry.now lists.items)) }
 {
-    let Some(found) = read_named(alloc, subject, lists, cursor, way.recipe, way.file)? else {
+    let Some(found) = read_named(alloc, subject, finder, way.recipe, way.file)? else {
         return Ok(None);
     };
     if !is_good(subject, links, way, &found) {

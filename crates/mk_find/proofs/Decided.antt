@@ -14,7 +14,7 @@ use Rattle.mk_find.specs.Conditions.{HasNoRecord, HasOtherCommands, HasVaryingCo
 use Rattle.mk_find.specs.Candidates.{selection, choice_with_writes}
 use Rattle.mk_find.specs.Listed.{Adds}
 use Rattle.mk_find.specs.declared.finding.Finding.{Finding}
-use Rattle.mk_subject.specs.NodeRow.{NodeRow, IsEntry, has_others, is_unwritten, lines_eq, writes_in}
+use Rattle.mk_subject.specs.NodeRow.{NodeRow, IsRow, has_others, is_unwritten, lines_eq, writes_in}
 use Rattle.mk_find.specs.Tests.{lacks_record, has_varying, has_other_commands}
 use Rattle.mk_subject.proofs.Entries.{same_writes}
 use Rattle.mk_subject.proofs.Decided.{lines_same}
@@ -24,22 +24,22 @@ is_none_none None e = refl
 is_none_none (Some a) e = absurd (let f : false ≡ true = e in cc)
 
 -- no record
-pub record_lacking : (x : Subject) (e : NodeRow) → IsEntry x e → lacks_record e ≡ true → HasNoRecord x e.number
+pub record_lacking : (x : Subject) (e : NodeRow) → IsRow x e → lacks_record e ≡ true → HasNoRecord x e.number
 record_lacking x e is t =
     let both = and_parts e.node.recipe (is_none e.recorded) t in
     (sym (ap (λ (n : Node). n.recipe) is.same_node) ∙ both.0, sym is.same_record ∙ is_none_none e.recorded both.1)
 
-pub record_there : (x : Subject) (e : NodeRow) → IsEntry x e → lacks_record e ≡ false → ¬ (HasNoRecord x e.number)
+pub record_there : (x : Subject) (e : NodeRow) → IsRow x e → lacks_record e ≡ false → ¬ (HasNoRecord x e.number)
 record_there x e is f (recipe, none) =
     true≢false (sym (and_from e.node.recipe (is_none e.recorded) (ap (λ (n : Node). n.recipe) is.same_node ∙ recipe) (ap (λ (o : Option Record). is_none o) (is.same_record ∙ none))) ∙ f)
 
 -- varying commands
-pub varying_commands_there : (x : Subject) (e : NodeRow) → IsEntry x e → has_varying e ≡ true → HasVaryingCommands x e.number
+pub varying_commands_there : (x : Subject) (e : NodeRow) → IsRow x e → has_varying e ≡ true → HasVaryingCommands x e.number
 varying_commands_there x e is t =
     let both = and_parts e.node.recipe e.commands.varying t in
     (sym (ap (λ (n : Node). n.recipe) is.same_node) ∙ both.0, e.commands, is.same_commands, both.1)
 
-pub no_varying_commands : (x : Subject) (e : NodeRow) → IsEntry x e → has_varying e ≡ false → ¬ (HasVaryingCommands x e.number)
+pub no_varying_commands : (x : Subject) (e : NodeRow) → IsRow x e → has_varying e ≡ false → ¬ (HasVaryingCommands x e.number)
 no_varying_commands x e is f (recipe, c, told, varying) =
     let same : Ok c ≡ Ok e.commands = sym told ∙ is.same_commands in
     let k : c ≡ e.commands = cc in
@@ -50,11 +50,11 @@ some_is None e = absurd (let f : false ≡ true = e in cc)
 some_is (Some a) e = (a, refl)
 
 -- what the record of a recipe says is written is what the recipe writes
-recorded_writes : (x : Subject) (e : NodeRow) → IsEntry x e → e.node.recipe ≡ true → writes_in e.recorded ≡ writes_of x e.number
+recorded_writes : (x : Subject) (e : NodeRow) → IsRow x e → e.node.recipe ≡ true → writes_in e.recorded ≡ writes_of x e.number
 recorded_writes x e is recipe = sym (ap (λ b. cond b (writes_in e.recorded) []) recipe) ∙ same_writes x e is
 
 -- no target
-pub target_lacking : (x : Subject) (e : NodeRow) → IsEntry x e → e.unwritten ≡ true → LacksItsTarget x e.number
+pub target_lacking : (x : Subject) (e : NodeRow) → IsRow x e → e.unwritten ≡ true → LacksItsTarget x e.number
 target_lacking x e is told =
     let t : is_unwritten e.node e.recorded ≡ true = sym is.same_unwritten ∙ told in
     let recipe = and_parts e.node.recipe _ t in
@@ -68,7 +68,7 @@ target_lacking x e is told =
       λ h. true≢false (sym (has_name-from_Has (writes_in e.recorded) e.node.name (subst (λ (n : Node). Has (writes_in e.recorded) n.name) (sym is.same_node) (subst (λ (fs : List (List ℕ)). Has fs (name_of x e.number)) (sym (recorded_writes x e is recipe.0)) h))) ∙ out),
     )
 
-pub target_there : (x : Subject) (e : NodeRow) → IsEntry x e → e.unwritten ≡ false → ¬ (LacksItsTarget x e.number)
+pub target_there : (x : Subject) (e : NodeRow) → IsRow x e → e.unwritten ≡ false → ¬ (LacksItsTarget x e.number)
 target_there x e is told (recipe, (r, recorded), phony, out) =
     let f : is_unwritten e.node e.recorded ≡ false = sym is.same_unwritten ∙ told in
     let own : e.node.recipe ≡ true = ap (λ (n : Node). n.recipe) is.same_node ∙ recipe in
@@ -80,7 +80,7 @@ target_there x e is told (recipe, (r, recorded), phony, out) =
     true≢false (sym (and_from e.node.recipe _ own (and_from (is_some e.recorded) _ (ap (λ (o : Option Record). is_some o) (is.same_record ∙ recorded)) (and_from (not e.node.phony) _ (ap (λ (n : Node). not n.phony) is.same_node ∙ ap (λ b. not b) phony) (ap (λ b. not b) unwritten)))) ∙ f)
 
 -- the name in an entry is that of its node
-pub name_is : (x : Subject) (e : NodeRow) (name : List ℕ) → IsEntry x e → name ≡ e.node.name → name ≡ name_of x e.number
+pub name_is : (x : Subject) (e : NodeRow) (name : List ℕ) → IsRow x e → name ≡ e.node.name → name ≡ name_of x e.number
 name_is x e name is same = same ∙ ap (λ (n : Node). n.name) is.same_node
 
 lines_equal : (xs : List (List ℕ)) → lines_eq xs xs ≡ true
@@ -95,14 +95,14 @@ others_some (Some r) lines t = (r, refl, λ same. true≢false (sym (lines_equal
 others_from : (r : Record) (lines : List (List ℕ)) → ¬ (r.commands ≡ lines) → has_others (Some r) lines ≡ true
 others_from r lines differ = ⊎_elim (λ t. absurd (differ (lines_same r.commands lines t))) (λ f. ap (λ b. not b) f) (cases_Bool (lines_eq r.commands lines))
 
-pub other_commands_there : (x : Subject) (e : NodeRow) → IsEntry x e → has_other_commands e ≡ true → HasOtherCommands x e.number
+pub other_commands_there : (x : Subject) (e : NodeRow) → IsRow x e → has_other_commands e ≡ true → HasOtherCommands x e.number
 other_commands_there x e is t =
     let recipe = and_parts e.node.recipe _ t in
     let varying = and_parts (not e.commands.varying) _ recipe.1 in
     let others = others_some e.recorded e.commands.lines (sym is.same_others ∙ varying.1) in
     (sym (ap (λ (n : Node). n.recipe) is.same_node) ∙ recipe.0, others.0, sym is.same_record ∙ others.1, e.commands, is.same_commands, not-true e.commands.varying varying.0, others.2)
 
-pub no_other_commands : (x : Subject) (e : NodeRow) → IsEntry x e → has_other_commands e ≡ false → ¬ (HasOtherCommands x e.number)
+pub no_other_commands : (x : Subject) (e : NodeRow) → IsRow x e → has_other_commands e ≡ false → ¬ (HasOtherCommands x e.number)
 no_other_commands x e is f (recipe, r, recorded, c, told, steady, differ) =
     let same : Ok c ≡ Ok e.commands = sym told ∙ is.same_commands in
     let k : c ≡ e.commands = cc in
@@ -110,12 +110,12 @@ no_other_commands x e is f (recipe, r, recorded, c, told, steady, differ) =
     true≢false (sym (and_from e.node.recipe _ (ap (λ (n : Node). n.recipe) is.same_node ∙ recipe) (and_from (not e.commands.varying) _ (ap (λ (d : Commands). not d.varying) (sym k) ∙ ap (λ b. not b) steady) other)) ∙ f)
 
 -- the selection that may be found of a node is the one that is looked up
-pub selection_is : (x : Subject) (e : NodeRow) (o : Option (List ℕ)) (old new : List Finding) → IsEntry x e → e.chosen_after ≡ o → Adds x (map (λ c. selection e.number c) (option_to_list o)) old new → Adds x (map (λ c. selection e.number c) (choice_with_writes x e.number)) old new
+pub selection_is : (x : Subject) (e : NodeRow) (o : Option (List ℕ)) (old new : List Finding) → IsRow x e → e.chosen_after ≡ o → Adds x (map (λ c. selection e.number c) (option_to_list o)) old new → Adds x (map (λ c. selection e.number c) (choice_with_writes x e.number)) old new
 selection_is x e o old new is same h = subst (λ (k : Option (List ℕ)). Adds x (map (λ c. selection e.number c) (option_to_list k)) old new) (sym same ∙ is.same_choice_after) h
 
 -- another choice, and the same one
-pub other_choice : (x : Subject) (e : NodeRow) (c : List ℕ) → IsEntry x e → e.chosen_after ≡ Some c → ¬ (e.chosen ≡ Some c) → ChoosesOtherwise x e.number c
+pub other_choice : (x : Subject) (e : NodeRow) (c : List ℕ) → IsRow x e → e.chosen_after ≡ Some c → ¬ (e.chosen ≡ Some c) → ChoosesOtherwise x e.number c
 other_choice x e c is after differ = (sym is.same_choice_after ∙ after, λ h. differ (is.same_choice ∙ h))
 
-pub same_choice_stays : (x : Subject) (e : NodeRow) (c : List ℕ) → IsEntry x e → e.chosen ≡ Some c → ¬ (ChoosesOtherwise x e.number c)
+pub same_choice_stays : (x : Subject) (e : NodeRow) (c : List ℕ) → IsRow x e → e.chosen ≡ Some c → ¬ (ChoosesOtherwise x e.number c)
 same_choice_stays x e c is same (after, differ) = differ (sym is.same_choice ∙ same)

@@ -13,7 +13,7 @@ use Rattle.mk_build.specs.Ways.{CanChange}
 use Rattle.mk_cert_text.specs.declared.certificate.Finish.{Finish}
 use Rattle.mk_find.specs.Candidates.{static_candidates}
 use Rattle.mk_find.specs.Conditions.{IsStale}
-use Rattle.mk_subject.specs.NodeRow.{NodeRow, IsEntry, reads_in, entry_reads}
+use Rattle.mk_subject.specs.NodeRow.{NodeRow, IsRow, reads_in, row_reads}
 use Rattle.mk_find.specs.FindingLaws.{NothingFoundIsSound}
 use Rattle.mk_subject.specs.Laws.{PathsAreWays}
 use Rattle.mk_find.specs.Listing.{Lists}
@@ -23,7 +23,7 @@ use Rattle.mk_find.specs.FirstPaths.{IsAlongFirstPath, HasNoPath}
 use Rattle.mk_find.proofs.ReadsOnce.{reader_is_recipe}
 
 -- and no file twice
-pub reads_distinct : (x : Subject) (e : NodeRow) → IsEntry x e → once (reads_of x e.number) ≡ reads_of x e.number
+pub reads_distinct : (x : Subject) (e : NodeRow) → IsRow x e → once (reads_of x e.number) ≡ reads_of x e.number
 reads_distinct x e is = subst (λ (files : List (List ℕ)). once files ≡ files) (same_reads x e is) (by e.node.recipe)
   where
     by : (b : Bool) → once (cond b (reads_in e.recorded) []) ≡ cond b (reads_in e.recorded) []
@@ -31,11 +31,11 @@ reads_distinct x e is = subst (λ (files : List (List ℕ)). once files ≡ file
     by false = refl
 
 -- as many files as the recipe reads
-pub count_is : (x : Subject) (e : NodeRow) (files : List (String Global)) → IsEntry x e → map string_bytes files ≡ entry_reads e → length files ≡ length (reads_of x e.number)
+pub count_is : (x : Subject) (e : NodeRow) (files : List (String Global)) → IsRow x e → map string_bytes files ≡ row_reads e → length files ≡ length (reads_of x e.number)
 count_is x e files is same = sym (length-map files string_bytes) ∙ ap (λ (l : List (List ℕ)). length l) (same ∙ same_reads x e is)
 
 -- a place of theirs is one of the record's files
-pub place_is : (e : NodeRow) (files : List (String Global)) (i : ℕ) → map string_bytes files ≡ entry_reads e → i < length files → i < length (entry_reads e)
+pub place_is : (e : NodeRow) (files : List (String Global)) (i : ℕ) → map string_bytes files ≡ row_reads e → i < length files → i < length (row_reads e)
 place_is e files i same lt = omega (arith, length-map files string_bytes, ap (λ (l : List (List ℕ)). length l) same)
 
 -- who reads is a node

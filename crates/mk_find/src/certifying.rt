@@ -106,15 +106,15 @@ impl CertificateBuilder {
     pub fn push(&mut self, read: &FileRead<'_, '_>, path: &FirstPath) -> Result<(), AllocError>
         requires read { IsRead read.now }
         requires first { IsAlongFirstPath read.now.subject.now read.now.file.file
-            read.now.entry.now.number path.now.nodes.items path.now.finish }
+            read.now.row.now.number path.now.nodes.items path.now.finish }
         ensures { OnOk result ((way : WayValue) × IsEntryFor read.now.subject.now
-            (record { recipe = read.now.entry.now.number; file = read.now.file.file }) way ×
+            (record { recipe = read.now.row.now.number; file = read.now.file.file }) way ×
             (self.new ≡ self.old ++ way ∷ [])) }
     {
         carried_exactly();
         name_all(&mut self.path, read.subject, &path.nodes)?;
         self.ways
-            .push(read.entry.name(), read.name(), &self.path, path.finish)
+            .push(read.row.name(), read.name(), &self.path, path.finish)
     }
 }
 

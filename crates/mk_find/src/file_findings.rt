@@ -5,7 +5,7 @@ ghost use Rattle.mk_lines.specs.Names.{has_name};
 ghost use Rattle.mk_graph.specs.Membership.{Has};
 ghost use Rattle.mk_subject.specs.Subject.{reads_of, writes_of};
 ghost use Rattle.mk_find.specs.Candidates.{given_written, own_read, unknown_read};
-ghost use Rattle.mk_subject.specs.NodeRow.{IsEntry, entry_writes};
+ghost use Rattle.mk_subject.specs.NodeRow.{IsRow, row_writes};
 ghost use Rattle.mk_find.specs.Listed.{Adds};
 ghost use Rattle.mk_find.specs.FileTests.{IsUnknown};
 ghost use Rattle.mk_subject.specs.Target.{target_of};
@@ -19,21 +19,21 @@ use std::alloc::{AllocError, Global};
 /// Adds the finding `GivenWritten`, if the file is given, phony, or passed over as missing.
 fn note_taken(
     subject: &Subject<'_>,
-    entry: &NodeRow<'_>,
+    row: &NodeRow<'_>,
     file: &Target<'_>,
     found: &mut FindingList,
 ) -> Result<(), AllocError>
-    requires entry { IsEntry subject.now entry.now }
+    requires row { IsRow subject.now row.now }
     requires file { file.now ≡ target_of subject.now file.now.file }
-    requires written { Has (writes_of subject.now entry.now.number) file.now.file }
-    ensures { OnOk result (Adds subject.now (given_written entry.now.number file.now.file ∷ [])
+    requires written { Has (writes_of subject.now row.now.number) file.now.file }
+    ensures { OnOk result (Adds subject.now (given_written row.now.number file.now.file ∷ [])
         found.old found.new) }
 {
     let known = file.known;
     if !known.taken {
         return Ok(());
     }
-    let recipe = found.name_of_node(entry)?;
+    let recipe = found.name_of_node(row)?;
     let file = found.name_of(file)?;
     found.push(Finding::GivenWritten { recipe, file })?;
     Ok(())
@@ -43,17 +43,17 @@ fn note_taken(
 /// or passed over as missing. The only error is out of memory.
 pub fn note_given_written(
     subject: &Subject<'_>,
-    entry: &NodeRow<'_>,
+    row: &NodeRow<'_>,
     found: &mut FindingList,
 ) -> Result<(), AllocError>
-    requires { IsEntry subject.now entry.now }
+    requires { IsRow subject.now row.now }
     ensures { OnOk result (Adds subject.now
-        (map (λ f. given_written entry.now.number f) (writes_of subject.now entry.now.number))
+        (map (λ f. given_written row.now.number f) (writes_of subject.now row.now.number))
         found.old found.new) }
 {
-    for place in 0..subject.count_of_written(entry.number) {
-        let file = subject.written(entry.number, place);
-        note_taken(subject, entry, &file, found)?;
+    for place in 0..subject.count_of_written(row.number) {
+        let file = subject.written(row.number, place);
+        note_taken(subject, row, &file, found)?;
     }
     Ok(())
 }
@@ -72,20 +72,20 @@ fn is_unknown(subject: &Subject<'_>, file: &Target<'_>) -> bool
 /// Adds the finding `UnknownRead`, if the file is neither given nor written by any recipe.
 fn note_unknown(
     subject: &Subject<'_>,
-    entry: &NodeRow<'_>,
+    row: &NodeRow<'_>,
     file: &Target<'_>,
     found: &mut FindingList,
 ) -> Result<(), AllocError>
-    requires entry { IsEntry subject.now entry.now }
+    requires row { IsRow subject.now row.now }
     requires file { file.now ≡ target_of subject.now file.now.file }
-    requires read { Has (reads_of subject.now entry.now.number) file.now.file }
-    ensures { OnOk result (Adds subject.now (unknown_read entry.now.number file.now.file ∷ [])
+    requires read { Has (reads_of subject.now row.now.number) file.now.file }
+    ensures { OnOk result (Adds subject.now (unknown_read row.now.number file.now.file ∷ [])
         found.old found.new) }
 {
     if !is_unknown(subject, file) {
         return Ok(());
     }
-    let recipe = found.name_of_node(entry)?;
+    let recipe = found.name_of_node(row)?;
     let file = found.name_of(file)?;
     found.push(Finding::UnknownRead { recipe, file })?;
     Ok(())
@@ -95,17 +95,17 @@ fn note_unknown(
 /// written by any recipe. The only error is out of memory.
 pub fn note_unknown_reads(
     subject: &Subject<'_>,
-    entry: &NodeRow<'_>,
+    row: &NodeRow<'_>,
     found: &mut FindingList,
 ) -> Result<(), AllocError>
-    requires { IsEntry subject.now entry.now }
+    requires { IsRow subject.now row.now }
     ensures { OnOk result (Adds subject.now
-        (map (λ f. unknown_read entry.now.number f) (reads_of subject.now entry.now.number))
+        (map (λ f. unknown_read row.now.number f) (reads_of subject.now row.now.number))
         found.old found.new) }
 {
-    for place in 0..subject.count_of_unsettled(entry.number) {
-        let file = subject.unsettled(entry.number, place);
-        note_unknown(subject, entry, &file, found)?;
+    for place in 0..subject.count_of_unsettled(row.number) {
+        let file = subject.unsettled(row.number, place);
+        note_unknown(subject, row, &file, found)?;
     }
     Ok(())
 }
@@ -113,18 +113,18 @@ pub fn note_unknown_reads(
 /// Whether the recipe writes a file with this name. `written` is made on the first call.
 fn writes_name<'a>(
     alloc: Global,
-    entry: &NodeRow<'a>,
+    row: &NodeRow<'a>,
     written: &mut Option<NameList<'a>>,
     name: &str,
 ) -> Result<bool, AllocError>
-    requires { IfSome written.old (λ list. list ≡ entry_writes entry.now) }
-    ensures writes { IfOk result (λ writes. writes ≡ has_name (entry_writes entry.now) name.now) }
+    requires { IfSome written.old (λ list. list ≡ row_writes row.now) }
+    ensures writes { IfOk result (λ writes. writes ≡ has_name (row_writes row.now) name.now) }
     ensures written { OnOk result
-        (IfSome written.new (λ list. list ≡ entry_writes entry.now)) }
+        (IfSome written.new (λ list. list ≡ row_writes row.now)) }
 {
     let mut list = match written.take() {
         Some(list) => list,
-        None => NameList::new(entry.writes()),
+        None => NameList::new(row.writes()),
     };
     list.note_use(alloc)?;
     let writes = list.has(name);
@@ -137,48 +137,48 @@ fn writes_name<'a>(
 fn is_own<'a>(
     alloc: Global,
     subject: &Subject<'_>,
-    entry: &NodeRow<'a>,
+    row: &NodeRow<'a>,
     written: &mut Option<NameList<'a>>,
     file: &Target<'_>,
 ) -> Result<bool, AllocError>
-    requires entry { IsEntry subject.now entry.now }
-    requires written { IfSome written.old (λ list. list ≡ entry_writes entry.now) }
+    requires row { IsRow subject.now row.now }
+    requires written { IfSome written.old (λ list. list ≡ row_writes row.now) }
     requires file { file.now ≡ target_of subject.now file.now.file }
     ensures own { IfOk result (λ own. (own ≡ true) ↔
-        Has (writes_of subject.now entry.now.number) file.now.file) }
+        Has (writes_of subject.now row.now.number) file.now.file) }
     ensures written { OnOk result
-        (IfSome written.new (λ list. list ≡ entry_writes entry.now)) }
+        (IfSome written.new (λ list. list ≡ row_writes row.now)) }
 {
     serial_reaches_each_once();
     let _graph = subject.graph();
     let writers = file.writers();
     if writers.len() <= FEW_NUMBERS {
-        return Ok(has_number(writers, entry.number));
+        return Ok(has_number(writers, row.number));
     }
-    writes_name(alloc, entry, written, file.file)
+    writes_name(alloc, row, written, file.file)
 }
 
 /// Adds the finding `OwnRead`, if the recipe writes the file.
 fn note_own<'a>(
     subject: &Subject<'_>,
-    entry: &NodeRow<'a>,
+    row: &NodeRow<'a>,
     written: &mut Option<NameList<'a>>,
     file: &Target<'_>,
     found: &mut FindingList,
 ) -> Result<(), AllocError>
-    requires entry { IsEntry subject.now entry.now }
-    requires written { IfSome written.old (λ list. list ≡ entry_writes entry.now) }
+    requires row { IsRow subject.now row.now }
+    requires written { IfSome written.old (λ list. list ≡ row_writes row.now) }
     requires file { file.now ≡ target_of subject.now file.now.file }
-    requires read { Has (reads_of subject.now entry.now.number) file.now.file }
-    ensures added { OnOk result (Adds subject.now (own_read entry.now.number file.now.file ∷ [])
+    requires read { Has (reads_of subject.now row.now.number) file.now.file }
+    ensures added { OnOk result (Adds subject.now (own_read row.now.number file.now.file ∷ [])
         found.old found.new) }
     ensures written { OnOk result
-        (IfSome written.new (λ list. list ≡ entry_writes entry.now)) }
+        (IfSome written.new (λ list. list ≡ row_writes row.now)) }
 {
-    if !is_own(found.allocator(), subject, entry, written, file)? {
+    if !is_own(found.allocator(), subject, row, written, file)? {
         return Ok(());
     }
-    let recipe = found.name_of_node(entry)?;
+    let recipe = found.name_of_node(row)?;
     let file = found.name_of(file)?;
     found.push(Finding::OwnRead { recipe, file })?;
     Ok(())
@@ -188,20 +188,20 @@ fn note_own<'a>(
 /// is out of memory.
 pub fn note_own_reads(
     subject: &Subject<'_>,
-    entry: &NodeRow<'_>,
+    row: &NodeRow<'_>,
     found: &mut FindingList,
 ) -> Result<(), AllocError>
-    requires { IsEntry subject.now entry.now }
+    requires { IsRow subject.now row.now }
     ensures { OnOk result (Adds subject.now
-        (map (λ f. own_read entry.now.number f) (reads_of subject.now entry.now.number))
+        (map (λ f. own_read row.now.number f) (reads_of subject.now row.now.number))
         found.old found.new) }
 {
     serial_reaches_each_once();
     let _graph = subject.graph();
     let mut written = None;
-    for place in 0..subject.count_of_unsettled(entry.number) {
-        let file = subject.unsettled(entry.number, place);
-        note_own(subject, entry, &mut written, &file, found)?;
+    for place in 0..subject.count_of_unsettled(row.number) {
+        let file = subject.unsettled(row.number, place);
+        note_own(subject, row, &mut written, &file, found)?;
     }
     Ok(())
 }

@@ -11,7 +11,7 @@ pub struct FileRead<'s, 'e> {
     /// What is judged.
     pub subject: &'s Subject<'s>,
     /// The node whose recipe reads the file.
-    pub entry: &'e NodeRow<'e>,
+    pub row: &'e NodeRow<'e>,
     /// The file.
     pub file: Target<'s>,
 }

@@ -58,17 +58,17 @@ impl FindingList {
 
     /// The name of a node. If the last finding is about this node, its copy is shared; else a new
     /// one is made. The only error is out of memory.
-    pub fn name_of_node(&self, entry: &NodeRow<'_>) -> Result<SharedName, AllocError>
-        ensures { IfOk result (λ name. name ≡ entry.now.node.name) }
+    pub fn name_of_node(&self, row: &NodeRow<'_>) -> Result<SharedName, AllocError>
+        ensures { IfOk result (λ name. name ≡ row.now.node.name) }
     {
         if let Some(last) = self.findings.last() {
             if let Some(name) = last.about() {
-                if name.as_str() == entry.name() {
+                if name.as_str() == row.name() {
                     return name.clone();
                 }
             }
         }
-        SharedName::new(self.allocator(), entry.name())
+        SharedName::new(self.allocator(), row.name())
     }
 
     /// The name of a file. All findings about it share one copy, which is made on the first call

@@ -4,7 +4,7 @@ ghost use Rattle.std.specs.Prelude.{◌≡◌, ◌∷◌, List, [], IfOk, MatchO
 ghost use Rattle.mk_graph.specs.Serial.{serial_order};
 ghost use Rattle.mk_find.specs.Candidates.{pairs_of_writers, race_candidates, static_candidates};
 ghost use Rattle.mk_find.specs.Listed.{IsFirstFinding};
-ghost use Rattle.mk_subject.specs.NodeRow.{IsEntry};
+ghost use Rattle.mk_subject.specs.NodeRow.{IsRow};
 ghost use Rattle.mk_find.specs.NodeChecks.{candidates_before_pairs, candidates_after_pairs, pairs_with};
 ghost use Rattle.mk_find.specs.declared.finding.Finding.{Finding};
 
@@ -52,13 +52,13 @@ fn first_behind_pairs(alloc: Global, subject: &Subject<'_>) -> Result<Option<Fin
 fn first_pair_with(
     alloc: Global,
     subject: &Subject<'_>,
-    entry: &NodeRow<'_>,
+    row: &NodeRow<'_>,
 ) -> Result<Option<Finding>, AllocError>
-    requires { IsEntry subject.now entry.now }
-    ensures { IfOk result (IsFirstFinding subject.now (pairs_with subject.now entry.now.number)) }
+    requires { IsRow subject.now row.now }
+    ensures { IfOk result (IsFirstFinding subject.now (pairs_with subject.now row.now.number)) }
 {
     let mut found = FindingList::new(alloc);
-    note_files(subject, entry, &mut found)?;
+    note_files(subject, row, &mut found)?;
     Ok(first_of(found))
 }
 

@@ -8,7 +8,7 @@ ghost use Rattle.mk_subject.specs.Carried.{carried};
 ghost use Rattle.mk_find.specs.FileRead.{IsRead};
 ghost use Rattle.mk_find.specs.Listed.{Adds};
 ghost use Rattle.mk_find.specs.PathTables.{ArePathTables};
-ghost use Rattle.mk_subject.specs.NodeRow.{IsEntry};
+ghost use Rattle.mk_subject.specs.NodeRow.{IsRow};
 ghost use Rattle.mk_subject.specs.Subject.{writes_of};
 ghost use Rattle.mk_subject.specs.Target.{target_of};
 ghost use Rattle.mk_subject.specs.WayTables.{AreEnds};
@@ -27,13 +27,13 @@ use mk_subject::{EndTables, NodeRow, Subject, Target, carried_lists, end_tables_
 use std::alloc::{AllocError, Global};
 
 /// Whether the recipe writes the file.
-fn is_own(subject: &Subject<'_>, entry: &NodeRow<'_>, file: &Target<'_>) -> bool
+fn is_own(subject: &Subject<'_>, row: &NodeRow<'_>, file: &Target<'_>) -> bool
     requires { file.now ≡ target_of subject.now file.now.file }
-    ensures { result ≡ has_name (writes_of subject.now entry.now.number) file.now.file }
+    ensures { result ≡ has_name (writes_of subject.now row.now.number) file.now.file }
 {
     serial_reaches_each_once();
     let _graph = subject.graph();
-    file.writers().contains(&entry.number)
+    file.writers().contains(&row.number)
 }
 
 /// Adds the finding `Stale`, if the recipe doesn't write the file and the read is stale. `passed`
@@ -48,15 +48,15 @@ fn note_hidden_read(
     requires read { IsRead read.now }
     requires ends { AreEnds read.now.subject.now ends.now.needed.items ends.now.always.items }
     requires rows { (t : ℕ) → successors search.old.rows t ≡ carried read.now.subject.now t }
-    requires start { search.old.start ≡ read.now.entry.now.number }
+    requires start { search.old.start ≡ read.now.row.now.number }
     requires passed { AlwaysNoneBefore read.now.subject.now search.old.start passed.old }
     ensures same { search.new ≡ search.old }
     ensures passed { AlwaysNoneBefore read.now.subject.now search.old.start passed.new }
     ensures found { OnOk result (Adds read.now.subject.now
-        (hidden_read read.now.subject.now read.now.entry.now.number read.now.file.file)
+        (hidden_read read.now.subject.now read.now.row.now.number read.now.file.file)
         found.old found.new) }
 {
-    if is_own(read.subject, read.entry, &read.file) {
+    if is_own(read.subject, read.row, &read.file) {
         return Ok(());
     }
     judge_read(read, ends, search, passed, found)?;
@@ -67,22 +67,22 @@ fn note_hidden_read(
 fn note_hidden_reads(
     tables: &PathTables<'_>,
     search: &mut Search<'_>,
-    entry: &NodeRow<'_>,
+    row: &NodeRow<'_>,
     found: &mut FindingList,
 ) -> Result<(), AllocError>
     requires tables { ArePathTables tables.now }
-    requires entry { IsEntry tables.now.subject.now entry.now }
-    requires search { search.old ≡ record { rows = tables.now.rows; start = entry.now.number } }
+    requires row { IsRow tables.now.subject.now row.now }
+    requires search { search.old ≡ record { rows = tables.now.rows; start = row.now.number } }
     ensures { OnOk result (Adds tables.now.subject.now
-        (hidden_reads tables.now.subject.now entry.now.number) found.old found.new) }
+        (hidden_reads tables.now.subject.now row.now.number) found.old found.new) }
 {
     let subject = tables.subject;
     let mut passed = 0;
-    for place in 0..subject.count_of_reads(entry.number) {
-        let file = subject.read(entry, place);
+    for place in 0..subject.count_of_reads(row.number) {
+        let file = subject.read(row, place);
         let read = FileRead {
             subject,
-            entry: &*entry,
+            row: &*row,
             file,
         };
         note_hidden_read(&read, &tables.ends, search, &mut passed, found)?;
@@ -94,20 +94,20 @@ fn note_hidden_reads(
 /// one search, and none if the recipe reads nothing.
 fn search_hidden(
     tables: &PathTables<'_>,
-    entry: &NodeRow<'_>,
+    row: &NodeRow<'_>,
     found: &mut FindingList,
 ) -> Result<(), AllocError>
     requires tables { ArePathTables tables.now }
-    requires entry { IsEntry tables.now.subject.now entry.now }
+    requires row { IsRow tables.now.subject.now row.now }
     ensures { OnOk result (Adds tables.now.subject.now
-        (hidden_reads tables.now.subject.now entry.now.number) found.old found.new) }
+        (hidden_reads tables.now.subject.now row.now.number) found.old found.new) }
 {
     let subject = tables.subject;
-    if subject.count_of_reads(entry.number) == 0 {
+    if subject.count_of_reads(row.number) == 0 {
         return Ok(());
     }
-    let mut search = Search::new(found.allocator(), &tables.rows, entry.number)?;
-    note_hidden_reads(tables, &mut search, entry, found)
+    let mut search = Search::new(found.allocator(), &tables.rows, row.number)?;
+    note_hidden_reads(tables, &mut search, row, found)
 }
 
 /// Adds the finding `Stale` for each stale read of a file that its recipe doesn't write.

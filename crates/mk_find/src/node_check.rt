@@ -2,7 +2,7 @@
 
 ghost use Rattle.std.specs.Prelude.{OnOk};
 ghost use Rattle.mk_find.specs.Candidates.{by_node};
-ghost use Rattle.mk_subject.specs.NodeRow.{IsEntry};
+ghost use Rattle.mk_subject.specs.NodeRow.{IsRow};
 ghost use Rattle.mk_find.specs.Listed.{Adds};
 ghost use Rattle.mk_find.specs.NodeChecks.{candidates_of_check};
 
@@ -63,24 +63,24 @@ pub const AFTER_PAIRS: [NodeCheck; 5] = [
 pub fn run_check(
     subject: &Subject<'_>,
     check: NodeCheck,
-    entry: &NodeRow<'_>,
+    row: &NodeRow<'_>,
     found: &mut FindingList,
 ) -> Result<(), AllocError>
-    requires { IsEntry subject.now entry.now }
+    requires { IsRow subject.now row.now }
     ensures { OnOk result
-        (Adds subject.now (candidates_of_check subject.now check entry.now.number)
+        (Adds subject.now (candidates_of_check subject.now check row.now.number)
         found.old found.new) }
 {
     match check {
-        NodeCheck::Record => note_no_record(entry, found),
-        NodeCheck::Commands => note_other_commands(entry, found),
-        NodeCheck::Varying => note_varying(entry, found),
-        NodeCheck::Target => note_no_target(entry, found),
-        NodeCheck::Given => note_given_written(subject, entry, found),
-        NodeCheck::Own => note_own_reads(subject, entry, found),
-        NodeCheck::Unknown => note_unknown_reads(subject, entry, found),
-        NodeCheck::Loose => note_loose(subject, entry, found),
-        NodeCheck::Choice => note_selection(entry, found),
+        NodeCheck::Record => note_no_record(row, found),
+        NodeCheck::Commands => note_other_commands(row, found),
+        NodeCheck::Varying => note_varying(row, found),
+        NodeCheck::Target => note_no_target(row, found),
+        NodeCheck::Given => note_given_written(subject, row, found),
+        NodeCheck::Own => note_own_reads(subject, row, found),
+        NodeCheck::Unknown => note_unknown_reads(subject, row, found),
+        NodeCheck::Loose => note_loose(subject, row, found),
+        NodeCheck::Choice => note_selection(row, found),
     }
 }
 

@@ -2,7 +2,7 @@
 
 ghost use Rattle.std.specs.Prelude.{◌≡◌, ◌↔◌, [], true, IfOk, OnOk};
 ghost use Rattle.mk_find.specs.Candidates.{static_candidates};
-ghost use Rattle.mk_subject.specs.NodeRow.{IsEntry};
+ghost use Rattle.mk_subject.specs.NodeRow.{IsRow};
 ghost use Rattle.mk_find.specs.Listed.{Adds};
 ghost use Rattle.mk_find.specs.Listing.{Lists};
 ghost use Rattle.mk_find.specs.NodeChecks.{candidates_of_node, found_of};
@@ -18,16 +18,16 @@ use std::alloc::{AllocError, Global};
 fn run_checks_on(
     subject: &Subject<'_>,
     checks: &[NodeCheck],
-    entry: &NodeRow<'_>,
+    row: &NodeRow<'_>,
     found: &mut FindingList,
 ) -> Result<(), AllocError>
-    requires { IsEntry subject.now entry.now }
+    requires { IsRow subject.now row.now }
     ensures { OnOk result (Adds subject.now
-        (candidates_of_node subject.now checks.now entry.now.number) found.old
+        (candidates_of_node subject.now checks.now row.now.number) found.old
         found.new) }
 {
     for check in checks {
-        run_check(subject, *check, entry, found)?;
+        run_check(subject, *check, row, found)?;
     }
     Ok(())
 }
@@ -36,16 +36,16 @@ fn run_checks_on(
 fn finds_nothing_of(
     alloc: Global,
     subject: &Subject<'_>,
-    entry: &NodeRow<'_>,
+    row: &NodeRow<'_>,
 ) -> Result<bool, AllocError>
-    requires { IsEntry subject.now entry.now }
+    requires { IsRow subject.now row.now }
     ensures { IfOk result (λ nothing. (nothing ≡ true) ↔
-        Lists subject.now (found_of subject.now entry.now.number) []) }
+        Lists subject.now (found_of subject.now row.now.number) []) }
 {
     let mut found = FindingList::new(alloc);
-    run_checks_on(subject, &BEFORE_PAIRS, entry, &mut found)?;
-    note_files(subject, entry, &mut found)?;
-    run_checks_on(subject, &AFTER_PAIRS, entry, &mut found)?;
+    run_checks_on(subject, &BEFORE_PAIRS, row, &mut found)?;
+    note_files(subject, row, &mut found)?;
+    run_checks_on(subject, &AFTER_PAIRS, row, &mut found)?;
     Ok(found.is_empty())
 }
 

@@ -6,7 +6,7 @@ ghost use Rattle.mk_graph.specs.Serial.{serial_order};
 ghost use Rattle.mk_subject.specs.Subject.{writes_of};
 ghost use Rattle.mk_find.specs.Candidates.{pairs_of_writers, two_writers};
 ghost use Rattle.mk_find.specs.Conditions.{AreTwoWriters};
-ghost use Rattle.mk_subject.specs.NodeRow.{IsEntry};
+ghost use Rattle.mk_subject.specs.NodeRow.{IsRow};
 ghost use Rattle.mk_find.specs.NodeChecks.{behind, pairs_with};
 ghost use Rattle.mk_find.specs.Listed.{Adds};
 ghost use Rattle.mk_subject.specs.Target.{target_of};
@@ -20,17 +20,17 @@ use std::alloc::AllocError;
 /// Adds the finding `TwoWriters` of this recipe and `other`.
 fn note_pair(
     subject: &Subject<'_>,
-    entry: &NodeRow<'_>,
+    row: &NodeRow<'_>,
     other: usize,
     file: &Target<'_>,
     found: &mut FindingList,
 ) -> Result<(), AllocError>
-    requires entry { IsEntry subject.now entry.now }
-    requires written { AreTwoWriters subject.now entry.now.number other file.now.file }
-    ensures { OnOk result (Adds subject.now (two_writers entry.now.number other file.now.file ∷ [])
+    requires row { IsRow subject.now row.now }
+    requires written { AreTwoWriters subject.now row.now.number other file.now.file }
+    ensures { OnOk result (Adds subject.now (two_writers row.now.number other file.now.file ∷ [])
         found.old found.new) }
 {
-    let first = found.name_of_node(entry)?;
+    let first = found.name_of_node(row)?;
     let second = found.name_of(&subject.file_of_node(other))?;
     let file = found.name_of(file)?;
     found.push(Finding::TwoWriters {
@@ -44,20 +44,20 @@ fn note_pair(
 /// Adds the finding `TwoWriters` of this recipe with each of `others`.
 fn note_pairs_with(
     subject: &Subject<'_>,
-    entry: &NodeRow<'_>,
+    row: &NodeRow<'_>,
     others: &[usize],
     file: &Target<'_>,
     found: &mut FindingList,
 ) -> Result<(), AllocError>
-    requires entry { IsEntry subject.now entry.now }
+    requires row { IsRow subject.now row.now }
     requires written { (t : ℕ) → Has others.now t →
-        AreTwoWriters subject.now entry.now.number t file.now.file }
+        AreTwoWriters subject.now row.now.number t file.now.file }
     ensures { OnOk result (Adds subject.now
-        (map (λ t. two_writers entry.now.number t file.now.file) others.now)
+        (map (λ t. two_writers row.now.number t file.now.file) others.now)
         found.old found.new) }
 {
     for other in others {
-        note_pair(subject, entry, *other, file, found)?;
+        note_pair(subject, row, *other, file, found)?;
     }
     Ok(())
 }
@@ -78,39 +78,39 @@ fn behind(number: usize, numbers: &[usize]) -> &[usize]
 /// the file.
 fn note_file(
     subject: &Subject<'_>,
-    entry: &NodeRow<'_>,
+    row: &NodeRow<'_>,
     file: &Target<'_>,
     found: &mut FindingList,
 ) -> Result<(), AllocError>
-    requires entry { IsEntry subject.now entry.now }
+    requires row { IsRow subject.now row.now }
     requires file { file.now ≡ target_of subject.now file.now.file }
-    requires written { Has (writes_of subject.now entry.now.number) file.now.file }
+    requires written { Has (writes_of subject.now row.now.number) file.now.file }
     ensures { OnOk result (Adds subject.now
-        (map (λ t. two_writers entry.now.number t file.now.file)
-        (behind entry.now.number (serial_order subject.now.graph)))
+        (map (λ t. two_writers row.now.number t file.now.file)
+        (behind row.now.number (serial_order subject.now.graph)))
         found.old found.new) }
 {
     serial_reaches_each_once();
     let _graph = subject.graph();
     let writers = file.writers();
-    let others = behind(entry.number, writers);
-    note_pairs_with(subject, entry, others, file, found)
+    let others = behind(row.number, writers);
+    note_pairs_with(subject, row, others, file, found)
 }
 
 /// Adds the finding `TwoWriters` for each file of this recipe and each later recipe in the serial
 /// order that writes it too. The only error is out of memory.
 pub fn note_files(
     subject: &Subject<'_>,
-    entry: &NodeRow<'_>,
+    row: &NodeRow<'_>,
     found: &mut FindingList,
 ) -> Result<(), AllocError>
-    requires { IsEntry subject.now entry.now }
-    ensures { OnOk result (Adds subject.now (pairs_with subject.now entry.now.number)
+    requires { IsRow subject.now row.now }
+    ensures { OnOk result (Adds subject.now (pairs_with subject.now row.now.number)
         found.old found.new) }
 {
-    for place in 0..subject.count_of_written(entry.number) {
-        let file = subject.written(entry.number, place);
-        note_file(subject, entry, &file, found)?;
+    for place in 0..subject.count_of_written(row.number) {
+        let file = subject.written(row.number, place);
+        note_file(subject, row, &file, found)?;
     }
     Ok(())
 }

@@ -7,7 +7,7 @@ ghost use Rattle.mk_graph.specs.Membership.{Has};
 ghost use Rattle.mk_graph.specs.Serial.{serial_order};
 ghost use Rattle.mk_subject.specs.Subject.{reads_of, writes_of};
 ghost use Rattle.mk_find.specs.Candidates.{race, race_candidates};
-ghost use Rattle.mk_subject.specs.NodeRow.{IsEntry};
+ghost use Rattle.mk_subject.specs.NodeRow.{IsRow};
 ghost use Rattle.mk_find.specs.Listed.{Adds};
 ghost use Rattle.mk_find.specs.FileRead.{IsRead};
 
@@ -27,22 +27,22 @@ fn note_race(
 ) -> Result<(), AllocError>
     requires read { IsRead read.now }
     requires graph { earlier.old.graph ≡ read.now.subject.now.graph }
-    requires number { earlier.old.number ≡ read.now.entry.now.number }
+    requires number { earlier.old.number ≡ read.now.row.now.number }
     requires written { Has (writes_of read.now.subject.now other) read.now.file.file }
     ensures same { earlier.new ≡ earlier.old }
     ensures found { OnOk result (Adds read.now.subject.now
-        (race read.now.entry.now.number other read.now.file.file ∷ []) found.old found.new) }
+        (race read.now.row.now.number other read.now.file.file ∷ []) found.old found.new) }
 {
     let subject = read.subject;
-    let entry = read.entry;
-    if other == entry.number {
+    let row = read.row;
+    if other == row.number {
         return Ok(());
     }
     let before = earlier.has(found.allocator(), other)?;
     if before {
         return Ok(());
     }
-    let recipe = found.name_of_node(entry)?;
+    let recipe = found.name_of_node(row)?;
     let writer = found.name_of(&subject.file_of_node(other))?;
     let file = found.name_of(&read.file)?;
     found.push(Finding::Race {
@@ -63,12 +63,12 @@ fn note_races_with(
 ) -> Result<(), AllocError>
     requires read { IsRead read.now }
     requires graph { earlier.old.graph ≡ read.now.subject.now.graph }
-    requires number { earlier.old.number ≡ read.now.entry.now.number }
+    requires number { earlier.old.number ≡ read.now.row.now.number }
     requires written { (o : ℕ) → Has writers.now o →
         Has (writes_of read.now.subject.now o) read.now.file.file }
     ensures same { earlier.new ≡ earlier.old }
     ensures found { OnOk result (Adds read.now.subject.now
-        (map (λ o. race read.now.entry.now.number o read.now.file.file) writers.now)
+        (map (λ o. race read.now.row.now.number o read.now.file.file) writers.now)
         found.old found.new) }
 {
     for writer in writers {
@@ -88,15 +88,15 @@ fn note_file(
     requires graph { earlier.old.graph ≡ read.now.subject.now.graph }
     ensures graph { earlier.new.graph ≡ earlier.old.graph }
     ensures found { OnOk result (Adds read.now.subject.now
-        (map (λ o. race read.now.entry.now.number o read.now.file.file)
+        (map (λ o. race read.now.row.now.number o read.now.file.file)
         (serial_order read.now.subject.now.graph)) found.old found.new) }
 {
     let writers = read.file.writers();
     if writers.is_empty() {
         return Ok(());
     }
-    let entry = read.entry;
-    earlier.turn_to(found.allocator(), entry.number)?;
+    let row = read.row;
+    earlier.turn_to(found.allocator(), row.number)?;
     note_races_with(read, earlier, writers, found)
 }
 
@@ -105,21 +105,21 @@ fn note_file(
 fn note_files(
     subject: &Subject<'_>,
     earlier: &mut HappensBefore<'_>,
-    entry: &NodeRow<'_>,
+    row: &NodeRow<'_>,
     found: &mut FindingList,
 ) -> Result<(), AllocError>
-    requires entry { IsEntry subject.now entry.now }
+    requires row { IsRow subject.now row.now }
     requires graph { earlier.old.graph ≡ subject.now.graph }
     ensures graph { earlier.new.graph ≡ earlier.old.graph }
     ensures found { OnOk result (Adds subject.now
-        (flat_map (λ f. map (λ o. race entry.now.number o f) (serial_order subject.now.graph))
-        (reads_of subject.now entry.now.number)) found.old found.new) }
+        (flat_map (λ f. map (λ o. race row.now.number o f) (serial_order subject.now.graph))
+        (reads_of subject.now row.now.number)) found.old found.new) }
 {
-    for place in 0..subject.count_of_unsettled(entry.number) {
-        let file = subject.unsettled(entry.number, place);
+    for place in 0..subject.count_of_unsettled(row.number) {
+        let file = subject.unsettled(row.number, place);
         let read = FileRead {
             subject: &*subject,
-            entry: &*entry,
+            row: &*row,
             file,
         };
         note_file(&read, earlier, found)?;

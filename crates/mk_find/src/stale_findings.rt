@@ -5,7 +5,7 @@ ghost use Rattle.mk_graph.specs.Membership.{Has};
 ghost use Rattle.mk_graph_search.specs.Ways.{successors};
 ghost use Rattle.mk_find.specs.Candidates.{stale, stale_candidates, static_candidates};
 ghost use Rattle.mk_subject.specs.Carried.{carried};
-ghost use Rattle.mk_subject.specs.NodeRow.{IsEntry};
+ghost use Rattle.mk_subject.specs.NodeRow.{IsRow};
 ghost use Rattle.mk_subject.specs.WayTables.{AreEnds};
 ghost use Rattle.mk_find.specs.FileRead.{IsRead};
 ghost use Rattle.mk_find.specs.Listed.{Adds};
@@ -32,15 +32,15 @@ use std::alloc::{AllocError, Global};
 
 /// Adds the finding `Stale` for a read. The only error is out of memory.
 fn note_stale(
-    entry: &NodeRow<'_>,
+    row: &NodeRow<'_>,
     file: &Target<'_>,
     found: &mut FindingList,
 ) -> Result<(), AllocError>
-    ensures { OnOk result ((x : SubjectValue) → IsEntry x entry.now →
-        IsStale x entry.now.number file.now.file →
-        Adds x (stale entry.now.number file.now.file ∷ []) found.old found.new) }
+    ensures { OnOk result ((x : SubjectValue) → IsRow x row.now →
+        IsStale x row.now.number file.now.file →
+        Adds x (stale row.now.number file.now.file ∷ []) found.old found.new) }
 {
-    let recipe = found.name_of_node(entry)?;
+    let recipe = found.name_of_node(row)?;
     let file = found.name_of(file)?;
     found.push(Finding::Stale { recipe, file })?;
     Ok(())
@@ -59,20 +59,20 @@ pub(crate) fn judge_read(
     requires read { IsRead read.now }
     requires ends { AreEnds read.now.subject.now ends.now.needed.items ends.now.always.items }
     requires rows { (t : ℕ) → successors search.old.rows t ≡ carried read.now.subject.now t }
-    requires start { search.old.start ≡ read.now.entry.now.number }
+    requires start { search.old.start ≡ read.now.row.now.number }
     requires passed { AlwaysNoneBefore read.now.subject.now search.old.start passed.old }
-    requires out { ¬ (Has (writes_of read.now.subject.now read.now.entry.now.number)
+    requires out { ¬ (Has (writes_of read.now.subject.now read.now.row.now.number)
         read.now.file.file) }
     ensures same { search.new ≡ search.old }
     ensures passed { AlwaysNoneBefore read.now.subject.now search.old.start passed.new }
     ensures found { OnOk result (Adds read.now.subject.now
-        (stale read.now.entry.now.number read.now.file.file ∷ []) found.old found.new) }
+        (stale read.now.row.now.number read.now.file.file ∷ []) found.old found.new) }
     ensures path { IfOk result (λ path. MatchOption path
         (found.new ≡ [] → ¬ (ReadNeedsWay read.now.subject.now
-        (record { recipe = read.now.entry.now.number; file = read.now.file.file })))
+        (record { recipe = read.now.row.now.number; file = read.now.file.file })))
         (λ path. (found.new ≡ []) × ReadNeedsWay read.now.subject.now
-        (record { recipe = read.now.entry.now.number; file = read.now.file.file }) ×
-        IsAlongFirstPath read.now.subject.now read.now.file.file read.now.entry.now.number
+        (record { recipe = read.now.row.now.number; file = read.now.file.file }) ×
+        IsAlongFirstPath read.now.subject.now read.now.file.file read.now.row.now.number
         path.nodes.items path.finish)) }
 {
     listed_exactly();
@@ -82,7 +82,7 @@ pub(crate) fn judge_read(
         ReadStatus::HasWay(path) if found.is_empty() => Ok(Some(path)),
         ReadStatus::HasWay(_) => Ok(None),
         ReadStatus::Stale => {
-            note_stale(read.entry, &read.file, found)?;
+            note_stale(read.row, &read.file, found)?;
             Ok(None)
         }
     }
@@ -93,29 +93,29 @@ pub(crate) fn judge_read(
 fn judge_reads(
     tables: &PathTables<'_>,
     search: &mut Search<'_>,
-    entry: &NodeRow<'_>,
+    row: &NodeRow<'_>,
     found: &mut FindingList,
     ways: &mut CertificateBuilder,
 ) -> Result<(), AllocError>
     requires tables { ArePathTables tables.now }
-    requires entry { IsEntry tables.now.subject.now entry.now }
-    requires search { search.old ≡ record { rows = tables.now.rows; start = entry.now.number } }
+    requires row { IsRow tables.now.subject.now row.now }
+    requires search { search.old ≡ record { rows = tables.now.rows; start = row.now.number } }
     requires nothing { Lists tables.now.subject.now (static_candidates tables.now.subject.now) [] }
     ensures found { OnOk result (Adds tables.now.subject.now
-        (map (λ f. stale entry.now.number f) (reads_of tables.now.subject.now entry.now.number))
+        (map (λ f. stale row.now.number f) (reads_of tables.now.subject.now row.now.number))
         found.old found.new) }
     ensures ways { OnOk result (found.new ≡ [] → AddsEntries tables.now.subject.now
-        (reads_by tables.now.subject.now entry.now.number) ways.old ways.new) }
+        (reads_by tables.now.subject.now row.now.number) ways.old ways.new) }
 {
     nothing_found_is_sound();
     let subject = tables.subject;
     let _graph = subject.graph();
     let mut passed = 0;
-    for place in 0..subject.count_of_reads(entry.number) {
-        let file = subject.read(entry, place);
+    for place in 0..subject.count_of_reads(row.number) {
+        let file = subject.read(row, place);
         let read = FileRead {
             subject,
-            entry: &*entry,
+            row: &*row,
             file,
         };
         let path = judge_read(&read, &tables.ends, search, &mut passed, found)?;
@@ -130,25 +130,25 @@ fn judge_reads(
 /// appends the entries for its reads. It makes one search, and none if the recipe reads nothing.
 fn judge_recipe(
     tables: &PathTables<'_>,
-    entry: &NodeRow<'_>,
+    row: &NodeRow<'_>,
     found: &mut FindingList,
     ways: &mut CertificateBuilder,
 ) -> Result<(), AllocError>
     requires tables { ArePathTables tables.now }
-    requires entry { IsEntry tables.now.subject.now entry.now }
+    requires row { IsRow tables.now.subject.now row.now }
     requires nothing { Lists tables.now.subject.now (static_candidates tables.now.subject.now) [] }
     ensures found { OnOk result (Adds tables.now.subject.now
-        (map (λ f. stale entry.now.number f) (reads_of tables.now.subject.now entry.now.number))
+        (map (λ f. stale row.now.number f) (reads_of tables.now.subject.now row.now.number))
         found.old found.new) }
     ensures ways { OnOk result (found.new ≡ [] → AddsEntries tables.now.subject.now
-        (reads_by tables.now.subject.now entry.now.number) ways.old ways.new) }
+        (reads_by tables.now.subject.now row.now.number) ways.old ways.new) }
 {
     let subject = tables.subject;
-    if subject.count_of_reads(entry.number) == 0 {
+    if subject.count_of_reads(row.number) == 0 {
         return Ok(());
     }
-    let mut search = Search::new(found.allocator(), &tables.rows, entry.number)?;
-    judge_reads(tables, &mut search, entry, found, ways)
+    let mut search = Search::new(found.allocator(), &tables.rows, row.number)?;
+    judge_reads(tables, &mut search, row, found, ways)
 }
 
 /// Adds the finding `Stale` for each stale read, if there are no static findings. Returns the

@@ -120,7 +120,7 @@ module _ (law : LastValueCounts) where
   is_writes Two = refl
 
   pub target_put : (format : Format) (p : EntryParts) (target : Result (String Global) FootFault) (key : List ℕ) (value : Data) (ms : Members) → key ≡ codes "target" → Gives string_bytes target (text_of keys.Target value) → IsOfEntry format p (object ms)
-      → IsOfEntry format (record { target = target; commands = p.commands; reads = p.reads; writes = p.writes; shared = p.shared; alone = p.alone }) (object (put key value ms))
+      → IsOfEntry format (record p { target = target }) (object (put key value ms))
   target_put format p target key value ms is given was = rw is (record {
     target = moved string_bytes target _ _ given (text_here keys.Target value ms);
     commands = texts_moved p.commands _ _ was.commands (texts_there keys.Commands (codes "target") value ms refl);
@@ -131,7 +131,7 @@ module _ (law : LastValueCounts) where
   })
 
   pub commands_put : (format : Format) (p : EntryParts) (commands : Result (Vec (String Global) Global) FootFault) (key : List ℕ) (value : Data) (ms : Members) → key ≡ codes "commands" → GivesTexts commands (texts_of keys.Commands value) → IsOfEntry format p (object ms)
-      → IsOfEntry format (record { target = p.target; commands = commands; reads = p.reads; writes = p.writes; shared = p.shared; alone = p.alone }) (object (put key value ms))
+      → IsOfEntry format (record p { commands = commands }) (object (put key value ms))
   commands_put format p commands key value ms is given was = rw is (record {
     target = moved string_bytes p.target _ _ was.target (text_there keys.Target (codes "commands") value ms refl);
     commands = texts_moved commands _ _ given (texts_here keys.Commands value ms);
@@ -142,7 +142,7 @@ module _ (law : LastValueCounts) where
   })
 
   pub reads_put : (format : Format) (p : EntryParts) (reads : Result (Vec (String Global) Global) FootFault) (key : List ℕ) (value : Data) (ms : Members) → key ≡ codes "reads" → GivesTexts reads (texts_of keys.Reads value) → IsOfEntry format p (object ms)
-      → IsOfEntry format (record { target = p.target; commands = p.commands; reads = reads; writes = p.writes; shared = p.shared; alone = p.alone }) (object (put key value ms))
+      → IsOfEntry format (record p { reads = reads }) (object (put key value ms))
   reads_put format p reads key value ms is given was = rw is (record {
     target = moved string_bytes p.target _ _ was.target (text_there keys.Target (codes "reads") value ms refl);
     commands = texts_moved p.commands _ _ was.commands (texts_there keys.Commands (codes "reads") value ms refl);
@@ -153,7 +153,7 @@ module _ (law : LastValueCounts) where
   })
 
   pub writes_put : (format : Format) (p : EntryParts) (writes : Result (Vec (String Global) Global) FootFault) (key : List ℕ) (value : Data) (ms : Members) → key ≡ codes "writes" → GivesTexts writes (texts_of keys.Writes value) → IsOfEntry format p (object ms)
-      → IsOfEntry format (record { target = p.target; commands = p.commands; reads = p.reads; writes = writes; shared = p.shared; alone = p.alone }) (object (put key value ms))
+      → IsOfEntry format (record p { writes = writes }) (object (put key value ms))
   writes_put format p writes key value ms is given was = rw is (record {
     target = moved string_bytes p.target _ _ was.target (text_there keys.Target (codes "writes") value ms refl);
     commands = texts_moved p.commands _ _ was.commands (texts_there keys.Commands (codes "writes") value ms refl);
@@ -164,7 +164,7 @@ module _ (law : LastValueCounts) where
   })
 
   pub shared_put : (p : EntryParts) (shared : Result (Vec (String Global) Global) FootFault) (value : Data) (ms : Members) → GivesTexts shared (texts_of keys.Shared value) → IsOfEntry Two p (object ms)
-      → IsOfEntry Two (record { target = p.target; commands = p.commands; reads = p.reads; writes = p.writes; shared = shared; alone = p.alone }) (object (put (codes "shared") value ms))
+      → IsOfEntry Two (record p { shared = shared }) (object (put (codes "shared") value ms))
   shared_put p shared value ms given was = record {
     target = moved string_bytes p.target _ _ was.target (text_there keys.Target (codes "shared") value ms refl);
     commands = texts_moved p.commands _ _ was.commands (texts_there keys.Commands (codes "shared") value ms refl);
@@ -174,7 +174,7 @@ module _ (law : LastValueCounts) where
     alone = was.alone ∙ sym (known_there (names_of Two) (codes "shared") value ms refl);
   }
 
-  pub first_shared_put : (p : EntryParts) (value : Data) (ms : Members) → IsOfEntry One p (object ms) → IsOfEntry One (record { target = p.target; commands = p.commands; reads = p.reads; writes = p.writes; shared = p.shared; alone = false }) (object (put (codes "shared") value ms))
+  pub first_shared_put : (p : EntryParts) (value : Data) (ms : Members) → IsOfEntry One p (object ms) → IsOfEntry One (record p { alone = false }) (object (put (codes "shared") value ms))
   first_shared_put p value ms was = record {
     target = moved string_bytes p.target _ _ was.target (text_there keys.Target (codes "shared") value ms refl);
     commands = texts_moved p.commands _ _ was.commands (texts_there keys.Commands (codes "shared") value ms refl);
@@ -189,7 +189,7 @@ module _ (law : LastValueCounts) where
   is_none Two key a b c d e = rw (bytes_eq-differ key (codes "target") a, bytes_eq-differ key (codes "commands") b, bytes_eq-differ key (codes "reads") c, bytes_eq-differ key (codes "writes") d, bytes_eq-differ key (codes "shared") e) refl
 
   pub other_put : (format : Format) (p : EntryParts) (key : List ℕ) (value : Data) (ms : Members) → (key ≡ codes "target" → ⊥) → (key ≡ codes "commands" → ⊥) → (key ≡ codes "reads" → ⊥) → (key ≡ codes "writes" → ⊥) → (key ≡ codes "shared" → ⊥) → IsOfEntry format p (object ms)
-      → IsOfEntry format (record { target = p.target; commands = p.commands; reads = p.reads; writes = p.writes; shared = p.shared; alone = false }) (object (put key value ms))
+      → IsOfEntry format (record p { alone = false }) (object (put key value ms))
   other_put format p key value ms a b c d e was = record {
     target = moved string_bytes p.target _ _ was.target (text_there keys.Target key value ms (bytes_eq-differ _ _ (differ-sym a)));
     commands = texts_moved p.commands _ _ was.commands (texts_there keys.Commands key value ms (bytes_eq-differ _ _ (differ-sym b)));

@@ -67,28 +67,36 @@ fn insert_listed<'a>(
     Ok(())
 }
 
+/// What a record says of its reads: its own, the names of its shared lists, and whether no name
+/// stands twice among its own.
+#[derive(Drop)]
+struct RecordReads {
+    own: Vec<String>,
+    shared: Vec<String>,
+    apart: bool,
+}
+
 /// Returns the files that a record reads, each once: its own, then those of its shared lists.
 fn reads_of(
     alloc: Global,
     names: &NameTable,
     lists: &[SharedList],
-    apart: bool,
-    own: Vec<String>,
-    shared: &[String],
+    reads: RecordReads,
 ) -> Result<Vec<String>, AllocError>
     requires names { names.now ≡ map (λ list. list.name) lists.now }
-    requires apart { apart ≡ true →
-        all_once (map string_bytes own.items) ≡ map string_bytes own.items }
-    ensures { IfOk result (λ reads. map string_bytes reads.items ≡
-        all_once (map string_bytes own.items ++
-        flat_map (listed lists.now) (map string_bytes shared.now))) }
+    requires apart { reads.apart ≡ true →
+        all_once (map string_bytes reads.own.items) ≡ map string_bytes reads.own.items }
+    ensures { IfOk result (λ files. map string_bytes files.items ≡
+        all_once (map string_bytes reads.own.items ++
+        flat_map (listed lists.now) (map string_bytes reads.shared.items))) }
 {
+    let RecordReads { own, shared, apart } = reads;
     if shared.is_empty() {
         return kept(alloc, apart, own);
     }
     let mut set = BorrowedNames::with_capacity(alloc, own.len())?;
     set.insert_all(&own)?;
-    insert_listed(&mut set, names, lists, shared)?;
+    insert_listed(&mut set, names, lists, &shared)?;
     copied(alloc, set.as_slice())
 }
 
@@ -115,7 +123,16 @@ fn record_of(
     Ok(Record {
         target,
         commands,
-        reads: reads_of(alloc, names, lists, apart, reads, &shared)?,
+        reads: reads_of(
+            alloc,
+            names,
+            lists,
+            RecordReads {
+                own: reads,
+                shared,
+                apart,
+            },
+        )?,
         writes: kept(alloc, apart, writes)?,
     })
 }

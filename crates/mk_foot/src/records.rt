@@ -36,6 +36,7 @@ use std::alloc::{AllocError, Global};
 /// and whether there is no other key.
 #[derive(Drop)]
 struct EntryParts {
+    alloc: Global,
     target: Result<String, FootFault>,
     commands: Texts,
     reads: Texts,
@@ -61,6 +62,7 @@ fn no_entry_parts(alloc: Global, format: Format) -> EntryParts
 {
     let shared = no_shared(alloc, format);
     EntryParts {
+        alloc,
         target: Err(FootFault::Shape(Key::Target)),
         commands: Err(FootFault::Shape(Key::Commands)),
         reads: Err(FootFault::Shape(Key::Reads)),
@@ -72,7 +74,6 @@ fn no_entry_parts(alloc: Global, format: Format) -> EntryParts
 
 /// Reads the value under `shared`, which is an unknown key in format 1.
 fn read_shared(
-    alloc: Global,
     format: Format,
     parts: &mut EntryParts,
     reader: &mut Reader<'_>,
@@ -91,7 +92,7 @@ fn read_shared(
             Ok(())
         }
         Format::Two => {
-            parts.shared = read_texts(alloc, Key::Shared, reader, depth)?;
+            parts.shared = read_texts(parts.alloc, Key::Shared, reader, depth)?;
             Ok(())
         }
     }
@@ -99,7 +100,6 @@ fn read_shared(
 
 /// Reads the value under a key of a record.
 fn read_entry_part(
-    alloc: Global,
     format: Format,
     key: &str,
     parts: &mut EntryParts,
@@ -114,22 +114,22 @@ fn read_entry_part(
     last_value_counts();
     match key {
         "target" => {
-            parts.target = read_text(alloc, Key::Target, reader, depth)?;
+            parts.target = read_text(parts.alloc, Key::Target, reader, depth)?;
             Ok(())
         }
         "commands" => {
-            parts.commands = read_texts(alloc, Key::Commands, reader, depth)?;
+            parts.commands = read_texts(parts.alloc, Key::Commands, reader, depth)?;
             Ok(())
         }
         "reads" => {
-            parts.reads = read_texts(alloc, Key::Reads, reader, depth)?;
+            parts.reads = read_texts(parts.alloc, Key::Reads, reader, depth)?;
             Ok(())
         }
         "writes" => {
-            parts.writes = read_texts(alloc, Key::Writes, reader, depth)?;
+            parts.writes = read_texts(parts.alloc, Key::Writes, reader, depth)?;
             Ok(())
         }
-        "shared" => read_shared(alloc, format, parts, reader, depth),
+        "shared" => read_shared(format, parts, reader, depth),
         _ => {
             skip_value(reader, depth)?;
             parts.alone = false;
@@ -140,7 +140,6 @@ fn read_entry_part(
 
 /// Reads the members of a record whose brace was read, into the parts of a record without members.
 fn read_members(
-    alloc: Global,
     format: Format,
     parts: &mut EntryParts,
     reader: &mut Reader<'_>,
@@ -153,7 +152,7 @@ fn read_members(
     members_are_read_in_order();
     values_take_tokens();
     'members: while let Some(key) = reader.next_key()? {
-        read_entry_part(alloc, format, key, parts, reader, depth)?;
+        read_entry_part(format, key, parts, reader, depth)?;
     }
     Ok(())
 }
@@ -169,7 +168,7 @@ fn read_entry_parts(
         depth reader.old result reader.new }
 {
     let mut parts = no_entry_parts(alloc, format);
-    read_members(alloc, format, &mut parts, reader, depth)?;
+    read_members(format, &mut parts, reader, depth)?;
     Ok(parts)
 }
 
@@ -200,6 +199,7 @@ fn entry_of(alloc: Global, parts: EntryParts) -> Result<RawRecord, FootFault>
         IsOfEntry format parts whole → Gives (λ entry. entry) result (entry_in format whole) }
 {
     let EntryParts {
+        alloc: _,
         target,
         commands,
         reads,

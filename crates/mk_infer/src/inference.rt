@@ -64,26 +64,36 @@ fn found_there<'m>(table: &'m RuleTable<'_>, exists: &'m Exists<'_>, name: &str)
     table.target(name)
 }
 
+/// What the choice of a rule looks up, and the allocator of what it returns.
+#[derive(Clone, Copy)]
+struct Lookup<'m> {
+    alloc: Global,
+    /// The makefile.
+    table: &'m RuleTable<'m>,
+    /// The files that exist before a make.
+    exists: &'m Exists<'m>,
+    /// The present names, by what stands before their last dot.
+    backs: &'m Backs<'m>,
+}
+
 /// Returns what the inference rule with this source suffix gives, or `None` if the rule has no
 /// commands or its prerequisite isn't present.
 fn chosen_by<'m>(
-    alloc: Global,
-    table: &'m RuleTable<'_>,
-    exists: &'m Exists<'_>,
+    lookup: &Lookup<'m>,
     stem: &str,
     ending: &str,
     suffix: &str,
 ) -> Result<Option<Chosen<'m>>, AllocError>
     ensures { IfOk result (λ chosen. chosen ≡
-        (if fits_by table.now exists.now stem.now ending.now suffix.now
-        then Some (chosen_by table.now stem.now ending.now suffix.now) else None)) }
+        (if fits_by lookup.now.table.now lookup.now.exists.now stem.now ending.now suffix.now
+        then Some (chosen_by lookup.now.table.now stem.now ending.now suffix.now) else None)) }
 {
-    let rule = joined(alloc, suffix, ending)?;
-    let Some(commands) = table.rule_commands(&rule) else {
+    let rule = joined(lookup.alloc, suffix, ending)?;
+    let Some(commands) = lookup.table.rule_commands(&rule) else {
         return Ok(None);
     };
-    let wanted = joined(alloc, stem, suffix)?;
-    let Some(name) = found_there(table, exists, &wanted) else {
+    let wanted = joined(lookup.alloc, stem, suffix)?;
+    let Some(name) = found_there(lookup.table, lookup.exists, &wanted) else {
         return Ok(None);
     };
     Ok(Some(Chosen { name, commands }))
@@ -91,20 +101,18 @@ fn chosen_by<'m>(
 
 /// Returns what the first of these source suffixes gives whose rule fits.
 fn first_fitting<'m>(
-    alloc: Global,
-    table: &'m RuleTable<'_>,
-    exists: &'m Exists<'_>,
+    lookup: &Lookup<'m>,
     stem: &str,
     ending: &str,
     suffixes: &[&str],
 ) -> Result<Option<Chosen<'m>>, AllocError>
     ensures { IfOk result (λ chosen. chosen ≡
-        option_map (chosen_by table.now stem.now ending.now)
-        (find (fits_by table.now exists.now stem.now ending.now)
+        option_map (chosen_by lookup.now.table.now stem.now ending.now)
+        (find (fits_by lookup.now.table.now lookup.now.exists.now stem.now ending.now)
         (map (λ suffix. suffix.now) suffixes.now))) }
 {
     for suffix in suffixes {
-        if let Some(chosen) = chosen_by(alloc, table, exists, stem, ending, suffix)? {
+        if let Some(chosen) = chosen_by(lookup, stem, ending, suffix)? {
             return Ok(Some(chosen));
         }
     }
@@ -130,23 +138,21 @@ impl<'m> Model for Placed<'m> {
 /// Returns what the rule with this suffix gives, if it gives something and the suffix comes before
 /// that of `least`; else returns `least`.
 fn least_with<'m>(
-    alloc: Global,
-    table: &'m RuleTable<'_>,
-    exists: &'m Exists<'_>,
+    lookup: &Lookup<'m>,
     stem: &str,
     ending: &str,
     least: Option<Placed<'m>>,
     suffix: &str,
 ) -> Result<Option<Placed<'m>>, AllocError>
     ensures { IfOk result (λ next. (tried : List (List ℕ)) →
-        IsLeast (fits_by table.now exists.now stem.now ending.now)
-        (chosen_by table.now stem.now ending.now)
-        table.now.suffixes tried least.entry →
-        IsLeast (fits_by table.now exists.now stem.now ending.now)
-        (chosen_by table.now stem.now ending.now)
-        table.now.suffixes (tried ++ suffix.now ∷ []) next) }
+        IsLeast (fits_by lookup.now.table.now lookup.now.exists.now stem.now ending.now)
+        (chosen_by lookup.now.table.now stem.now ending.now)
+        lookup.now.table.now.suffixes tried least.entry →
+        IsLeast (fits_by lookup.now.table.now lookup.now.exists.now stem.now ending.now)
+        (chosen_by lookup.now.table.now stem.now ending.now)
+        lookup.now.table.now.suffixes (tried ++ suffix.now ∷ []) next) }
 {
-    let Some(place) = table.suffix_place(suffix) else {
+    let Some(place) = lookup.table.suffix_place(suffix) else {
         return Ok(least);
     };
     if let Some(found) = &least {
@@ -154,7 +160,7 @@ fn least_with<'m>(
             return Ok(least);
         }
     }
-    match chosen_by(alloc, table, exists, stem, ending, suffix)? {
+    match chosen_by(lookup, stem, ending, suffix)? {
         Some(chosen) => Ok(Some(Placed { place, chosen })),
         None => Ok(least),
     }
@@ -163,21 +169,19 @@ fn least_with<'m>(
 /// Returns what the rules with these source suffixes give: that one whose suffix comes first in the
 /// list of suffixes.
 fn least_fitting<'m>(
-    alloc: Global,
-    table: &'m RuleTable<'_>,
-    exists: &'m Exists<'_>,
+    lookup: &Lookup<'m>,
     stem: &str,
     ending: &str,
     suffixes: &[&'m str],
 ) -> Result<Option<Placed<'m>>, AllocError>
     ensures { IfOk result (λ least.
-        IsLeast (fits_by table.now exists.now stem.now ending.now)
-        (chosen_by table.now stem.now ending.now)
-        table.now.suffixes (map (λ suffix. suffix.now) suffixes.now) least) }
+        IsLeast (fits_by lookup.now.table.now lookup.now.exists.now stem.now ending.now)
+        (chosen_by lookup.now.table.now stem.now ending.now)
+        lookup.now.table.now.suffixes (map (λ suffix. suffix.now) suffixes.now) least) }
 {
     let mut least = None;
     for suffix in suffixes {
-        least = least_with(alloc, table, exists, stem, ending, least, suffix)?;
+        least = least_with(lookup, stem, ending, least, suffix)?;
     }
     Ok(least)
 }
@@ -200,32 +204,29 @@ fn may_infer(
 /// suffixes of the present names with this stem or the source suffixes of the ending, whichever are
 /// fewer.
 fn fitting<'m>(
-    alloc: Global,
-    table: &'m RuleTable<'_>,
-    exists: &'m Exists<'_>,
-    backs: &Backs<'m>,
+    lookup: &Lookup<'m>,
     stem: &str,
     ending: &str,
     sources: &[&'m str],
 ) -> Result<Option<Chosen<'m>>, AllocError>
-    requires there { HasThere table.now exists.now backs.now }
-    requires sources { find (fits_by table.now exists.now stem.now ending.now)
-        (map (λ source. source.now) sources.now) ≡
-        find (fits_by table.now exists.now stem.now ending.now) table.now.suffixes }
-    ensures { IfOk result (λ chosen. chosen ≡
-        option_map (chosen_by table.now stem.now ending.now)
-        (find (fits_by table.now exists.now stem.now ending.now) table.now.suffixes)) }
+    requires there { HasThere lookup.now.table.now lookup.now.exists.now lookup.now.backs.now }
+    requires sources { find (fits_by lookup.now.table.now lookup.now.exists.now stem.now ending.now)
+        (map (λ source. source.now) sources.now) ≡ find (fits_by lookup.now.table.now
+        lookup.now.exists.now stem.now ending.now) lookup.now.table.now.suffixes }
+    ensures { IfOk result (λ chosen. chosen ≡ option_map (chosen_by lookup.now.table.now stem.now
+        ending.now) (find (fits_by lookup.now.table.now lookup.now.exists.now stem.now ending.now)
+        lookup.now.table.now.suffixes)) }
 {
     if stem.is_empty() {
-        return first_fitting(alloc, table, exists, stem, ending, sources);
+        return first_fitting(lookup, stem, ending, sources);
     }
-    let Some(found) = backs_of(backs, stem) else {
+    let Some(found) = backs_of(lookup.backs, stem) else {
         return Ok(None);
     };
     if sources.len() <= found.len() {
-        return first_fitting(alloc, table, exists, stem, ending, sources);
+        return first_fitting(lookup, stem, ending, sources);
     }
-    match least_fitting(alloc, table, exists, stem, ending, found)? {
+    match least_fitting(lookup, stem, ending, found)? {
         Some(placed) => Ok(Some(placed.chosen)),
         None => Ok(None),
     }
@@ -233,27 +234,25 @@ fn fitting<'m>(
 
 /// Returns what the inference rule gives a name, or `None` if it gets none.
 fn inferred<'m>(
-    alloc: Global,
-    table: &'m RuleTable<'_>,
-    exists: &'m Exists<'_>,
-    backs: &Backs<'m>,
+    lookup: &Lookup<'m>,
     own: Option<&[Command]>,
     name: &str,
 ) -> Result<Option<Chosen<'m>>, AllocError>
-    requires there { HasThere table.now exists.now backs.now }
-    requires own { option_map (λ commands. commands.now) own ≡ own_commands table.now name.now }
-    ensures { IfOk result (λ chosen. chosen ≡
-        option_map (chosen_by table.now (stem table.now name.now) (ending table.now name.now))
-        (chosen_suffix table.now exists.now name.now)) }
+    requires there { HasThere lookup.now.table.now lookup.now.exists.now lookup.now.backs.now }
+    requires own { option_map (λ commands. commands.now) own ≡ own_commands lookup.now.table.now
+        name.now }
+    ensures { IfOk result (λ chosen. chosen ≡ option_map (chosen_by lookup.now.table.now (stem
+        lookup.now.table.now name.now) (ending lookup.now.table.now name.now)) (chosen_suffix
+        lookup.now.table.now lookup.now.exists.now name.now)) }
 {
-    if !may_infer(table, exists, own, name) {
+    if !may_infer(lookup.table, lookup.exists, own, name) {
         return Ok(None);
     }
-    let (stem, ending) = parted(table, name);
-    let Some(sources) = table.sources_for(ending) else {
+    let (stem, ending) = parted(lookup.table, name);
+    let Some(sources) = lookup.table.sources_for(ending) else {
         return Ok(None);
     };
-    fitting(alloc, table, exists, backs, stem, ending, sources)
+    fitting(lookup, stem, ending, sources)
 }
 
 /// What makes a name. A contract sees lists.
@@ -282,19 +281,14 @@ impl<'m> Model for ResolvedRule<'m> {
 }
 
 /// Returns the chosen inference rule of a name, or its own commands.
-fn making<'m>(
-    alloc: Global,
-    table: &'m RuleTable<'_>,
-    exists: &'m Exists<'_>,
-    backs: &Backs<'m>,
-    name: &str,
-) -> Result<ResolvedRule<'m>, AllocError>
-    requires { HasThere table.now exists.now backs.now }
-    ensures { IfOk result (λ making. making ≡ resolved_rule table.now exists.now name.now) }
+fn making<'m>(lookup: &Lookup<'m>, name: &str) -> Result<ResolvedRule<'m>, AllocError>
+    requires { HasThere lookup.now.table.now lookup.now.exists.now lookup.now.backs.now }
+    ensures { IfOk result (λ making. making ≡ resolved_rule lookup.now.table.now
+        lookup.now.exists.now name.now) }
 {
-    let rules = table.rules_of(name);
+    let rules = lookup.table.rules_of(name);
     let own = rules.commands();
-    match inferred(alloc, table, exists, backs, own, name)? {
+    match inferred(lookup, own, name)? {
         Some(chosen) => Ok(ResolvedRule {
             choice: Some(chosen.name),
             commands: Some(chosen.commands),
@@ -318,8 +312,13 @@ pub fn resolve_rule<'m>(
     ensures { IfOk result (λ maker. maker ≡
         resolved_rule choices.now.makefile choices.now.exists name.now) }
 {
-    let (table, exists) = (choices.table(), choices.exists());
-    making(alloc, table, exists, choices.backs(), name)
+    let lookup = Lookup {
+        alloc,
+        table: choices.table(),
+        exists: choices.exists(),
+        backs: choices.backs(),
+    };
+    making(&lookup, name)
 }
 
 /// Returns the inferred prerequisite of a name, or `None` if it has none.

@@ -32,6 +32,17 @@ pub struct Scope<'a> {
     pub locals: &'a Locals<'a>,
 }
 
+/// Where an expansion stands.
+#[derive(Clone, Copy)]
+pub struct Level<'a> {
+    /// What names mean.
+    pub scope: &'a Scope<'a>,
+    /// How many levels there are below.
+    pub deep: usize,
+    /// The macros whose values are being expanded.
+    pub going: &'a Going<'a>,
+}
+
 /// What an expansion has counted.
 #[derive(Clone, Copy, Debug)]
 pub struct Used {
@@ -41,19 +52,17 @@ pub struct Used {
     pub varying: bool,
 }
 
-/// Appends the expansion of a text that has `deep` levels below it. `going` are the macros whose
-/// values are being expanded; `references` is the number of references evaluated so far.
+/// Appends the expansion of a text at this level. `references` is the number of references
+/// evaluated so far.
 #[cycle(append)]
 pub fn append_text(
-    scope: &Scope<'_>,
-    deep: usize,
-    going: &Going<'_>,
+    level: &Level<'_>,
     references: usize,
     text: &[u8],
     into: &mut Vec<u8>,
 ) -> Result<Used, MacroFault>
-    ensures { Appends into.old.items into.new.items result (expanded deep (scope_view scope.now)
-        (names_in going.now) references text.now) }
+    ensures { Appends into.old.items into.new.items result (expanded level.now.deep (scope_view
+        level.now.scope.now) (names_in level.now.going.now) references text.now) }
 {
     let start = into.len();
     let mut used = Used {
@@ -67,9 +76,9 @@ pub fn append_text(
         let Some(behind) = behind else {
             return Ok(used);
         };
-        let (form, left) = dollar_form(scope.alloc, behind)?;
+        let (form, left) = dollar_form(level.scope.alloc, behind)?;
         let room = MAX_LENGTH - (into.len() - start);
-        let given = append_form(scope, deep, going, used.references, room, form, into)?;
+        let given = append_form(level, used.references, room, form, into)?;
         used.references = given.references;
         used.varying |= given.varying;
         rest = left;
@@ -79,17 +88,15 @@ pub fn append_text(
 /// Appends the value of a form, or fails with `ValueTooLong` (15) where it is longer than `room`.
 #[cycle(append)]
 fn append_form(
-    scope: &Scope<'_>,
-    deep: usize,
-    going: &Going<'_>,
+    level: &Level<'_>,
     references: usize,
     room: usize,
     form: Form<'_>,
     into: &mut Vec<u8>,
 ) -> Result<Used, MacroFault>
-    ensures { Appends into.old.items into.new.items result (form_within (scope_view scope.now)
-        (below deep (scope_view scope.now))
-        (names_in going.now) references room (form_view form.entry)) }
+    ensures { Appends into.old.items into.new.items result (form_within (scope_view
+        level.now.scope.now) (below level.now.deep (scope_view level.now.scope.now)) (names_in
+        level.now.going.now) references room (form_view form.entry)) }
 {
     match form {
         Form::Dollars => {
@@ -99,9 +106,7 @@ fn append_form(
                 varying: false,
             })
         }
-        Form::Reference(inside) => {
-            append_reference(scope, deep, going, references, room, inside, into)
-        }
+        Form::Reference(inside) => { append_reference(level, references, room, inside, into) }
         Form::Endless => Err(MacroFault::Unclosed),
         Form::Lone => Err(MacroFault::LoneDollar),
     }
@@ -112,47 +117,38 @@ fn append_form(
 #[cycle(append)]
 #[tactic(auto, unfolding(crate::specs::Expansion::reference))]
 fn append_reference(
-    scope: &Scope<'_>,
-    deep: usize,
-    going: &Going<'_>,
+    level: &Level<'_>,
     references: usize,
     room: usize,
     inside: &[u8],
     into: &mut Vec<u8>,
 ) -> Result<Used, MacroFault>
-    ensures { Appends into.old.items into.new.items result (reference_within (scope_view scope.now)
-        (below deep (scope_view scope.now)) (names_in going.now) references room inside.now) }
+    ensures { Appends into.old.items into.new.items result (reference_within (scope_view
+        level.now.scope.now) (below level.now.deep (scope_view level.now.scope.now)) (names_in
+        level.now.going.now) references room inside.now) }
 {
-    let parts = parse_reference(scope.alloc, inside)?;
-    let name = expanded_piece(scope, deep, going, references, parts.name)?;
+    let parts = parse_reference(level.scope.alloc, inside)?;
+    let name = expanded_piece(level, references, parts.name)?;
     let Some(ends) = parts.ends else {
-        return append_named(scope, deep, going, room, &name, into);
+        return append_named(level, room, &name, into);
     };
-    append_replaced(scope, deep, going, room, &name, ends, into)
+    append_replaced(level, room, &name, ends, into)
 }
 
 /// Appends the value of a reference without a substitution, whose name has been expanded.
 #[cycle(append)]
 fn append_named(
-    scope: &Scope<'_>,
-    deep: usize,
-    going: &Going<'_>,
+    level: &Level<'_>,
     room: usize,
     name: &ExpandedPart<'_>,
     into: &mut Vec<u8>,
 ) -> Result<Used, MacroFault>
-    ensures { Appends into.old.items into.new.items result (behind_name (scope_view scope.now)
-        (below deep (scope_view scope.now)) (names_in going.now) room (piece_view name.now) None) }
+    ensures { Appends into.old.items into.new.items result (behind_name (scope_view
+        level.now.scope.now) (below level.now.deep (scope_view level.now.scope.now)) (names_in
+        level.now.going.now) room (piece_view name.now) None) }
 {
     let start = into.len();
-    let value = append_value(
-        scope,
-        deep,
-        going,
-        name.used.references,
-        name.text.as_slice(),
-        into,
-    )?;
+    let value = append_value(level, name.used.references, name.text.as_slice(), into)?;
     if into.len() - start > room {
         return Err(MacroFault::ValueTooLong);
     }
@@ -165,29 +161,20 @@ fn append_named(
 /// Appends the value of a reference with a substitution, whose name has been expanded.
 #[cycle(append)]
 fn append_replaced(
-    scope: &Scope<'_>,
-    deep: usize,
-    going: &Going<'_>,
+    level: &Level<'_>,
     room: usize,
     name: &ExpandedPart<'_>,
     ends: Substitution<'_>,
     into: &mut Vec<u8>,
 ) -> Result<Used, MacroFault>
-    ensures { Appends into.old.items into.new.items result (behind_name (scope_view scope.now)
-        (below deep (scope_view scope.now)) (names_in going.now) room (piece_view name.now)
-        (Some (substitution_view ends.entry))) }
+    ensures { Appends into.old.items into.new.items result (behind_name (scope_view
+        level.now.scope.now) (below level.now.deep (scope_view level.now.scope.now)) (names_in
+        level.now.going.now) room (piece_view name.now) (Some (substitution_view ends.entry))) }
 {
-    let old = expanded_piece(scope, deep, going, name.used.references, ends.old)?;
-    let new = expanded_piece(scope, deep, going, old.used.references, ends.new)?;
-    let mut value = Vec::new(scope.alloc);
-    let used = append_value(
-        scope,
-        deep,
-        going,
-        new.used.references,
-        name.text.as_slice(),
-        &mut value,
-    )?;
+    let old = expanded_piece(level, name.used.references, ends.old)?;
+    let new = expanded_piece(level, old.used.references, ends.new)?;
+    let mut value = Vec::new(level.scope.alloc);
+    let used = append_value(level, new.used.references, name.text.as_slice(), &mut value)?;
     push_substituted(into, room, old.text.as_slice(), new.text.as_slice(), &value)?;
     Ok(Used {
         references: used.references,
@@ -198,28 +185,26 @@ fn append_replaced(
 /// Appends the value of a name: of an internal macro or of a macro in the table.
 #[cycle(append)]
 fn append_value(
-    scope: &Scope<'_>,
-    deep: usize,
-    going: &Going<'_>,
+    level: &Level<'_>,
     references: usize,
     name: &[u8],
     into: &mut Vec<u8>,
 ) -> Result<Used, MacroFault>
-    ensures { Appends into.old.items into.new.items result (value_of (scope_view scope.now)
-        (below deep (scope_view scope.now))
-        (names_in going.now) references name.now (internal_of name.now)) }
+    ensures { Appends into.old.items into.new.items result (value_of (scope_view
+        level.now.scope.now) (below level.now.deep (scope_view level.now.scope.now)) (names_in
+        level.now.going.now) references name.now (internal_of name.now)) }
 {
     if let Some((byte, part)) = internal_of(name) {
-        return append_internal(scope, references, byte, part, into);
+        return append_internal(level.scope, references, byte, part, into);
     }
     if !is_macro_name(name) {
         return Err(MacroFault::BadMacroName);
     }
     let references = counted(references)?;
-    if going.has(name) {
-        return Err(MacroFault::Recursive(MacroName::new(scope.alloc, name)?));
+    if level.going.has(name) {
+        return Err(MacroFault::Recursive(MacroName::new(level.scope.alloc, name)?));
     }
-    append_macro(scope, deep, going, references, name, into)
+    append_macro(level, references, name, into)
 }
 
 /// Appends the value of an internal macro.
@@ -249,18 +234,16 @@ fn append_internal(
 /// empty.
 #[cycle(append)]
 fn append_macro(
-    scope: &Scope<'_>,
-    deep: usize,
-    going: &Going<'_>,
+    level: &Level<'_>,
     references: usize,
     name: &[u8],
     into: &mut Vec<u8>,
 ) -> Result<Used, MacroFault>
-    ensures { Appends into.old.items into.new.items
-        result (macro_value (below deep (scope_view scope.now)) (names_in going.now) references
-        name.now (macro_named (scope_view scope.now).table name.now)) }
+    ensures { Appends into.old.items into.new.items result (macro_value (below level.now.deep
+        (scope_view level.now.scope.now)) (names_in level.now.going.now) references name.now
+        (macro_named (scope_view level.now.scope.now).table name.now)) }
 {
-    let Some(found) = scope.table.get(name) else {
+    let Some(found) = level.scope.table.get(name) else {
         return Ok(Used {
             references,
             varying: false,
@@ -273,29 +256,32 @@ fn append_macro(
             varying: false,
         });
     }
-    let under = Going::Under(&*name, &*going);
-    append_deeper(scope, deep, &under, references, &found.text, into)
+    let under = Going::Under(&*name, &*level.going);
+    let inside = Level {
+        scope: &*level.scope,
+        deep: level.deep,
+        going: &under,
+    };
+    append_deeper(&inside, references, &found.text, into)
 }
 
 /// The expansion of a text one level deeper. Where the text holds no `$`, the result borrows from
 /// it.
 #[cycle(append)]
 fn expanded_piece<'a>(
-    scope: &Scope<'_>,
-    deep: usize,
-    going: &Going<'_>,
+    level: &Level<'_>,
     references: usize,
     text: &'a [u8],
 ) -> Result<ExpandedPart<'a>, MacroFault>
-    ensures { Gives piece_view result (below deep (scope_view scope.now)
-        (names_in going.now) references text.now) }
+    ensures { Gives piece_view result (below level.now.deep (scope_view level.now.scope.now)
+        (names_in level.now.going.now) references text.now) }
 {
     let (_run, behind) = cut_at_dollar(text);
-    if deep > 0 && behind.is_none() {
+    if level.deep > 0 && behind.is_none() {
         return lent(references, text);
     }
-    let mut bytes = Vec::new(scope.alloc);
-    let used = append_deeper(scope, deep, going, references, text, &mut bytes)?;
+    let mut bytes = Vec::new(level.scope.alloc);
+    let used = append_deeper(level, references, text, &mut bytes)?;
     Ok(ExpandedPart {
         text: CowSlice::Owned(bytes),
         used,
@@ -306,18 +292,21 @@ fn expanded_piece<'a>(
 /// there is no deeper level.
 #[cycle(append)]
 fn append_deeper(
-    scope: &Scope<'_>,
-    deep: usize,
-    going: &Going<'_>,
+    level: &Level<'_>,
     references: usize,
     text: &[u8],
     into: &mut Vec<u8>,
 ) -> Result<Used, MacroFault>
-    ensures { Appends into.old.items into.new.items result (below deep (scope_view scope.now)
-        (names_in going.now) references text.now) }
+    ensures { Appends into.old.items into.new.items result (below level.now.deep (scope_view
+        level.now.scope.now) (names_in level.now.going.now) references text.now) }
 {
-    if deep == 0 {
+    if level.deep == 0 {
         return Err(MacroFault::TooManyReferences);
     }
-    append_text(scope, deep - 1, going, references, text, into)
+    let below = Level {
+        scope: &*level.scope,
+        deep: level.deep - 1,
+        going: &*level.going,
+    };
+    append_text(&below, references, text, into)
 }

@@ -11,7 +11,7 @@ ghost use Rattle.mk_macros.specs.Locals.{Recipe, recipe_of};
 ghost use Rattle.mk_macros.specs.Steps.{Gives};
 ghost use Rattle.mk_macros.specs.Table.{Macro};
 
-use crate::appending::{Scope, append_text};
+use crate::appending::{Level, Scope, append_text};
 use crate::fault::MacroFault;
 use crate::forms::cut_at_dollar;
 use crate::going::Going;
@@ -57,8 +57,14 @@ impl MacroTable {
             table: self,
             locals,
         };
+        let going = Going::Nothing;
+        let level = Level {
+            scope: &scope,
+            deep: LEVELS,
+            going: &going,
+        };
         let mut bytes = Vec::new(alloc);
-        let used = append_text(&scope, LEVELS, &Going::Nothing, 0, text, &mut bytes)?;
+        let used = append_text(&level, 0, text, &mut bytes)?;
         Ok(Expansion {
             text: CowSlice::Owned(bytes),
             varying: used.varying,

@@ -11,7 +11,7 @@ mod suffix_list;
 mod word;
 
 pub use fault::{KindFault, Place, ReadFault};
-pub use makefile::{Command, Makefile, Rule};
+pub use makefile::{Command, Makefile, Rule, SpecialTargets};
 pub use name_set::NameSet;
 pub use special::Special;
 pub use suffix_list::SuffixList;

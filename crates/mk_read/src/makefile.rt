@@ -92,13 +92,22 @@ impl Model for Makefile {
         } };
 }
 
+/// What the special targets of a makefile say.
+#[derive(Drop)]
+pub struct SpecialTargets {
+    /// The known suffixes, in order.
+    pub suffixes: SuffixList,
+    /// The prerequisites of `.PHONY`, in order, repetitions kept.
+    pub phony: Vec<String>,
+    /// Whether `.NOTPARALLEL` is a target.
+    pub not_parallel: bool,
+}
+
 impl Makefile {
     /// The makefile with these contents.
     pub fn new(
         rules: Vec<Rule>,
-        suffixes: SuffixList,
-        phony: Vec<String>,
-        not_parallel: bool,
+        special: SpecialTargets,
         macros: MacroTable,
         texts: Vec<String>,
         passed_over: Vec<String>,
@@ -106,14 +115,19 @@ impl Makefile {
         ensures { result ≡
             record {
               rules = rules.items;
-              suffixes = suffixes;
-              phony = map string_bytes phony.items;
-              not_parallel = not_parallel;
+              suffixes = special.suffixes;
+              phony = map string_bytes special.phony.items;
+              not_parallel = special.not_parallel;
               macros = macros;
               texts = map string_bytes texts.items;
               passed_over = map string_bytes passed_over.items;
             } }
     {
+        let SpecialTargets {
+            suffixes,
+            phony,
+            not_parallel,
+        } = special;
         Makefile {
             rules,
             suffixes,

@@ -66,7 +66,7 @@ module _ (told : Told) (read : Reader → Read) (place : Place) (optional : Bool
       counted : (b : Bool) → not_found place b state name ≡ Ok new → reads new ≡ suc (reads state)
       counted true h = ap (reads_or 0) (sym h) ∙ reads_missing state.texts state.missing name
       counted false h = absurd cc
-  is_missing room e (Err (ReadFailed spot file)) gives own = absurd own
+  is_missing room e (Err (ReadFailed location file)) gives own = absurd own
   is_missing room e (Err fault) (inl memory) own = inl memory
   is_missing room e (Err fault) (inr h) own = inr (at_none room None e ∙ h)
 
@@ -79,7 +79,7 @@ module _ (told : Told) (read : Reader → Read) (place : Place) (optional : Bool
       from_later : (failing : Option ℕ) → Later (reads new) failing → Later (reads (text_more state name)) failing
       from_later None later = tt
       from_later (Some k) later = omega (arith, went.0, later)
-  is_found room text e (Err (ReadFailed spot file)) went =
+  is_found room text e (Err (ReadFailed location file)) went =
       let more : reads (text_more state name) ≡ suc (reads state) = reads_more state.texts state.missing name in
       (went.0, omega (arith, more, went.1), at_later room (Some text) e (Some went.0) (reads (text_more state name)) more went.1 ∙ went.2)
   is_found room text e (Err fault) (inl memory) = inl memory

@@ -8,7 +8,7 @@ use Rattle.mk_read.specs.declared.fault.ReadFault.TheVariants as fault
 use Rattle.mk_read.specs.Steps.{◌>>=◌, at_place}
 use Rattle.mk_read.specs.declared.fault.Place.{Place}
 use Rattle.mk_read_parse.specs.declared.including.Source as source
-use Rattle.mk_read_parse.specs.declared.line_location.LineLocation as spot
+use Rattle.mk_read_parse.specs.declared.line_location.LineLocation as location
 use Rattle.mk_read_parse.specs.declared.state.Owner as code
 use Rattle.mk_read_parse.specs.declared.state.Owner.TheVariants as owners
 use Rattle.mk_read.specs.Names.{has_name, is_empty, names_in}
@@ -21,7 +21,7 @@ use Rattle.mk_read.specs.Kinds.{AssignmentLine}
 use Rattle.mk_read.specs.State.{State, parted, RuleRead, Owner, Nobody, Last, SpecialTarget, PassedOver}
 
 -- The place that a `LineLocation` of the code stands for.
-abbrev pub place_at : spot.LineLocation → Place
+abbrev pub place_at : location.LineLocation → Place
 place_at s = record { file = s.file.now; line = s.line }
 
 -- The owner that an `Owner` of the code stands for.

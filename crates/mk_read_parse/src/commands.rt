@@ -118,11 +118,11 @@ impl RuleLines {
     #[tactic(auto, unfolding(mk_read::specs::Rules::command_line))]
     pub(crate) fn with_command(
         self,
-        spot: &LineLocation<'_>,
+        location: &LineLocation<'_>,
         text: &[u8],
     ) -> Result<RuleLines, ReadFault>
         ensures exact { Gives (λ lines.
-            lines) result (command_line (place_at spot.now) text.now self.earlier self.owner) }
+            lines) result (command_line (place_at location.now) text.now self.earlier self.owner) }
         ensures own { IfErr result IsOfText }
     {
         let RuleLines {
@@ -133,7 +133,7 @@ impl RuleLines {
         match owner {
             Owner::Nobody => {
                 if !is_comment(text) {
-                    return Err(ReadFault::StrayCommand(spot.place()?));
+                    return Err(ReadFault::StrayCommand(location.place()?));
                 }
                 Ok(RuleLines {
                     earlier,
@@ -141,13 +141,13 @@ impl RuleLines {
                     commanded,
                 })
             }
-            Owner::SpecialTarget => Err(ReadFault::SpecialShape(spot.place()?)),
+            Owner::SpecialTarget => Err(ReadFault::SpecialShape(location.place()?)),
             Owner::PassedOver => Ok(RuleLines {
                 earlier,
                 owner: Owner::PassedOver,
                 commanded,
             }),
-            Owner::Last(rule) => behind_rule(spot, earlier, rule, commanded, text),
+            Owner::Last(rule) => behind_rule(location, earlier, rule, commanded, text),
         }
     }
 
@@ -171,19 +171,19 @@ impl RuleLines {
 }
 
 /// The rule line with the command of one more command line.
-fn with_text(spot: &LineLocation<'_>, rule: Rule, text: &[u8]) -> Result<Rule, AllocError>
+fn with_text(location: &LineLocation<'_>, rule: Rule, text: &[u8]) -> Result<Rule, AllocError>
     ensures { IfOk result (λ more. more ≡
-        commanded rule (record { text = trimmed text.now; place = place_at spot.now })) }
+        commanded rule (record { text = trimmed text.now; place = place_at location.now })) }
 {
-    let text = Vec::from_slice(spot.alloc, trimmed(text))?;
-    let place = spot.place()?;
-    with_command(spot.alloc, rule, Command { text, place })
+    let text = Vec::from_slice(location.alloc, trimmed(text))?;
+    let place = location.place()?;
+    with_command(location.alloc, rule, Command { text, place })
 }
 
 /// The rule lines after a command line that belongs to the last one.
 #[tactic(auto, unfolding(mk_read::specs::Rules::command_line))]
 fn behind_rule(
-    spot: &LineLocation<'_>,
+    location: &LineLocation<'_>,
     earlier: Vec<Rule>,
     rule: Rule,
     known: NameSet,
@@ -194,11 +194,11 @@ fn behind_rule(
       owner = Last rule;
     })) }
     ensures exact { Gives (λ lines.
-        lines) result (command_line (place_at spot.now) text.now earlier.items (Last rule)) }
+        lines) result (command_line (place_at location.now) text.now earlier.items (Last rule)) }
     ensures own { IfErr result IsOfText }
 {
     let goes_on = rule.commands.is_some();
-    let rule = with_text(spot, rule, text)?;
+    let rule = with_text(location, rule, text)?;
     if goes_on {
         return Ok(RuleLines {
             earlier,
@@ -206,5 +206,5 @@ fn behind_rule(
             commanded: known,
         });
     }
-    with_commanded(spot.alloc, earlier, rule, known)
+    with_commanded(location.alloc, earlier, rule, known)
 }

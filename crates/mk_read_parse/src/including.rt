@@ -40,6 +40,17 @@ pub(crate) struct Source<'a> {
     pub(crate) levels: usize,
 }
 
+/// An include line whose files are read.
+#[derive(Clone, Copy)]
+struct Include<'a> {
+    /// Where the line stands.
+    location: &'a LineLocation<'a>,
+    /// How many levels of included texts are allowed below its files.
+    levels: usize,
+    /// Whether its files may be missing.
+    optional: bool,
+}
+
 /// The logical lines of a text, or the fault of its first faulty line, in this file.
 fn lines_of<'a>(source: &Source<'_>, text: &'a [u8]) -> Result<Vec<Line<'a>>, ReadFault>
     ensures exact { Gives (λ lines.
@@ -54,25 +65,29 @@ fn lines_of<'a>(source: &Source<'_>, text: &'a [u8]) -> Result<Vec<Line<'a>>, Re
 }
 
 /// The kind of a plain line without its comment, or its fault at this place.
-fn kind_at<'a>(spot: &LineLocation<'_>, text: &'a [u8]) -> Result<Kind<'a>, ReadFault>
-    ensures exact { Gives kind_view result (of_kind (place_at spot.now) (kind_of text.now)) }
+fn kind_at<'a>(location: &LineLocation<'_>, text: &'a [u8]) -> Result<Kind<'a>, ReadFault>
+    ensures exact { Gives kind_view result (of_kind (place_at location.now) (kind_of text.now)) }
     ensures own { IfErr result IsOfText }
 {
-    match kind_of(spot.alloc, text) {
+    match kind_of(location.alloc, text) {
         Ok(kind) => Ok(kind),
         Err(KindFault::Memory) => Err(ReadFault::Memory),
-        Err(fault) => Err(ReadFault::Kind(spot.place()?, fault)),
+        Err(fault) => Err(ReadFault::Kind(location.place()?, fault)),
     }
 }
 
 /// Reads a command line.
-fn read_command(spot: &LineLocation<'_>, state: &mut State, text: &[u8]) -> Result<(), ReadFault>
+fn read_command(
+    location: &LineLocation<'_>,
+    state: &mut State,
+    text: &[u8],
+) -> Result<(), ReadFault>
     ensures exact { Gives (λ done.
-        state.new) result (behind_commands (place_at spot.now) text.now state.old) }
+        state.new) result (behind_commands (place_at location.now) text.now state.old) }
     ensures own { IfErr result IsOfText }
 {
-    let lines = mem::replace(&mut state.lines, RuleLines::new(spot.alloc));
-    state.lines = lines.with_command(spot, text)?;
+    let lines = mem::replace(&mut state.lines, RuleLines::new(location.alloc));
+    state.lines = lines.with_command(location, text)?;
     Ok(())
 }
 
@@ -112,17 +127,17 @@ fn read_line<F: Files>(
         state.new) result)) }
     ensures noted { NotesFailure (F.failed files.old) (F.failed files.new) result }
 {
-    let spot = LineLocation {
+    let location = LineLocation {
         alloc: source.alloc,
         file: source.file,
         line: line.first,
     };
     if line.command {
-        return read_command(&spot, state, &line.text);
+        return read_command(&location, state, &line.text);
     }
     let text = uncomment(source.alloc, &line.text)?;
-    let kind = kind_at(&spot, &text)?;
-    read_kind(files, source, &spot, kind, state)
+    let kind = kind_at(&location, &text)?;
+    read_kind(files, source, &location, kind, state)
 }
 
 /// Reads a plain line, whose kind is known.
@@ -130,7 +145,7 @@ fn read_line<F: Files>(
 fn read_kind<F: Files>(
     files: &mut F,
     source: &Source<'_>,
-    spot: &LineLocation<'_>,
+    location: &LineLocation<'_>,
     kind: Kind<'_>,
     state: &mut State,
 ) -> Result<(), ReadFault>
@@ -138,15 +153,15 @@ fn read_kind<F: Files>(
     ensures follows { IfFits (F.fits files.new)
         (λ told.
         Follows told (λ reader.
-        plain_line reader (below source.now.levels reader) source.now.default (place_at spot.now)
+        plain_line reader (below source.now.levels reader) source.now.default (place_at location.now)
         state.old (kind_view kind.entry)) state.old (seen (λ done. state.new) result)) }
     ensures noted { NotesFailure (F.failed files.old) (F.failed files.new) result }
 {
     match kind {
         Kind::Comment => Ok(()),
-        Kind::Include(line) => read_include(files, source, spot, line, state),
-        Kind::Assignment(line) => state.assign(spot, &line),
-        Kind::Rule(line) => state.add_rule(spot, source.default, &line),
+        Kind::Include(line) => read_include(files, source, location, line, state),
+        Kind::Assignment(line) => state.assign(location, &line),
+        Kind::Rule(line) => state.add_rule(location, source.default, &line),
     }
 }
 
@@ -154,22 +169,22 @@ fn read_kind<F: Files>(
 /// left; then with a fault of the names; then with `IncludeEmpty` (34) where there are none.
 fn include_names(
     levels: usize,
-    spot: &LineLocation<'_>,
+    location: &LineLocation<'_>,
     macros: &MacroTable,
     text: &[u8],
 ) -> Result<Vec<String>, ReadFault>
     ensures exact { Gives (λ names.
-        map string_bytes names.items) result (include_names levels (place_at spot.now) macros.now
+        map string_bytes names.items) result (include_names levels (place_at location.now) macros.now
         text.now) }
     ensures levels { IfOk result (λ _. 0 < levels) }
     ensures own { IfErr result IsOfText }
 {
     if levels == 0 {
-        return Err(ReadFault::IncludeDepth(spot.place()?));
+        return Err(ReadFault::IncludeDepth(location.place()?));
     }
-    let names = names_in(spot, macros, text)?;
+    let names = names_in(location, macros, text)?;
     if names.is_empty() {
-        return Err(ReadFault::IncludeEmpty(spot.place()?));
+        return Err(ReadFault::IncludeEmpty(location.place()?));
     }
     Ok(names)
 }
@@ -179,41 +194,43 @@ fn include_names(
 fn read_include<F: Files>(
     files: &mut F,
     source: &Source<'_>,
-    spot: &LineLocation<'_>,
+    location: &LineLocation<'_>,
     line: IncludeLine<'_>,
     state: &mut State,
 ) -> Result<(), ReadFault>
     ensures keeps { Keeps (F.fits files.old) (F.fits files.new) }
     ensures follows { IfFits (F.fits files.new)
         (λ told. Follows told (λ reader. include reader (below source.now.levels reader)
-        (place_at spot.now) state.old (include_view line.entry)) state.old (seen (λ done.
+        (place_at location.now) state.old (include_view line.entry)) state.old (seen (λ done.
         state.new) result)) }
     ensures noted { NotesFailure (F.failed files.old) (F.failed files.new) result }
 {
-    let names = include_names(source.levels, spot, &state.macros, line.names)?;
+    let names = include_names(source.levels, location, &state.macros, line.names)?;
     state.own(Owner::Nobody)?;
-    read_files(files, source.levels - 1, spot, line.optional, &names, state)
+    let include = Include {
+        location: &*location,
+        levels: source.levels - 1,
+        optional: line.optional,
+    };
+    read_files(files, &include, &names, state)
 }
 
-/// Reads the files of an include line, with this many levels allowed below them.
+/// Reads the files of an include line.
 #[cycle(read)]
 fn read_files<F: Files>(
     files: &mut F,
-    levels: usize,
-    spot: &LineLocation<'_>,
-    optional: bool,
+    include: &Include<'_>,
     names: &[String],
     state: &mut State,
 ) -> Result<(), ReadFault>
     ensures keeps { Keeps (F.fits files.old) (F.fits files.new) }
-    ensures follows { IfFits (F.fits files.new)
-        (λ told. Follows told (λ reader. all_files reader (read_below levels reader)
-        (place_at spot.now) optional (map string_bytes names.now) state.old) state.old
-        (seen (λ done. state.new) result)) }
+    ensures follows { IfFits (F.fits files.new) (λ told. Follows told (λ reader. all_files reader
+        (read_below include.now.levels reader) (place_at include.now.location.now) include.now.optional
+        (map string_bytes names.now) state.old) state.old (seen (λ done. state.new) result)) }
     ensures noted { NotesFailure (F.failed files.old) (F.failed files.new) result }
 {
     for name in names {
-        read_file(files, levels, spot, optional, name, state)?;
+        read_file(files, include, name, state)?;
     }
     Ok(())
 }
@@ -222,19 +239,19 @@ fn read_files<F: Files>(
 /// where the reader fails.
 fn text_at<F: Files>(
     files: &mut F,
-    spot: &LineLocation<'_>,
+    location: &LineLocation<'_>,
     name: &str,
 ) -> Result<Option<Vec<u8>>, ReadFault>
     ensures keeps { Keeps (F.fits files.old) (F.fits files.new) }
     ensures text { IfOk result (λ found. IfFits (F.fits files.new)
         (λ told. option_map (λ text. text.items) found ≡ text_at told name.now)) }
     ensures fault { IfErr result (λ fault. (fault ≡ Memory) ⊎
-        (fault ≡ ReadFailed (Some (place_at spot.now)) name.now)) }
+        (fault ≡ ReadFailed (Some (place_at location.now)) name.now)) }
     ensures noted { NotesFailure (F.failed files.old) (F.failed files.new) result }
 {
-    let place = spot.place()?;
-    let file = Name::new(spot.alloc, name)?;
-    match files.read(spot.alloc, name) {
+    let place = location.place()?;
+    let file = Name::new(location.alloc, name)?;
+    match files.read(location.alloc, name) {
         Ok(found) => Ok(found),
         Err(FilesError::ReadFailed) => Err(ReadFault::ReadFailed(Some(place), file)),
         Err(FilesError::Memory) => Err(ReadFault::Memory),
@@ -242,11 +259,11 @@ fn text_at<F: Files>(
 }
 
 /// `TooManyFiles` (36) at this place, or `Memory`.
-fn too_many(spot: &LineLocation<'_>) -> ReadFault
-    ensures exact { IsTooMany (place_at spot.now) result }
+fn too_many(location: &LineLocation<'_>) -> ReadFault
+    ensures exact { IsTooMany (place_at location.now) result }
     ensures own { IsOfText result }
 {
-    match spot.place() {
+    match location.place() {
         Ok(place) => ReadFault::TooManyFiles(place),
         Err(_) => ReadFault::Memory,
     }
@@ -258,42 +275,39 @@ fn too_many(spot: &LineLocation<'_>) -> ReadFault
 #[cycle(read)]
 fn read_file<F: Files>(
     files: &mut F,
-    levels: usize,
-    spot: &LineLocation<'_>,
-    optional: bool,
+    include: &Include<'_>,
     name: &str,
     state: &mut State,
 ) -> Result<(), ReadFault>
     ensures keeps { Keeps (F.fits files.old) (F.fits files.new) }
-    ensures follows { IfFits (F.fits files.new)
-        (λ told. Follows told (λ reader. one_file reader (read_below levels reader)
-        (place_at spot.now) optional state.old name.now) state.old (seen (λ done.
-        state.new) result)) }
+    ensures follows { IfFits (F.fits files.new) (λ told. Follows told (λ reader. one_file reader
+        (read_below include.now.levels reader) (place_at include.now.location.now) include.now.optional
+        state.old name.now) state.old (seen (λ done. state.new) result)) }
     ensures noted { NotesFailure (F.failed files.old) (F.failed files.new) result }
 {
     if state.is_full() {
-        return Err(too_many(spot));
+        return Err(too_many(include.location));
     }
-    match text_at(files, spot, name)? {
-        Some(text) => read_found(files, levels, spot, name, &text, state),
-        None => pass_over(spot, optional, name, state),
+    match text_at(files, include.location, name)? {
+        Some(text) => read_found(files, include, name, &text, state),
+        None => pass_over(include.location, include.optional, name, state),
     }
 }
 
 /// Skips a file that doesn't exist. Fails with `IncludeMissing` (32) where it may not be missing.
 fn pass_over(
-    spot: &LineLocation<'_>,
+    location: &LineLocation<'_>,
     optional: bool,
     name: &str,
     state: &mut State,
 ) -> Result<(), ReadFault>
     ensures exact { Gives (λ done.
-        state.new) result (not_found (place_at spot.now) optional state.old name.now) }
+        state.new) result (not_found (place_at location.now) optional state.old name.now) }
     ensures own { IfErr result IsOfText }
 {
-    let file = Name::new(spot.alloc, name)?;
+    let file = Name::new(location.alloc, name)?;
     if !optional {
-        return Err(ReadFault::IncludeMissing(spot.place()?, file));
+        return Err(ReadFault::IncludeMissing(location.place()?, file));
     }
     Ok(state.note_missing(file)?)
 }
@@ -302,27 +316,24 @@ fn pass_over(
 #[cycle(read)]
 fn read_found<F: Files>(
     files: &mut F,
-    levels: usize,
-    spot: &LineLocation<'_>,
+    include: &Include<'_>,
     name: &str,
     text: &[u8],
     state: &mut State,
 ) -> Result<(), ReadFault>
     ensures keeps { Keeps (F.fits files.old) (F.fits files.new) }
-    ensures follows { IfFits (F.fits files.new)
-        (λ told.
-        Follows told (λ reader.
-        found_after (read_below levels reader) name.now text.now (text_more state.old name.now))
+    ensures follows { IfFits (F.fits files.new) (λ told. Follows told (λ reader. found_after
+        (read_below include.now.levels reader) name.now text.now (text_more state.old name.now))
         (text_more state.old name.now) (seen (λ done. state.new) result)) }
     ensures noted { NotesFailure (F.failed files.old) (F.failed files.new) result }
 {
-    let file = Name::new(spot.alloc, name)?;
-    state.note_text(spot.alloc, name)?;
+    let file = Name::new(include.location.alloc, name)?;
+    state.note_text(include.location.alloc, name)?;
     let source = Source {
-        alloc: spot.alloc,
+        alloc: include.location.alloc,
         file: &file,
         default: false,
-        levels,
+        levels: include.levels,
     };
     read_text(files, &source, text, state)?;
     Ok(state.own(Owner::Nobody)?)

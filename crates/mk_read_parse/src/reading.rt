@@ -23,7 +23,7 @@ use crate::state::{Owner, RuleLines, State, with_last};
 use mk_lines::{Name, is_plain_path};
 use mk_macros::{MacroFault, MacroTable};
 use mk_read::default_text::default_text_says_this;
-use mk_read::{Makefile, Place, ReadFault, Rule, SuffixList};
+use mk_read::{Makefile, Place, ReadFault, Rule, SpecialTargets, SuffixList};
 use mk_read_files::{Files, FilesError};
 use std::alloc::{AllocError, Global};
 
@@ -322,36 +322,50 @@ fn makefile_of(state: State) -> Result<Makefile, AllocError>
         missing,
     } = state;
     let rules = rules_of(&suffixes, lines)?;
-    Ok(Makefile::new(rules, suffixes, phony, not_parallel, macros, texts, missing))
+    let special = SpecialTargets {
+        suffixes,
+        phony,
+        not_parallel,
+    };
+    Ok(Makefile::new(rules, special, macros, texts, missing))
+}
+
+/// Which makefile is to be read, and what is read before it.
+#[derive(Clone, Copy)]
+struct Request<'a> {
+    /// The name of the makefile, where one is given.
+    name: Option<&'a Name>,
+    /// Whether the default text is read.
+    defaults: bool,
+    /// The macro operands.
+    operands: &'a [Vec<u8>],
 }
 
 /// Reads the default text, where that is wanted, the operands, and the makefile.
 fn read_all<F: Files>(
     alloc: Global,
     files: &mut F,
-    name: Option<&Name>,
-    defaults: bool,
-    operands: &[Vec<u8>],
+    request: &Request<'_>,
     state: &mut State,
 ) -> Result<(), ReadFault>
     ensures keeps { Keeps (F.fits files.old) (F.fits files.new) }
     ensures follows { IfFits (F.fits files.new) (λ told. state.old ≡ nothing_read →
         Follows told (λ reader.
-        state_read reader (option_copied name.entry) defaults (map (λ operand.
-        operand.items) operands.now)) nothing_read (seen (λ done. state.new) result)) }
+        state_read reader (option_copied request.now.name) request.now.defaults (map (λ operand.
+        operand.items) request.now.operands.now)) nothing_read (seen (λ done. state.new) result)) }
     ensures noted { NotesFailure (F.failed files.old) (F.failed files.new) result }
     ensures untouched { state.old ≡ nothing_read →
-        OnErr (request_read (option_copied name.entry) defaults (map (λ operand.
-        operand.items) operands.now)) (files.new ≡ files.old) }
+        OnErr (request_read (option_copied request.now.name) request.now.defaults (map (λ operand.
+        operand.items) request.now.operands.now)) (files.new ≡ files.old) }
     ensures accepted { OnOk result (state.old ≡ nothing_read →
-        IsOk (request_read (option_copied name.entry) defaults (map (λ operand.
-        operand.items) operands.now))) }
+        IsOk (request_read (option_copied request.now.name) request.now.defaults (map (λ operand.
+        operand.items) request.now.operands.now))) }
 {
     default_text_says_this();
-    test_name(alloc, name)?;
-    read_default(alloc, defaults, state)?;
-    fix_operands(alloc, &mut state.macros, operands)?;
-    match name {
+    test_name(alloc, request.name)?;
+    read_default(alloc, request.defaults, state)?;
+    fix_operands(alloc, &mut state.macros, request.operands)?;
+    match request.name {
         Some(name) => read_named(alloc, files, name, state),
         None => read_usual(alloc, files, state),
     }
@@ -410,7 +424,12 @@ pub fn read_makefile<F: Files>(
         (map (λ operand. operand.items) operands.now))) }
 {
     let mut state = State::new(alloc);
-    match read_all(alloc, files, name, defaults, operands, &mut state) {
+    let request = Request {
+        name,
+        defaults,
+        operands,
+    };
+    match read_all(alloc, files, &request, &mut state) {
         Ok(()) => Ok(makefile_of(state)?),
         Err(fault) => Err(answered(fault)),
     }

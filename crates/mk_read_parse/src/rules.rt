@@ -27,11 +27,11 @@ use std::borrow::CowSlice;
 use std::mem;
 
 /// The fault of a macro at this place, or `Memory`.
-fn macro_fault(spot: &LineLocation<'_>, fault: MacroFault) -> ReadFault
-    ensures exact { IsMacroFault (place_at spot.now) fault result }
+fn macro_fault(location: &LineLocation<'_>, fault: MacroFault) -> ReadFault
+    ensures exact { IsMacroFault (place_at location.now) fault result }
     ensures own { IsOfText result }
 {
-    match spot.place() {
+    match location.place() {
         Ok(place) => ReadFault::Macro(place, fault),
         Err(_) => ReadFault::Memory,
     }
@@ -39,50 +39,50 @@ fn macro_fault(spot: &LineLocation<'_>, fault: MacroFault) -> ReadFault
 
 /// The expansion of a part of a line.
 fn expanded_text<'a>(
-    spot: &LineLocation<'_>,
+    location: &LineLocation<'_>,
     macros: &MacroTable,
     text: &'a [u8],
 ) -> Result<CowSlice<'a, u8>, ReadFault>
-    ensures exact { Gives cow_slice_items result (expanded_text (place_at spot.now) macros.now
+    ensures exact { Gives cow_slice_items result (expanded_text (place_at location.now) macros.now
         text.now) }
     ensures own { IfErr result IsOfText }
 {
-    match macros.expand(spot.alloc, text, &Locals::Empty) {
+    match macros.expand(location.alloc, text, &Locals::Empty) {
         Ok(found) => Ok(found.text),
         Err(MacroFault::Memory) => Err(ReadFault::Memory),
-        Err(fault) => Err(macro_fault(spot, fault)),
+        Err(fault) => Err(macro_fault(location, fault)),
     }
 }
 
 /// The names in a part of a line, which is expanded and then split into words.
 pub(crate) fn names_in(
-    spot: &LineLocation<'_>,
+    location: &LineLocation<'_>,
     macros: &MacroTable,
     text: &[u8],
 ) -> Result<Vec<String>, ReadFault>
     ensures exact { Gives (λ found.
-        map string_bytes found.items) result (names_in (place_at spot.now) macros.now text.now) }
+        map string_bytes found.items) result (names_in (place_at location.now) macros.now text.now) }
     ensures own { IfErr result IsOfText }
 {
-    let found = expanded_text(spot, macros, text)?;
-    names_of(spot.alloc, spot.file, spot.line, &found)
+    let found = expanded_text(location, macros, text)?;
+    names_of(location.alloc, location.file, location.line, &found)
 }
 
 /// Defines a macro with this name, as the line says.
 fn define(
-    spot: &LineLocation<'_>,
+    location: &LineLocation<'_>,
     macros: &mut MacroTable,
     name: &[u8],
     line: &AssignmentLine<'_>,
 ) -> Result<(), ReadFault>
-    ensures exact { Gives (λ done. macros.new) result (at_place (place_at spot.now)
+    ensures exact { Gives (λ done. macros.new) result (at_place (place_at location.now)
         (defined macros.old name.now line.now.op line.now.value.now)) }
     ensures own { IfErr result IsOfText }
 {
     match macros.define(name, line.op, line.value) {
         Ok(()) => Ok(()),
         Err(MacroFault::Memory) => Err(ReadFault::Memory),
-        Err(fault) => Err(macro_fault(spot, fault)),
+        Err(fault) => Err(macro_fault(location, fault)),
     }
 }
 
@@ -91,31 +91,31 @@ impl State {
     #[tactic(auto, unfolding(crate::specs::Views::assigned))]
     fn assign_to(
         &mut self,
-        spot: &LineLocation<'_>,
+        location: &LineLocation<'_>,
         name: &[u8],
         line: &AssignmentLine<'_>,
     ) -> Result<(), ReadFault>
         ensures exact { Gives (λ done.
-            self.new) result (assigned (place_at spot.now) self.old (assignment_view line.now)
+            self.new) result (assigned (place_at location.now) self.old (assignment_view line.now)
             name.now) }
         ensures own { IfErr result IsOfText }
     {
         self.own(Owner::Nobody)?;
-        define(spot, &mut self.macros, without_blanks(name), line)
+        define(location, &mut self.macros, without_blanks(name), line)
     }
 
     /// Applies an assignment, whose name is expanded first.
     pub(crate) fn assign(
         &mut self,
-        spot: &LineLocation<'_>,
+        location: &LineLocation<'_>,
         line: &AssignmentLine<'_>,
     ) -> Result<(), ReadFault>
         ensures exact { Gives (λ done.
-            self.new) result (assignment (place_at spot.now) self.old (assignment_view line.now)) }
+            self.new) result (assignment (place_at location.now) self.old (assignment_view line.now)) }
         ensures own { IfErr result IsOfText }
     {
-        let name = expanded_text(spot, &self.macros, line.name)?;
-        self.assign_to(spot, &name, line)
+        let name = expanded_text(location, &self.macros, line.name)?;
+        self.assign_to(location, &name, line)
     }
 }
 
@@ -143,21 +143,21 @@ fn list_suffixes(
 
 /// Applies a `.SUFFIXES` line. Fails with `SpecialShape` (30) where a word is no suffix.
 fn add_suffixes(
-    spot: &LineLocation<'_>,
+    location: &LineLocation<'_>,
     suffixes: &mut SuffixList,
     words: &[String],
 ) -> Result<(), ReadFault>
     ensures exact { Gives (λ done.
         suffixes.new) result (if list_all is_suffix (map string_bytes words.now)
         then Ok (listed suffixes.old (map string_bytes words.now))
-        else Err (SpecialShape (place_at spot.now))) }
+        else Err (SpecialShape (place_at location.now))) }
     ensures own { IfErr result IsOfText }
 {
     if !are_suffixes(words) {
-        return Err(ReadFault::SpecialShape(spot.place()?));
+        return Err(ReadFault::SpecialShape(location.place()?));
     }
-    let before = mem::replace(suffixes, SuffixList::new(spot.alloc));
-    *suffixes = list_suffixes(spot.alloc, before, words)?;
+    let before = mem::replace(suffixes, SuffixList::new(location.alloc));
+    *suffixes = list_suffixes(location.alloc, before, words)?;
     Ok(())
 }
 
@@ -172,39 +172,39 @@ fn append(names: &mut Vec<String>, words: Vec<String>) -> Result<(), AllocError>
 }
 
 /// Fails with `SpecialShape` (30) where there are words.
-fn unless_words(spot: &LineLocation<'_>, words: &[String]) -> Result<(), ReadFault>
+fn unless_words(location: &LineLocation<'_>, words: &[String]) -> Result<(), ReadFault>
     ensures exact { Gives (λ done.
         done) result (if is_empty (map string_bytes words.now) then Ok tt
-        else Err (SpecialShape (place_at spot.now))) }
+        else Err (SpecialShape (place_at location.now))) }
     ensures own { IfErr result IsOfText }
 {
     if !words.is_empty() {
-        return Err(ReadFault::SpecialShape(spot.place()?));
+        return Err(ReadFault::SpecialShape(location.place()?));
     }
     Ok(())
 }
 
 /// Applies a special target to its words. Fails with `SpecialShape` (30) where it can't have them.
 fn note_words(
-    spot: &LineLocation<'_>,
+    location: &LineLocation<'_>,
     state: &mut State,
     words: Vec<String>,
     special: Special,
 ) -> Result<(), ReadFault>
     ensures exact { Gives (λ done.
-        state.new) result (special_words (place_at spot.now) state.old
+        state.new) result (special_words (place_at location.now) state.old
         (map string_bytes words.items) special) }
     ensures own { IfErr result IsOfText }
 {
     match special {
-        Special::Suffixes => add_suffixes(spot, &mut state.suffixes, &words),
+        Special::Suffixes => add_suffixes(location, &mut state.suffixes, &words),
         Special::Phony => Ok(append(&mut state.phony, words)?),
         Special::NotParallel => {
-            unless_words(spot, &words)?;
+            unless_words(location, &words)?;
             state.not_parallel = true;
             Ok(())
         }
-        Special::Wordless => unless_words(spot, &words),
+        Special::Wordless => unless_words(location, &words),
         Special::Unread => Ok(()),
     }
 }
@@ -222,39 +222,47 @@ fn is_alone(targets: &[String]) -> bool
     targets.len() == 1
 }
 
+/// The names of a rule line.
+#[derive(Drop)]
+struct RuleNames {
+    targets: Vec<String>,
+    /// The prerequisites, `.WAIT` included.
+    words: Vec<String>,
+}
+
 /// Reads a rule line of a special target. Fails with `SpecialShape` (30) where it has other
 /// targets, commands or `.WAIT`, or words that the target can't have.
 #[tactic(auto, unfolding(mk_read::specs::Rules::special_rule))]
 fn add_special(
-    spot: &LineLocation<'_>,
+    location: &LineLocation<'_>,
     state: &mut State,
-    targets: &[String],
-    words: Vec<String>,
+    names: RuleNames,
     commands: bool,
     special: Special,
 ) -> Result<(), ReadFault>
     ensures exact { Gives (λ done.
-        state.new) result (special_rule (place_at spot.now) state.old (map string_bytes targets.now)
-        (map string_bytes words.items) commands special) }
+        state.new) result (special_rule (place_at location.now) state.old
+        (map string_bytes names.targets.items) (map string_bytes names.words.items) commands
+        special) }
     ensures own { IfErr result IsOfText }
 {
-    if !is_alone(targets) || commands || has_wait(&words) {
-        return Err(ReadFault::SpecialShape(spot.place()?));
+    if !is_alone(&names.targets) || commands || has_wait(&names.words) {
+        return Err(ReadFault::SpecialShape(location.place()?));
     }
     state.own(Owner::SpecialTarget)?;
-    note_words(spot, state, words, special)
+    note_words(location, state, names.words, special)
 }
 
 /// The command after a `;`, or no command where the text is empty.
-fn commands_behind(spot: &LineLocation<'_>, text: &[u8]) -> Result<Vec<Command>, AllocError>
+fn commands_behind(location: &LineLocation<'_>, text: &[u8]) -> Result<Vec<Command>, AllocError>
     ensures { IfOk result (λ commands. commands.items ≡
-        commands_behind (place_at spot.now) text.now) }
+        commands_behind (place_at location.now) text.now) }
 {
-    let mut commands = Vec::new(spot.alloc);
+    let mut commands = Vec::new(location.alloc);
     if !text.is_empty() {
         commands.push(Command {
-            text: Vec::from_slice(spot.alloc, text)?,
-            place: spot.place()?,
+            text: Vec::from_slice(location.alloc, text)?,
+            place: location.place()?,
         })?;
     }
     Ok(commands)
@@ -292,15 +300,15 @@ fn push_rule(alloc: Global, state: &mut State, rule: Rule) -> Result<(), ReadFau
 
 /// The commands of a rule line: those after its `;`, or `None` where it has no `;`.
 fn commands_of(
-    spot: &LineLocation<'_>,
+    location: &LineLocation<'_>,
     command: Option<&[u8]>,
 ) -> Result<Option<Vec<Command>>, AllocError>
     ensures { IfOk result (λ commands. option_map (λ commands. commands.items) commands ≡
-        option_map (commands_behind (place_at spot.now))
+        option_map (commands_behind (place_at location.now))
         (option_map (λ text. text.now) command.entry)) }
 {
     match command {
-        Some(text) => Ok(Some(commands_behind(spot, text)?)),
+        Some(text) => Ok(Some(commands_behind(location, text)?)),
         None => Ok(None),
     }
 }
@@ -309,34 +317,33 @@ fn commands_of(
 /// form of a special one and isn't known; then with `SpecialShape` (30) or `TwoRecipes` (31).
 #[tactic(auto, unfolding(mk_read::specs::Rules::by_names))]
 fn add_by_names(
-    spot: &LineLocation<'_>,
+    location: &LineLocation<'_>,
     default: bool,
     state: &mut State,
-    targets: Vec<String>,
-    words: Vec<String>,
+    names: RuleNames,
     command: Option<&[u8]>,
 ) -> Result<(), ReadFault>
     ensures exact { Gives (λ done.
-        state.new) result (by_names default (place_at spot.now) state.old
-        (map string_bytes targets.items) (option_map (λ text. text.now) command.entry)
-        (map string_bytes words.items)) }
+        state.new) result (by_names default (place_at location.now) state.old
+        (map string_bytes names.targets.items) (option_map (λ text. text.now) command.entry)
+        (map string_bytes names.words.items)) }
     ensures own { IfErr result IsOfText }
 {
-    if has_unknown(&targets) {
-        return Err(ReadFault::UnknownSpecial(spot.place()?));
+    if has_unknown(&names.targets) {
+        return Err(ReadFault::UnknownSpecial(location.place()?));
     }
-    if let Some(special) = special_among(&targets) {
-        return add_special(spot, state, &targets, words, command.is_some(), special);
+    if let Some(special) = special_among(&names.targets) {
+        return add_special(location, state, names, command.is_some(), special);
     }
-    let commands = commands_of(spot, command)?;
+    let commands = commands_of(location, command)?;
     let rule = Rule {
-        targets,
-        words,
+        targets: names.targets,
+        words: names.words,
         commands,
-        place: spot.place()?,
+        place: location.place()?,
         default,
     };
-    push_rule(spot.alloc, state, rule)
+    push_rule(location.alloc, state, rule)
 }
 
 impl State {
@@ -345,19 +352,20 @@ impl State {
     #[tactic(auto, unfolding(mk_read::specs::Rules::rule))]
     pub(crate) fn add_rule(
         &mut self,
-        spot: &LineLocation<'_>,
+        location: &LineLocation<'_>,
         default: bool,
         line: &RuleLine<'_>,
     ) -> Result<(), ReadFault>
         ensures exact { Gives (λ done.
-            self.new) result (rule default (place_at spot.now) self.old (rule_view line.now)) }
+            self.new) result (rule default (place_at location.now) self.old (rule_view line.now)) }
         ensures own { IfErr result IsOfText }
     {
-        let targets = names_in(spot, &self.macros, line.targets)?;
+        let targets = names_in(location, &self.macros, line.targets)?;
         if targets.is_empty() {
             return Ok(self.own(Owner::PassedOver)?);
         }
-        let words = names_in(spot, &self.macros, line.words)?;
-        add_by_names(spot, default, self, targets, words, line.command)
+        let words = names_in(location, &self.macros, line.words)?;
+        let names = RuleNames { targets, words };
+        add_by_names(location, default, self, names, line.command)
     }
 }

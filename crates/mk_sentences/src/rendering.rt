@@ -17,7 +17,7 @@ use crate::adding::push_added_lines;
 use crate::advice::push_advice;
 use crate::claim::{Claim, claims_of};
 use crate::counts::{counts_of, push_counts};
-use crate::grouping::{Groups, Rows, groups_of};
+use crate::grouping::{GroupKey, Groups, Rows, groups_of};
 use crate::joining::{claim_set, joined_rows};
 use crate::left_claims::untouched;
 use crate::listing::{push_left_out, who_are};
@@ -96,26 +96,26 @@ fn push_word(out: &mut String, kind: Kind) -> Result<(), AllocError>
     write!(out, " [{word}]\n")
 }
 
-/// Appends the text of a group.
+/// Appends the text of the group with this key, which these names belong to.
 fn push_group(
     alloc: Global,
     out: &mut String,
     places: &Places<'_>,
-    topic: &Topic<'_>,
+    key: &GroupKey<'_>,
     who: &[&str],
-    what: &[&str],
 ) -> Result<(), AllocError>
     ensures { OnOk result (string_bytes out.new ≡ string_bytes out.old ++ group_text places.now
         (record {
-          topic = topic_view topic.now;
-          what = names_view what.now;
+          topic = topic_view key.now.topic;
+          what = names_view key.now.what.now;
           who = names_view who.now;
         })) }
 {
+    let topic = &key.topic;
     push_head(out, places, shown_name(topic, who))?;
-    push_sentence(alloc, out, topic, who, what)?;
+    push_sentence(alloc, out, topic, who, key.what)?;
     push_word(out, topic.kind)?;
-    push_repair(alloc, out, topic, who, what)
+    push_repair(alloc, out, topic, who, key.what)
 }
 
 /// Appends the text of each group.
@@ -132,7 +132,7 @@ fn push_groups(
         let Some((key, who)) = groups.get_index(place) else {
             continue;
         };
-        push_group(alloc, out, places, &key.topic, who, key.what)?;
+        push_group(alloc, out, places, key, who)?;
     }
     Ok(())
 }

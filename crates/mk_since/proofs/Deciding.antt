@@ -19,7 +19,7 @@ use Rattle.mk_build.specs.BuildLaws.{NamesHaveOneNumber}
 use Rattle.mk_build_behaviours.specs.Behaviours.{Behaviours}
 use Rattle.mk_build_since.specs.Named.{AreSameFiles, CantStay, HasFile, HoldsOf, IsWritten, NewRecipe, OtherCommands, OtherWrites, OwnsFile, OtherReads, ReadText, Rule, WasRecipe, all_rules}
 use Rattle.mk_subject.specs.Laws.{AllWritesExactly}
-use Rattle.mk_subject.specs.NodeRow.{NodeRow, IsEntry, entry_reads, entry_writes, lines_eq, writers_of}
+use Rattle.mk_subject.specs.NodeRow.{NodeRow, IsRow, row_reads, row_writes, lines_eq, writers_of}
 use Rattle.mk_subject.specs.Subject.{Subject, IsRecipe, all_writes, commands_of, name_of, reads_of, writes_of}
 use Rattle.mk_subject.proofs.Decided.{lines_same}
 use Rattle.mk_subject.proofs.Entries.{same_reads, same_writes}
@@ -127,7 +127,7 @@ module _ (x : Subject) (is : IsGraph x.graph) (exact : AllWritesExactly) (b : Be
 
 -- two nodes with one target
 module _ (x y : Subject) (b c : Behaviours) (is_x : IsGraph x.graph) (is_y : IsGraph y.graph) (reaches : SerialReachesEachOnce) (exact : AllWritesExactly) (one : NamesHaveOneNumber) where
-  module _ (o : ℕ) (e : NodeRow) (is_e : IsEntry y e) (recipe : IsRecipe x o) (same : name_of x o ≡ name_of y e.number) where
+  module _ (o : ℕ) (e : NodeRow) (is_e : IsRow y e) (recipe : IsRecipe x o) (same : name_of x o ≡ name_of y e.number) where
     was : WasRecipe (build_of x b) (build_of y c) o e.number
     was = (recipe, same)
 
@@ -141,13 +141,13 @@ module _ (x y : Subject) (b c : Behaviours) (is_x : IsGraph x.graph) (is_y : IsG
     other_commands h =
         (OtherCommands, inr (inl refl), (o, was, λ k. not_from (lines_eq (lines_in (commands_of x o)) e.commands.lines) h (lines_equal (lines_in (commands_of x o)) e.commands.lines (k ∙ new_lines))))
 
-    other_writes : are_others (writes_of x o) (entry_writes e) ≡ true → CantStay all_rules (build_of x b) (build_of y c) e.number
+    other_writes : are_others (writes_of x o) (row_writes e) ≡ true → CantStay all_rules (build_of x b) (build_of y c) e.number
     other_writes h =
-        (OtherWrites, inr (inr (inl refl)), (o, was, λ k. not_from (are_among (writes_of x o) (entry_writes e) && are_among (entry_writes e) (writes_of x o)) h ((same_decides (writes_of x o) (entry_writes e)).1 (subst (λ (l : List (List ℕ)). AreSameFiles (writes_of x o) l) (sym (same_writes y e is_e)) k))))
+        (OtherWrites, inr (inr (inl refl)), (o, was, λ k. not_from (are_among (writes_of x o) (row_writes e) && are_among (row_writes e) (writes_of x o)) h ((same_decides (writes_of x o) (row_writes e)).1 (subst (λ (l : List (List ℕ)). AreSameFiles (writes_of x o) l) (sym (same_writes y e is_e)) k))))
 
-    other_reads : are_others (reads_of x o) (entry_reads e) ≡ true → CantStay all_rules (build_of x b) (build_of y c) e.number
+    other_reads : are_others (reads_of x o) (row_reads e) ≡ true → CantStay all_rules (build_of x b) (build_of y c) e.number
     other_reads h =
-        (OtherReads, inr (inr (inr (inl refl))), (o, was, λ k. not_from (are_among (reads_of x o) (entry_reads e) && are_among (entry_reads e) (reads_of x o)) h ((same_decides (reads_of x o) (entry_reads e)).1 (subst (λ (l : List (List ℕ)). AreSameFiles (reads_of x o) l) (sym (same_reads y e is_e)) k))))
+        (OtherReads, inr (inr (inr (inl refl))), (o, was, λ k. not_from (are_among (reads_of x o) (row_reads e) && are_among (row_reads e) (reads_of x o)) h ((same_decides (reads_of x o) (row_reads e)).1 (subst (λ (l : List (List ℕ)). AreSameFiles (reads_of x o) l) (sym (same_reads y e is_e)) k))))
 
     text : read_text y (recipe_of x o) ≡ true → CantStay all_rules (build_of x b) (build_of y c) e.number
     text h =
@@ -158,8 +158,8 @@ module _ (x y : Subject) (b c : Behaviours) (is_x : IsGraph x.graph) (is_y : IsG
     other_cant : is_other y (recipe_of x o) e ≡ true → CantStay all_rules (build_of x b) (build_of y c) e.number
     other_cant h =
         let one_test = not (lines_eq (lines_in (commands_of x o)) e.commands.lines) in
-        let two = are_others (writes_of x o) (entry_writes e) in
-        let three = are_others (reads_of x o) (entry_reads e) in
+        let two = are_others (writes_of x o) (row_writes e) in
+        let three = are_others (reads_of x o) (row_reads e) in
         let four = read_text y (recipe_of x o) in
         ⊎_elim other_commands (λ r. ⊎_elim other_writes (λ s. ⊎_elim other_reads text (or_cases three four s)) (or_cases two (three || four) r)) (or_cases one_test (two || (three || four)) h)
 
@@ -170,13 +170,13 @@ module _ (x y : Subject) (b c : Behaviours) (is_x : IsGraph x.graph) (is_y : IsG
     by_commands n w differ =
         not_true (lines_eq (lines_in (commands_of x o)) e.commands.lines) (λ k. differ (ap (λ (i : ℕ). lines_in (commands_of x i)) (this n w) ∙ (lines_same (lines_in (commands_of x o)) e.commands.lines k ∙ sym new_lines)))
 
-    by_writes : (n : ℕ) → WasRecipe (build_of x b) (build_of y c) n e.number → ¬ (AreSameFiles (writes_of x n) (writes_of y e.number)) → are_others (writes_of x o) (entry_writes e) ≡ true
+    by_writes : (n : ℕ) → WasRecipe (build_of x b) (build_of y c) n e.number → ¬ (AreSameFiles (writes_of x n) (writes_of y e.number)) → are_others (writes_of x o) (row_writes e) ≡ true
     by_writes n w differ =
-        not_true (are_among (writes_of x o) (entry_writes e) && are_among (entry_writes e) (writes_of x o)) (λ k. differ (subst (λ (i : ℕ). AreSameFiles (writes_of x i) (writes_of y e.number)) (sym (this n w)) (subst (λ (l : List (List ℕ)). AreSameFiles (writes_of x o) l) (same_writes y e is_e) ((same_decides (writes_of x o) (entry_writes e)).0 k))))
+        not_true (are_among (writes_of x o) (row_writes e) && are_among (row_writes e) (writes_of x o)) (λ k. differ (subst (λ (i : ℕ). AreSameFiles (writes_of x i) (writes_of y e.number)) (sym (this n w)) (subst (λ (l : List (List ℕ)). AreSameFiles (writes_of x o) l) (same_writes y e is_e) ((same_decides (writes_of x o) (row_writes e)).0 k))))
 
-    by_reads : (n : ℕ) → WasRecipe (build_of x b) (build_of y c) n e.number → ¬ (AreSameFiles (reads_of x n) (reads_of y e.number)) → are_others (reads_of x o) (entry_reads e) ≡ true
+    by_reads : (n : ℕ) → WasRecipe (build_of x b) (build_of y c) n e.number → ¬ (AreSameFiles (reads_of x n) (reads_of y e.number)) → are_others (reads_of x o) (row_reads e) ≡ true
     by_reads n w differ =
-        not_true (are_among (reads_of x o) (entry_reads e) && are_among (entry_reads e) (reads_of x o)) (λ k. differ (subst (λ (i : ℕ). AreSameFiles (reads_of x i) (reads_of y e.number)) (sym (this n w)) (subst (λ (l : List (List ℕ)). AreSameFiles (reads_of x o) l) (same_reads y e is_e) ((same_decides (reads_of x o) (entry_reads e)).0 k))))
+        not_true (are_among (reads_of x o) (row_reads e) && are_among (row_reads e) (reads_of x o)) (λ k. differ (subst (λ (i : ℕ). AreSameFiles (reads_of x i) (reads_of y e.number)) (sym (this n w)) (subst (λ (l : List (List ℕ)). AreSameFiles (reads_of x o) l) (same_reads y e is_e) ((same_decides (reads_of x o) (row_reads e)).0 k))))
 
     by_text : (n : ℕ) → WasRecipe (build_of x b) (build_of y c) n e.number → (f : List ℕ) → Has (reads_of x n) f → Has y.setting.texts f → read_text y (recipe_of x o) ≡ true
     by_text n w f h k = any_for (has_name y.setting.texts) (reads_of x o) f (read_here n f w h) (has_name-from_Has y.setting.texts f k)
@@ -188,10 +188,10 @@ module _ (x y : Subject) (b c : Behaviours) (is_x : IsGraph x.graph) (is_y : IsG
         first = not (lines_eq (lines_in (commands_of x o)) e.commands.lines)
 
         second : Bool
-        second = are_others (writes_of x o) (entry_writes e)
+        second = are_others (writes_of x o) (row_writes e)
 
         third : Bool
-        third = are_others (reads_of x o) (entry_reads e)
+        third = are_others (reads_of x o) (row_reads e)
 
         fourth : Bool
         fourth = read_text y (recipe_of x o)
@@ -218,7 +218,7 @@ module _ (x y : Subject) (b c : Behaviours) (is_x : IsGraph x.graph) (is_y : IsG
   kept = filter is_recipe (serial_order x.graph)
 
   -- the old recipe with a target decides
-  pub stay_decides : (e : NodeRow) → IsEntry y e → (cant_stay (past_of x) y e ≡ true) ↔ CantStay all_rules (build_of x b) (build_of y c) e.number
+  pub stay_decides : (e : NodeRow) → IsRow y e → (cant_stay (past_of x) y e ≡ true) ↔ CantStay all_rules (build_of x b) (build_of y c) e.number
   stay_decides e is_e = by (recipe_for (past_of x) e.node.name) refl
     where
       named : e.node.name ≡ name_of y e.number

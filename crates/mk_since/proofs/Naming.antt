@@ -24,7 +24,7 @@ use Rattle.mk_build.specs.Setting.{IsAlwaysMade}
 use Rattle.mk_build_behaviours.specs.Behaviours.{Behaviours}
 use Rattle.mk_build_since.specs.Named.{CantStay, IsLeftOver, IsMadeAnew, IsNamed, OwnsFile, all_rules}
 use Rattle.mk_subject.specs.Laws.{AllWritesExactly}
-use Rattle.mk_subject.specs.NodeRow.{NodeRow, AreEntries, IsEntry, entry_reads, entry_writes}
+use Rattle.mk_subject.specs.NodeRow.{NodeRow, AreRows, IsRow, row_reads, row_writes}
 use Rattle.mk_subject.specs.Subject.{Subject, all_writes, commands_of, name_of, reads_of, writes_of}
 use Rattle.mk_subject.proofs.Entries.{same_reads, same_writes}
 use Rattle.mk_subject.proofs.InOrder.{writer_has_recipe, writer_in_order}
@@ -102,24 +102,24 @@ row_for [] n h = absurd h
 row_for (e ∷ rows) n (inl here) = (e, inl refl, here)
 row_for (e ∷ rows) n (inr there) = let rest = row_for rows n there in (rest.0, inr rest.1, rest.2)
 
-module _ (x : Subject) (is : IsGraph x.graph) (reaches : SerialReachesEachOnce) (rows : List NodeRow) (entries : AreEntries x rows) where
-  pub is_entry : (e : NodeRow) → Has rows e → IsEntry x e
-  is_entry e h = all_at (IsEntry x) rows e entries.right h
+module _ (x : Subject) (is : IsGraph x.graph) (reaches : SerialReachesEachOnce) (rows : List NodeRow) (entries : AreRows x rows) where
+  pub is_entry : (e : NodeRow) → Has rows e → IsRow x e
+  is_entry e h = all_at (IsRow x) rows e entries.right h
 
   -- what writes a file has a row, which has that file
-  pub writer_row : (n : ℕ) (f : List ℕ) → Has (writes_of x n) f → (e : NodeRow) × Has rows e × (e.number ≡ n) × Has (entry_writes e) f
+  pub writer_row : (n : ℕ) (f : List ℕ) → Has (writes_of x n) f → (e : NodeRow) × Has rows e × (e.number ≡ n) × Has (row_writes e) f
   writer_row n f wrote =
       let found = row_for rows n (subst (λ (l : List ℕ). Has l n) (sym entries.in_order) (writer_in_order x is reaches n f wrote)) in
       (found.0, found.1, found.2, subst (λ (l : List (List ℕ)). Has l f) (sym (same_writes x found.0 (is_entry found.0 found.1))) (subst (λ (k : ℕ). Has (writes_of x k) f) (sym found.2) wrote))
 
-  pub row_writes : (e : NodeRow) (f : List ℕ) → Has rows e → Has (entry_writes e) f → Has (writes_of x e.number) f
-  row_writes e f h w = subst (λ (l : List (List ℕ)). Has l f) (same_writes x e (is_entry e h)) w
+  pub row_wrote : (e : NodeRow) (f : List ℕ) → Has rows e → Has (row_writes e) f → Has (writes_of x e.number) f
+  row_wrote e f h w = subst (λ (l : List (List ℕ)). Has l f) (same_writes x e (is_entry e h)) w
 
 pub leaves_noted : (y : Subject) (r : PastRecipe) (names new files : List (List ℕ)) → files ≡ r.writes → new ≡ with_those (λ f. not (has_file y f)) names files → (f : List ℕ) → Has new f ↔ (Has names f ⊎ Leaves y r f)
 leaves_noted y r names new files same added f =
     subst (λ (l : List (List ℕ)). Has l f ↔ (Has names f ⊎ Leaves y r f)) (sym added) (subst (λ (l : List (List ℕ)). Has (with_those (λ k. not (has_file y k)) names files) f ↔ (Has names f ⊎ (Has l f × (not (has_file y f) ≡ true)))) same (those_has (λ k. not (has_file y k)) names files f))
 
-pub renews_noted : (past : Past) (y : Subject) (always : List Bool) (e : NodeRow) (names new files : List (List ℕ)) → files ≡ entry_writes e → new ≡ with_those (has_name past.own) names files
+pub renews_noted : (past : Past) (y : Subject) (always : List Bool) (e : NodeRow) (names new files : List (List ℕ)) → files ≡ row_writes e → new ≡ with_those (has_name past.own) names files
     → is_made_anew past y always e ≡ true → (f : List ℕ) → Has new f ↔ (Has names f ⊎ Renews past y always e f)
 renews_noted past y always e names new files same added anew f =
     let those = those_has (has_name past.own) names files f in
@@ -146,13 +146,13 @@ module _ (x y : Subject) (b c : Behaviours) (is_x : IsGraph x.graph) (is_y : IsG
       let recipe = writer_has_recipe x is_x reaches o f wrote in
       (recipe_of x o, Has-map (recipe_of x) kept o (Has-filter is_recipe (serial_order x.graph) o (writer_in_order x is_x reaches o f wrote) recipe), (wrote, not_true (has_file y f) (λ has. lacks ((has_is y is_y exact c f).0 has))))
 
-  module _ (always : List Bool) (made : (t : ℕ) → (get_or always t false ≡ true) ↔ IsAlwaysMade y.graph t) (rows : List NodeRow) (entries : AreEntries y rows) where
+  module _ (always : List Bool) (made : (t : ℕ) → (get_or always t false ≡ true) ↔ IsAlwaysMade y.graph t) (rows : List NodeRow) (entries : AreRows y rows) where
     -- rows of the new build lead to what is made anew
     anew_from : (f : List ℕ) → Among (Renews (past_of x) y always) rows f → OwnsFile (build_of x b) f × IsMadeAnew all_rules (build_of x b) (build_of y c) f
     anew_from f (e, among, (wrote, own, anew)) =
         let both = and_parts (not (get_or always e.number false)) (cant_stay (past_of x) y e) anew in (
           (owns_is x is_x exact b f).0 own,
-          (e.number, row_writes y is_y reaches rows entries e f among wrote, (λ m. not_from (get_or always e.number false) both.0 ((made e.number).1 m)), (stay_decides x y b c is_x is_y reaches exact one e (is_entry y is_y reaches rows entries e among)).0 both.1),
+          (e.number, row_wrote y is_y reaches rows entries e f among wrote, (λ m. not_from (get_or always e.number false) both.0 ((made e.number).1 m)), (stay_decides x y b c is_x is_y reaches exact one e (is_entry y is_y reaches rows entries e among)).0 both.1),
         )
 
     anew_for : (f : List ℕ) → OwnsFile (build_of x b) f → IsMadeAnew all_rules (build_of x b) (build_of y c) f → Among (Renews (past_of x) y always) rows f
@@ -200,18 +200,18 @@ moved_has before after moved f =
 abbrev kept_as : List ℕ → List (List ℕ) → List (List ℕ) → List (List ℕ) → PastRecipe
 kept_as target commands reads writes = record { target = target; commands = commands; reads = reads; writes = writes }
 
-row_kept : (x : Subject) (e : NodeRow) → IsEntry x e → recipe_in e ≡ recipe_of x e.number
+row_kept : (x : Subject) (e : NodeRow) → IsRow x e → recipe_in e ≡ recipe_of x e.number
 row_kept x e is =
-    ap (λ (t : List ℕ). kept_as t e.commands.lines (entry_reads e) (entry_writes e)) (ap (λ (n : Node). n.name) is.same_node) ∙
-    (ap (λ (l : List (List ℕ)). kept_as (name_of x e.number) l (entry_reads e) (entry_writes e)) (sym (ap lines_in is.same_commands)) ∙
-    (ap (λ (l : List (List ℕ)). kept_as (name_of x e.number) (lines_in (commands_of x e.number)) l (entry_writes e)) (same_reads x e is) ∙
+    ap (λ (t : List ℕ). kept_as t e.commands.lines (row_reads e) (row_writes e)) (ap (λ (n : Node). n.name) is.same_node) ∙
+    (ap (λ (l : List (List ℕ)). kept_as (name_of x e.number) l (row_reads e) (row_writes e)) (sym (ap lines_in is.same_commands)) ∙
+    (ap (λ (l : List (List ℕ)). kept_as (name_of x e.number) (lines_in (commands_of x e.number)) l (row_writes e)) (same_reads x e is) ∙
     ap (λ (l : List (List ℕ)). kept_as (name_of x e.number) (lines_in (commands_of x e.number)) (reads_of x e.number) l) (same_writes x e is)))
 
-kept_all : (x : Subject) (rows : List NodeRow) → All (IsEntry x) rows
+kept_all : (x : Subject) (rows : List NodeRow) → All (IsRow x) rows
     → map recipe_in (filter (λ (e : NodeRow). e.node.recipe) rows) ≡ map (recipe_of x) (filter (λ n. (node x.graph n).recipe) (map (λ (e : NodeRow). e.number) rows))
 kept_all x [] h = refl
 kept_all x (e ∷ rows) h =
-    by (node x.graph e.number).recipe (ap (λ (n : Node). n.recipe) (All-head (IsEntry x) e rows h).same_node) (row_kept x e (All-head (IsEntry x) e rows h)) (kept_all x rows (All-tail (IsEntry x) e rows h))
+    by (node x.graph e.number).recipe (ap (λ (n : Node). n.recipe) (All-head (IsRow x) e rows h).same_node) (row_kept x e (All-head (IsRow x) e rows h)) (kept_all x rows (All-tail (IsRow x) e rows h))
   where
     front : {v : Bool} → e.node.recipe ≡ v
         → map recipe_in (cond e.node.recipe (e ∷ filter (λ (k : NodeRow). k.node.recipe) rows) (filter (λ (k : NodeRow). k.node.recipe) rows))
@@ -225,7 +225,7 @@ kept_all x (e ∷ rows) h =
     by true t this rest = front t ∙ (ap (λ (r : PastRecipe). r ∷ map recipe_in (filter (λ (k : NodeRow). k.node.recipe) rows)) this ∙ ap (λ (l : List PastRecipe). recipe_of x e.number ∷ l) rest)
     by false t this rest = front t ∙ rest
 
-pub recipes_kept : (x : Subject) (rows : List NodeRow) → AreEntries x rows → map recipe_in (filter (λ (e : NodeRow). e.node.recipe) rows) ≡ (past_of x).recipes
+pub recipes_kept : (x : Subject) (rows : List NodeRow) → AreRows x rows → map recipe_in (filter (λ (e : NodeRow). e.node.recipe) rows) ≡ (past_of x).recipes
 recipes_kept x rows entries =
     kept_all x rows entries.right ∙ ap (λ (ns : List ℕ). map (recipe_of x) (filter (λ n. (node x.graph n).recipe) ns)) entries.in_order
 
@@ -246,12 +246,12 @@ recipe_skip rows i d recipes lt none so =
     so ∙ ap (map recipe_in) (sym (filter_more test rows i d lt ∙ (ap (λ (v : Bool). filter test (take i rows) ++ cond v (this ∷ []) []) none ∙ append-nil (filter test (take i rows)))))
 
 -- what rows write is what recipes write
-writes_by : (x : Subject) (rows : List NodeRow) → All (IsEntry x) rows → flat_map (λ (e : NodeRow). entry_writes e) rows ≡ flat_map (writes_of x) (map (λ (e : NodeRow). e.number) rows)
+writes_by : (x : Subject) (rows : List NodeRow) → All (IsRow x) rows → flat_map (λ (e : NodeRow). row_writes e) rows ≡ flat_map (writes_of x) (map (λ (e : NodeRow). e.number) rows)
 writes_by x [] h = refl
 writes_by x (e ∷ rows) h =
-    ap (λ (l : List (List ℕ)). l ++ flat_map (λ (k : NodeRow). entry_writes k) rows) (same_writes x e (All-head (IsEntry x) e rows h)) ∙ ap (λ (l : List (List ℕ)). writes_of x e.number ++ l) (writes_by x rows (All-tail (IsEntry x) e rows h))
+    ap (λ (l : List (List ℕ)). l ++ flat_map (λ (k : NodeRow). row_writes k) rows) (same_writes x e (All-head (IsRow x) e rows h)) ∙ ap (λ (l : List (List ℕ)). writes_of x e.number ++ l) (writes_by x rows (All-tail (IsRow x) e rows h))
 
-pub all_written : (x : Subject) (rows : List NodeRow) → AreEntries x rows → flat_map (λ (e : NodeRow). entry_writes e) rows ≡ all_writes x
+pub all_written : (x : Subject) (rows : List NodeRow) → AreRows x rows → flat_map (λ (e : NodeRow). row_writes e) rows ≡ all_writes x
 all_written x rows entries = writes_by x rows entries.right ∙ ap (λ (ns : List ℕ). flat_map (writes_of x) ns) entries.in_order
 
 -- what a list leads to, with one more
@@ -259,16 +259,16 @@ flat_append : {A : Type 0} (f : A → List (List ℕ)) (xs ys : List A) → flat
 flat_append f [] ys = refl
 flat_append f (x ∷ xs) ys = ap (λ (l : List (List ℕ)). f x ++ l) (flat_append f xs ys) ∙ sym (append_assoc (f x) (flat_map f xs) (flat_map f ys))
 
-flat_more : (rows : List NodeRow) (i : ℕ) (d : NodeRow) → i < length rows → flat_map (λ (e : NodeRow). entry_writes e) (take (i + 1) rows) ≡ flat_map (λ (e : NodeRow). entry_writes e) (take i rows) ++ entry_writes (get_or rows i d)
+flat_more : (rows : List NodeRow) (i : ℕ) (d : NodeRow) → i < length rows → flat_map (λ (e : NodeRow). row_writes e) (take (i + 1) rows) ≡ flat_map (λ (e : NodeRow). row_writes e) (take i rows) ++ row_writes (get_or rows i d)
 flat_more rows i d lt =
-    let writes : NodeRow → List (List ℕ) = λ (e : NodeRow). entry_writes e in
+    let writes : NodeRow → List (List ℕ) = λ (e : NodeRow). row_writes e in
     let this = get_or rows i d in
-    ap (flat_map writes) (take_more rows i d lt) ∙ (flat_append writes (take i rows) (this ∷ []) ∙ ap (λ (l : List (List ℕ)). flat_map writes (take i rows) ++ l) (append-nil (entry_writes this)))
+    ap (flat_map writes) (take_more rows i d lt) ∙ (flat_append writes (take i rows) (this ∷ []) ∙ ap (λ (l : List (List ℕ)). flat_map writes (take i rows) ++ l) (append-nil (row_writes this)))
 
-pub written_more : (rows : List NodeRow) (i : ℕ) (d : NodeRow) (initial names new files : List (List ℕ)) → i < length rows → files ≡ entry_writes (get_or rows i d) → new ≡ names ++ files
-    → names ≡ initial ++ flat_map (λ (e : NodeRow). entry_writes e) (take i rows) → new ≡ initial ++ flat_map (λ (e : NodeRow). entry_writes e) (take (i + 1) rows)
+pub written_more : (rows : List NodeRow) (i : ℕ) (d : NodeRow) (initial names new files : List (List ℕ)) → i < length rows → files ≡ row_writes (get_or rows i d) → new ≡ names ++ files
+    → names ≡ initial ++ flat_map (λ (e : NodeRow). row_writes e) (take i rows) → new ≡ initial ++ flat_map (λ (e : NodeRow). row_writes e) (take (i + 1) rows)
 written_more rows i d initial names new files lt same pushed so =
-    let writes : NodeRow → List (List ℕ) = λ (e : NodeRow). entry_writes e in
+    let writes : NodeRow → List (List ℕ) = λ (e : NodeRow). row_writes e in
     pushed ∙ (ap (λ (l : List (List ℕ)). l ++ files) so ∙ (append_assoc initial (flat_map writes (take i rows)) files ∙ ap (λ (l : List (List ℕ)). initial ++ l) (ap (λ (l : List (List ℕ)). flat_map writes (take i rows) ++ l) same ∙ sym (flat_more rows i d lt))))
 
 -- the same names in another order

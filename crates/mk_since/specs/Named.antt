@@ -5,7 +5,7 @@ use Rattle.mk_infer.specs.Commands.{commands}
 use Rattle.mk_build.specs.Setting.{FileName, IsAlwaysMade}
 use Rattle.mk_build_behaviours.specs.Behaviours.{Behaviours}
 use Rattle.mk_build_since.specs.Named.{Build, IsNamed, all_rules}
-use Rattle.mk_subject.specs.NodeRow.{NodeRow, AreEntries}
+use Rattle.mk_subject.specs.NodeRow.{NodeRow, AreRows}
 use Rattle.mk_subject.specs.Subject.{Subject, footprints}
 use Rattle.mk_since.specs.Parts.{Among, Leaves, Renews}
 use Rattle.mk_since.specs.Past.{Past, lines_in}
@@ -32,7 +32,7 @@ pub record AreNamedBy (past : Past) (y : Subject) (names : List FileName) : Type
   pub always : List Bool
   pub always_made : (t : ℕ) → (slice_index_or always t false ≡ true) ↔ IsAlwaysMade y.graph t
   pub entries : List NodeRow
-  pub are_entries : AreEntries y entries
+  pub are_entries : AreRows y entries
   pub all : (f : FileName) →
       Has names f ↔
       (Among (Leaves y) past.recipes f ⊎ Among (Renews past y always) entries f)

@@ -7,7 +7,7 @@ use Rattle.mk_lines.specs.Names.{has_name, with_name}
 use Rattle.mk_foot.specs.Setting.{is_given}
 use Rattle.mk_graph.specs.Membership.{Has}
 use Rattle.mk_build.specs.Setting.{FileName}
-use Rattle.mk_subject.specs.NodeRow.{NodeRow, entry_reads, entry_writes, lines_eq}
+use Rattle.mk_subject.specs.NodeRow.{NodeRow, row_reads, row_writes, lines_eq}
 use Rattle.mk_subject.specs.Subject.{Subject, all_writes}
 use Rattle.mk_since.specs.Past.{Past, PastRecipe}
 
@@ -16,8 +16,8 @@ abbrev pub recipe_in : NodeRow → PastRecipe
 recipe_in e = record {
   target = e.node.name;
   commands = e.commands.lines;
-  reads = entry_reads e;
-  writes = entry_writes e;
+  reads = row_reads e;
+  writes = row_writes e;
 }
 
 -- Whether the build has the file: it is given, or a recipe writes it.
@@ -40,8 +40,8 @@ read_text y r = list_any (has_name y.setting.texts) r.reads
 abbrev pub is_other : Subject → PastRecipe → NodeRow → Bool
 is_other y r e =
     not (lines_eq r.commands e.commands.lines) ||
-    (are_others r.writes (entry_writes e) ||
-    (are_others r.reads (entry_reads e) || read_text y r))
+    (are_others r.writes (row_writes e) ||
+    (are_others r.reads (row_reads e) || read_text y r))
 
 -- The old recipe with this target, if there is one.
 abbrev pub recipe_for : Past → FileName → Option PastRecipe
@@ -77,4 +77,4 @@ Leaves y r f = Has r.writes f × (not (has_file y f) ≡ true)
 -- The row of the new build y is made anew and writes the file, which the old build has itself.
 abbrev pub Renews : Past → Subject → List Bool → NodeRow → FileName → Type 0
 Renews past y always e f =
-    Has (entry_writes e) f × (has_name past.own f ≡ true) × (is_made_anew past y always e ≡ true)
+    Has (row_writes e) f × (has_name past.own f ≡ true) × (is_made_anew past y always e ≡ true)

@@ -7,7 +7,7 @@ ghost use Rattle.std.specs.Ordering.{nat_cmp};
 ghost use Rattle.std.specs.String.{string_bytes};
 ghost use Rattle.mk_lines.specs.Names.{has_name};
 ghost use Rattle.mk_graph.specs.Membership.{Has};
-ghost use Rattle.mk_subject.specs.NodeRow.{AreEntries, NodeRow as RowValue};
+ghost use Rattle.mk_subject.specs.NodeRow.{AreRows, NodeRow as RowValue};
 ghost use Rattle.mk_since.specs.Named.{AreNamedBy};
 ghost use Rattle.mk_since.specs.Parts.{Among, Leaves, Renews, has_file, is_made_anew, with_those};
 
@@ -73,16 +73,16 @@ fn is_made_anew(
     past: &Past,
     subject: &Subject<'_>,
     always: &[bool],
-    entry: &NodeRow<'_>,
+    row: &NodeRow<'_>,
 ) -> Result<bool, AllocError>
     ensures { IfOk result (λ anew. anew ≡
-        is_made_anew past.now subject.now always.now entry.now) }
+        is_made_anew past.now subject.now always.now row.now) }
 {
-    let is_always_made = match always.get(entry.number) {
+    let is_always_made = match always.get(row.number) {
         Some(is_always_made) => *is_always_made,
         None => false,
     };
-    Ok(!is_always_made && cant_stay(alloc, past, subject, entry)?)
+    Ok(!is_always_made && cant_stay(alloc, past, subject, row)?)
 }
 
 /// Adds the files of the old build among those that are made anew.
@@ -93,7 +93,7 @@ fn note_made_anew<'a>(
     always: &[bool],
     names: &mut BorrowedNames<'a>,
 ) -> Result<(), AllocError>
-    ensures { OnOk result ((entries : List RowValue) × (AreEntries subject.now entries ×
+    ensures { OnOk result ((entries : List RowValue) × (AreRows subject.now entries ×
         ((f : List ℕ) → Has names.new f ↔ (Has names.old f ⊎
         Among (Renews past.now subject.now always.now) entries f)))) }
 {

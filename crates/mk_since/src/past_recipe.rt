@@ -91,27 +91,27 @@ fn copies_of_lines(alloc: Global, lines: &[Vec<u8>]) -> Result<Vec<Vec<u8>>, All
 }
 
 /// The expanded commands of a node. The only error is out of memory.
-fn lines_of(alloc: Global, entry: &NodeRow<'_>) -> Result<Vec<Vec<u8>>, AllocError>
+fn lines_of(alloc: Global, row: &NodeRow<'_>) -> Result<Vec<Vec<u8>>, AllocError>
     ensures { IfOk result (λ lines. map (λ line. line.items) lines.items ≡
-        entry.now.commands.lines) }
+        row.now.commands.lines) }
 {
-    if entry.others {
-        return copies_of_lines(alloc, &entry.own);
+    if row.others {
+        return copies_of_lines(alloc, &row.own);
     }
-    match entry.recorded {
+    match row.recorded {
         Some(record) => bytes_of(alloc, &record.commands),
-        None => copies_of_lines(alloc, &entry.own),
+        None => copies_of_lines(alloc, &row.own),
     }
 }
 
 /// What is kept of a recipe. The only error is out of memory.
-pub fn past_recipe(alloc: Global, entry: &NodeRow<'_>) -> Result<PastRecipe, AllocError>
-    ensures { IfOk result (λ r. r ≡ recipe_in entry.now) }
+pub fn past_recipe(alloc: Global, row: &NodeRow<'_>) -> Result<PastRecipe, AllocError>
+    ensures { IfOk result (λ r. r ≡ recipe_in row.now) }
 {
     Ok(PastRecipe {
-        target: String::from_str(alloc, entry.name())?,
-        commands: lines_of(alloc, entry)?,
-        reads: copies_of(alloc, entry.reads())?,
-        writes: copies_of(alloc, entry.writes())?,
+        target: String::from_str(alloc, row.name())?,
+        commands: lines_of(alloc, row)?,
+        reads: copies_of(alloc, row.reads())?,
+        writes: copies_of(alloc, row.writes())?,
     })
 }

@@ -60,15 +60,15 @@ fn are_lines(lines: &[Vec<u8>], own: &[Vec<u8>]) -> bool
 }
 
 /// Whether these lines equal the commands of the node. Allocates nothing.
-fn are_commands(lines: &[Vec<u8>], entry: &NodeRow<'_>) -> bool
-    ensures { result ≡ lines_eq (map (λ line. line.items) lines.now) entry.now.commands.lines }
+fn are_commands(lines: &[Vec<u8>], row: &NodeRow<'_>) -> bool
+    ensures { result ≡ lines_eq (map (λ line. line.items) lines.now) row.now.commands.lines }
 {
-    if entry.others {
-        return are_lines(lines, &entry.own);
+    if row.others {
+        return are_lines(lines, &row.own);
     }
-    match entry.recorded {
+    match row.recorded {
         Some(record) => are_texts(lines, &record.commands),
-        None => are_lines(lines, &entry.own),
+        None => are_lines(lines, &row.own),
     }
 }
 
@@ -133,14 +133,14 @@ fn is_other(
     alloc: Global,
     subject: &Subject<'_>,
     old: &PastRecipe,
-    entry: &NodeRow<'_>,
+    row: &NodeRow<'_>,
 ) -> Result<bool, AllocError>
-    ensures { IfOk result (λ other. other ≡ is_other subject.now old.now entry.now) }
+    ensures { IfOk result (λ other. other ≡ is_other subject.now old.now row.now) }
 {
     Ok(
-        !are_commands(&old.commands, entry)
-            || are_others(alloc, &old.writes, entry.writes())?
-            || are_others(alloc, &old.reads, entry.reads())?
+        !are_commands(&old.commands, row)
+            || are_others(alloc, &old.writes, row.writes())?
+            || are_others(alloc, &old.reads, row.reads())?
             || read_text(subject, old),
     )
 }
@@ -152,12 +152,12 @@ pub fn cant_stay(
     alloc: Global,
     past: &Past,
     subject: &Subject<'_>,
-    entry: &NodeRow<'_>,
+    row: &NodeRow<'_>,
 ) -> Result<bool, AllocError>
-    ensures { IfOk result (λ gone. gone ≡ cant_stay past.now subject.now entry.now) }
+    ensures { IfOk result (λ gone. gone ≡ cant_stay past.now subject.now row.now) }
 {
-    match past.recipe(entry.name()) {
-        Some(old) => is_other(alloc, subject, old, entry),
+    match past.recipe(row.name()) {
+        Some(old) => is_other(alloc, subject, old, row),
         None => Ok(true),
     }
 }

@@ -6,18 +6,18 @@ use Rattle.std.proofs.lemmas.List.Sums.{sum_by-cons}
 use Rattle.mk_graph.specs.declared.node.Node.{Node}
 use Rattle.mk_graph.specs.Graph.{node}
 use Rattle.mk_subject.specs.Subject.{Subject, reads_of}
-use Rattle.mk_subject.specs.NodeRow.{NodeRow, IsEntry}
+use Rattle.mk_subject.specs.NodeRow.{NodeRow, IsRow}
 
 one_recipe : (e : NodeRow) (es : List NodeRow) (n : ℕ) (ns : List ℕ) (b : Bool) → length es ≡ length ns → length (cond b (e ∷ es) es) ≡ length (cond b (n ∷ ns) ns)
 one_recipe e es n ns true same = ap (λ k. suc k) same
 one_recipe e es n ns false same = same
 
-pub recipes_counted : (x : Subject) (entries : List NodeRow) → All (IsEntry x) entries → length (filter (λ (e : NodeRow). e.node.recipe) entries) ≡ length (filter (λ t. (node x.graph t).recipe) (map (λ (e : NodeRow). e.number) entries))
+pub recipes_counted : (x : Subject) (entries : List NodeRow) → All (IsRow x) entries → length (filter (λ (e : NodeRow). e.node.recipe) entries) ≡ length (filter (λ t. (node x.graph t).recipe) (map (λ (e : NodeRow). e.number) entries))
 recipes_counted x [] h = refl
 recipes_counted x (e ∷ es) h =
-    let same : e.node.recipe ≡ (node x.graph e.number).recipe = ap (λ (n : Node). n.recipe) (All-head (IsEntry x) e es h).same_node in
+    let same : e.node.recipe ≡ (node x.graph e.number).recipe = ap (λ (n : Node). n.recipe) (All-head (IsRow x) e es h).same_node in
     ap (λ b. length (cond b (e ∷ filter (λ (k : NodeRow). k.node.recipe) es) (filter (λ (k : NodeRow). k.node.recipe) es))) same
-    ∙ one_recipe e (filter (λ (k : NodeRow). k.node.recipe) es) e.number (filter (λ t. (node x.graph t).recipe) (map (λ (k : NodeRow). k.number) es)) (node x.graph e.number).recipe (recipes_counted x es (All-tail (IsEntry x) e es h))
+    ∙ one_recipe e (filter (λ (k : NodeRow). k.node.recipe) es) e.number (filter (λ t. (node x.graph t).recipe) (map (λ (k : NodeRow). k.number) es)) (node x.graph e.number).recipe (recipes_counted x es (All-tail (IsRow x) e es h))
 
 pub reads_counted : (x : Subject) (entries : List NodeRow) → sum_by (λ (e : NodeRow). length (reads_of x e.number)) entries ≡ sum_by (λ t. length (reads_of x t)) (map (λ (e : NodeRow). e.number) entries)
 reads_counted x [] = refl

@@ -7,7 +7,7 @@ use Rattle.std.proofs.lemmas.List.Elements.{filter_more}
 use Rattle.mk_infer.proofs.TableLemmas.{at_name}
 use Rattle.mk_lines.proofs.NameTests.{has_name-or_equal, has_name-push}
 use Rattle.mk_lines.specs.Names.{has_name}
-use Rattle.mk_subject.specs.NodeRow.{NodeRow, entry_writes}
+use Rattle.mk_subject.specs.NodeRow.{NodeRow, row_writes}
 
 -- which files stand among those up to a place
 stands_more : (files : List (List ℕ)) (i : ℕ) (name : List ℕ) → i < length files → has_name (take (i + 1) files) name ≡ (has_name (take i files) name || bytes_eq name (get_or files i []))
@@ -28,11 +28,11 @@ noted_more files i name before after old number lt unseen h k =
     k ∙ (at_name (take i files) x name old number before unseen h (bytes_eq name x) refl ∙ ap (λ b. cond b (old ++ number ∷ []) old) (sym (stands_more files i name lt)))
 
 -- one node more
-pub writing_more : (entries : List NodeRow) (i : ℕ) (d : NodeRow) (name : List ℕ) (before after : List ℕ) → after ≡ cond (has_name (entry_writes (get_or entries i d)) name) (before ++ (get_or entries i d).number ∷ []) before
-    → before ≡ map (λ (e : NodeRow). e.number) (filter (λ (e : NodeRow). has_name (entry_writes e) name) (take i entries)) → i < length entries
-    → after ≡ map (λ (e : NodeRow). e.number) (filter (λ (e : NodeRow). has_name (entry_writes e) name) (take (i + 1) entries))
+pub writing_more : (entries : List NodeRow) (i : ℕ) (d : NodeRow) (name : List ℕ) (before after : List ℕ) → after ≡ cond (has_name (row_writes (get_or entries i d)) name) (before ++ (get_or entries i d).number ∷ []) before
+    → before ≡ map (λ (e : NodeRow). e.number) (filter (λ (e : NodeRow). has_name (row_writes e) name) (take i entries)) → i < length entries
+    → after ≡ map (λ (e : NodeRow). e.number) (filter (λ (e : NodeRow). has_name (row_writes e) name) (take (i + 1) entries))
 writing_more entries i d name before after e h lt =
-    let test : NodeRow → Bool = λ entry. has_name (entry_writes entry) name in
+    let test : NodeRow → Bool = λ entry. has_name (row_writes entry) name in
     let number : NodeRow → ℕ = λ entry. entry.number in
     let this = get_or entries i d in
     e ∙ (at (test this) ∙ (ap (λ ls. ls ++ map number (cond (test this) (this ∷ []) [])) h ∙ (sym (map-append number (filter test (take i entries)) (cond (test this) (this ∷ []) [])) ∙ ap (map number) (sym (filter_more test entries i d lt)))))

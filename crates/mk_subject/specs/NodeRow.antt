@@ -69,7 +69,7 @@ abbrev pub StaysChosen : Subject → ℕ → Type 0
 StaysChosen x n = choice_after x n ≡ choice x.makefile x.there (name_of x n)
 
 -- The entry holds what is so of the node with its number, and its record lists no read twice.
-pub record IsEntry (x : Subject) (e : NodeRow) : Type 0 where
+pub record IsRow (x : Subject) (e : NodeRow) : Type 0 where
   pub same_node : e.node ≡ node x.graph e.number
   pub same_record : e.recorded ≡ record_of x e.number
   pub distinct : once (reads_in e.recorded) ≡ reads_in e.recorded
@@ -82,19 +82,19 @@ pub record IsEntry (x : Subject) (e : NodeRow) : Type 0 where
 -- The entries are right, and for these nodes in this order.
 pub record AreEntriesOf (x : Subject) (order : List ℕ) (entries : List NodeRow) : Type 0 where
   pub in_order : map (λ (e : NodeRow). e.number) entries ≡ order
-  pub right : All (IsEntry x) entries
+  pub right : All (IsRow x) entries
 
 -- The entries are right, one for each node in the serial order.
-abbrev pub AreEntries : Subject → List NodeRow → Type 0
-AreEntries x entries = AreEntriesOf x (serial_order x.graph) entries
+abbrev pub AreRows : Subject → List NodeRow → Type 0
+AreRows x entries = AreEntriesOf x (serial_order x.graph) entries
 
 -- The files that the node's recipe reads; none without a recipe.
-abbrev pub entry_reads : NodeRow → List (List ℕ)
-entry_reads e = if e.node.recipe then reads_in e.recorded else []
+abbrev pub row_reads : NodeRow → List (List ℕ)
+row_reads e = if e.node.recipe then reads_in e.recorded else []
 
 -- The files that the node's recipe writes; none without a recipe.
-abbrev pub entry_writes : NodeRow → List (List ℕ)
-entry_writes e = if e.node.recipe then writes_in e.recorded else []
+abbrev pub row_writes : NodeRow → List (List ℕ)
+row_writes e = if e.node.recipe then writes_in e.recorded else []
 
 -- The nodes that write a file, in the serial order.
 abbrev pub writers_of : Subject → List ℕ → List ℕ

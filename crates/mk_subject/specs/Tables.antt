@@ -3,7 +3,7 @@ use Rattle.std.specs.Prelude.{◌≡◌, ℕ, ◌<◌, List, [], length, slice_i
 use Rattle.mk_graph.specs.Graph.{IsGraph}
 use Rattle.mk_infer.specs.Commands.{Commands}
 use Rattle.mk_subject.specs.Subject.{Subject, commands_of, reads_of, writes_of}
-use Rattle.mk_subject.specs.NodeRow.{NodeRow, AreEntries}
+use Rattle.mk_subject.specs.NodeRow.{NodeRow, AreRows}
 use Rattle.mk_subject.specs.FileInfo.{FileInfo, AreFiles, StandAt, all_names, known_of}
 use Rattle.mk_subject.specs.Target.{unsettled_of}
 
@@ -14,7 +14,7 @@ pub record AreTables (x : Subject) (entries : List NodeRow) (names : List (List 
     (writes reads unsettled : List (List ℕ)) : Type 0 where
   pub is_graph : IsGraph x.graph
   pub told : (n : ℕ) → n < length x.graph.nodes → (found : Commands) × (commands_of x n ≡ Ok found)
-  pub entries_held : AreEntries x entries
+  pub entries_held : AreRows x entries
   pub names_held : names ≡ all_names x
   pub files_held :
       AreFiles (known_of x) (all_names x) (writes_of x) (reads_of x) files known nodes writes reads

@@ -42,24 +42,30 @@ impl Model for FileInfo {
         } };
 }
 
+/// Where the facts about a file are looked up, and the allocator of what is looked up.
+#[derive(Drop)]
+pub struct Sources<'s, 't, 'a> {
+    pub alloc: Global,
+    pub table: &'s RuleTable<'t>,
+    pub setting: &'a Setting,
+    pub writers: &'s Writers<'a>,
+    /// The names of the nodes, in the order of their numbers.
+    pub names: &'s BorrowedNames<'a>,
+}
+
 /// Looks up all that a `FileInfo` holds for a file. The only error is out of memory.
-pub fn known_of(
-    alloc: Global,
-    table: &RuleTable<'_>,
-    setting: &Setting,
-    writers: &Writers<'_>,
-    names: &BorrowedNames<'_>,
-    file: &str,
-) -> Result<FileInfo, AllocError>
-    ensures { IfOk result (λ known. known ≡
-        known_by table.now setting.now (numbers_at writers.now) names.now file.now) }
+pub fn known_of(sources: &Sources<'_, '_, '_>, file: &str) -> Result<FileInfo, AllocError>
+    ensures { IfOk result (λ known. known ≡ known_by sources.now.table.now
+        sources.now.setting.now (numbers_at sources.now.writers.now) sources.now.names.now
+        file.now) }
 {
+    let setting = sources.setting;
     let given = setting.is_given(file);
     Ok(FileInfo {
-        writers: FileWriters::of(alloc, writers_at(writers, file))?,
+        writers: FileWriters::of(sources.alloc, writers_at(sources.writers, file))?,
         given,
         editable: setting.is_editable(file),
-        taken: given || table.is_phony(file) || setting.is_passed_over(file),
-        number: names.number_of(file),
+        taken: given || sources.table.is_phony(file) || setting.is_passed_over(file),
+        number: sources.names.number_of(file),
     })
 }

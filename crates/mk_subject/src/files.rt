@@ -9,12 +9,11 @@ ghost use Rattle.mk_subject.specs.FileInfo.{AreFiles, AreKnown, StandAt, known_b
 ghost use Rattle.mk_subject.specs.Subject.{footprints};
 ghost use Rattle.mk_subject.specs.Writers.{numbers_at};
 
-use crate::file_info::{FileInfo, known_of};
+use crate::file_info::{FileInfo, Sources, known_of};
 use crate::number_rows::NumberRows;
 use crate::records::Records;
 use crate::writers::Writers;
 use indexmap::IndexSet;
-use mk_foot::Setting;
 use mk_graph::Node;
 use mk_infer::RuleTable;
 use mk_lines::BorrowedNames;
@@ -38,38 +37,8 @@ pub struct Files<'a> {
     pub reads: NumberRows,
 }
 
-/// Where the facts about a file are looked up.
-#[derive(Drop)]
-struct Sources<'s, 't, 'a> {
-    table: &'s RuleTable<'t>,
-    setting: &'a Setting,
-    writers: &'s Writers<'a>,
-    names: &'s BorrowedNames<'a>,
-}
-
-/// Looks up what a `FileInfo` holds for a file.
-fn known_by(
-    alloc: Global,
-    sources: &Sources<'_, '_, '_>,
-    file: &str,
-) -> Result<FileInfo, AllocError>
-    ensures { IfOk result (λ known. known ≡ known_by sources.now.table.now
-        sources.now.setting.now (numbers_at sources.now.writers.now) sources.now.names.now
-        file.now) }
-{
-    known_of(
-        alloc,
-        sources.table,
-        sources.setting,
-        sources.writers,
-        sources.names,
-        file,
-    )
-}
-
 /// The index of a file, which is added with its facts if it is new.
 fn place_for<'a>(
-    alloc: Global,
     sources: &Sources<'_, '_, '_>,
     files: &mut IndexSet<&'a str>,
     known: &mut Vec<FileInfo>,
@@ -87,14 +56,13 @@ fn place_for<'a>(
 {
     let (place, is_new) = files.insert_full(file)?;
     if is_new {
-        known.push(known_by(alloc, sources, file)?)?;
+        known.push(known_of(sources, file)?)?;
     }
     Ok(place)
 }
 
 /// The indices of the names of the nodes.
 fn places_of_nodes<'a>(
-    alloc: Global,
     sources: &Sources<'_, '_, '_>,
     files: &mut IndexSet<&'a str>,
     known: &mut Vec<FileInfo>,
@@ -108,9 +76,9 @@ fn places_of_nodes<'a>(
     ensures here { IfOk result (λ places. StandAt (map (λ f. f.now) files.new.keys) places.items
         (map (λ (n : NodeValue). n.name) nodes.entry.now)) }
 {
-    let mut places = Vec::with_capacity(alloc, nodes.len())?;
+    let mut places = Vec::with_capacity(sources.alloc, nodes.len())?;
     for node in nodes {
-        let place = place_for(alloc, sources, files, known, node.name.as_str())?;
+        let place = place_for(sources, files, known, node.name.as_str())?;
         places.push(place)?;
     }
     Ok(places)
@@ -118,7 +86,6 @@ fn places_of_nodes<'a>(
 
 /// The indices of the files that a record lists.
 fn places_for<'a>(
-    alloc: Global,
     sources: &Sources<'_, '_, '_>,
     files: &mut IndexSet<&'a str>,
     known: &mut Vec<FileInfo>,
@@ -134,9 +101,9 @@ fn places_for<'a>(
     ensures here { IfOk result (λ places. StandAt (map (λ f. f.now) files.new.keys) places.items
         (map string_bytes listed.entry.now)) }
 {
-    let mut places = Vec::with_capacity(alloc, listed.len())?;
+    let mut places = Vec::with_capacity(sources.alloc, listed.len())?;
     for file in listed {
-        let place = place_for(alloc, sources, files, known, file.as_str())?;
+        let place = place_for(sources, files, known, file.as_str())?;
         places.push(place)?;
     }
     Ok(places)
@@ -144,7 +111,6 @@ fn places_for<'a>(
 
 /// Appends a row with the indices of the files that a record lists.
 fn push_row<'a>(
-    alloc: Global,
     sources: &Sources<'_, '_, '_>,
     files: &mut IndexSet<&'a str>,
     known: &mut Vec<FileInfo>,
@@ -161,7 +127,7 @@ fn push_row<'a>(
     ensures here { OnOk result ((row : List ℕ) × (rows.new ≡ rows.old ++ row ∷ []) ×
         StandAt (map (λ f. f.now) files.new.keys) row (map string_bytes listed.entry.now)) }
 {
-    let places = places_for(alloc, sources, files, known, listed)?;
+    let places = places_for(sources, files, known, listed)?;
     rows.push(&places)
 }
 
@@ -183,6 +149,7 @@ pub fn files_of<'a, 's>(
         files.writes files.reads) }
 {
     let sources = Sources {
+        alloc,
         table,
         setting: records.setting(),
         writers,
@@ -192,21 +159,14 @@ pub fn files_of<'a, 's>(
     let count = graph.nodes().len();
     let mut files = IndexSet::new(alloc);
     let mut known = Vec::new(alloc);
-    let nodes = places_of_nodes(alloc, &sources, &mut files, &mut known, graph.nodes())?;
+    let nodes = places_of_nodes(&sources, &mut files, &mut known, graph.nodes())?;
     let mut writes = NumberRows::with_capacity(alloc, count)?;
     let mut reads = NumberRows::with_capacity(alloc, count)?;
     for number in 0..count {
         let written = records.writes_of(number);
-        push_row(
-            alloc,
-            &sources,
-            &mut files,
-            &mut known,
-            written,
-            &mut writes,
-        )?;
+        push_row(&sources, &mut files, &mut known, written, &mut writes)?;
         let read = records.reads_of(number);
-        push_row(alloc, &sources, &mut files, &mut known, read, &mut reads)?;
+        push_row(&sources, &mut files, &mut known, read, &mut reads)?;
     }
     Ok(Files {
         names: files,

@@ -13,7 +13,7 @@ ghost use Rattle.mk_infer.specs.Laws.{with_more};
 ghost use Rattle.mk_infer.specs.There.{is_there};
 ghost use Rattle.mk_infer.specs.declared.fault.InferFault.TheVariants.{Memory};
 ghost use Rattle.mk_subject.specs.Subject.{footprints, commands_of, subject_of};
-ghost use Rattle.mk_subject.specs.NodeRow.{IsEntry, AreEntries, AreEntriesOf, IsFaultOf, IsFirstFault, StaysChosen, choice_after};
+ghost use Rattle.mk_subject.specs.NodeRow.{IsRow, AreRows, AreEntriesOf, IsFaultOf, IsFirstFault, StaysChosen, choice_after};
 
 use crate::node_row::{NodeRow, has_others, is_unwritten, kept_lines};
 use crate::records::Records;
@@ -99,17 +99,16 @@ fn choices_of(
 /// The inferred prerequisite of each of these nodes if the files `names` exist too.
 fn choices_with(
     alloc: Global,
-    table: &RuleTable<'_>,
-    there: &Exists<'_>,
+    choices: &Choices<'_>,
     names: &NameTable,
     graph: &Graph,
     order: &[usize],
 ) -> Result<Vec<Option<SharedName>>, AllocError>
     requires { All (λ n. n < length graph.now.nodes) order.now }
-    ensures { IfOk result (λ chosen. chosen.items ≡
-        map (λ n. choice table.now (with_more there.now names.now) (node graph.now n).name)
-        order.now) }
+    ensures { IfOk result (λ chosen. chosen.items ≡ map (λ n. choice choices.now.makefile (with_more
+        choices.now.exists names.now) (node graph.now n).name) order.now) }
 {
+    let there = choices.exists();
     let with = Exists {
         any_leaf: there.any_leaf,
         sources: there.sources,
@@ -117,8 +116,8 @@ fn choices_with(
         texts: there.texts,
         more: names,
     };
-    let choices = Choices::new(alloc, table, &with)?;
-    choices_of(alloc, &choices, graph, order)
+    let choices_then = Choices::new(alloc, choices.table(), &with)?;
+    choices_of(alloc, &choices_then, graph, order)
 }
 
 /// Shares the name, if there is one.
@@ -153,7 +152,7 @@ fn entry_of<'a>(
         (λ after. after.now ≡ choice_after
         (subject_of choices.now.makefile choices.now.exists
         records.now.graph records.now.setting) number) →
-        IsEntry (subject_of choices.now.makefile choices.now.exists
+        IsRow (subject_of choices.now.makefile choices.now.exists
         records.now.graph records.now.setting) entry) }
     ensures fault { IfErr result (λ fault. (fault ≡ Memory) ⊎ (commands_of
         (subject_of choices.now.makefile choices.now.exists
@@ -213,26 +212,27 @@ fn are_there(table: &RuleTable<'_>, there: &Exists<'_>, files: &[String]) -> boo
 /// `None`. The error is the first fault of the nodes' commands, or out of memory.
 fn entries_that_stay<'a>(
     alloc: Global,
-    table: &RuleTable<'_>,
-    there: &Exists<'_>,
     choices: &Choices<'_>,
     records: &Records<'a>,
     order: &[usize],
 ) -> Result<Option<Vec<NodeRow<'a>>>, InferFault>
     requires nodes { All (λ n. n < length records.now.graph.nodes) order.now }
     requires order { order.now ≡ serial_order records.now.graph }
-    requires choices { choices.now ≡ record { makefile = table.now; exists = there.now } }
-    requires nothing_more { there.now.more ≡ [] }
-    ensures entries { IfOk result (λ entries. IfSome entries (λ entries. AreEntries
-        (subject_of table.now there.now
+    requires nothing_more { choices.now.exists.more ≡ [] }
+    ensures entries { IfOk result (λ entries. IfSome entries (λ entries. AreRows
+        (subject_of choices.now.makefile choices.now.exists
         records.now.graph records.now.setting) entries.items)) }
     ensures fault { IfErr result (λ fault. IsFaultOf
-        (subject_of table.now there.now
+        (subject_of choices.now.makefile choices.now.exists
         records.now.graph records.now.setting) fault) }
 {
     let mut entries = Vec::with_capacity(alloc, order.len())?;
     for number in order {
-        if !are_there(table, there, records.writes_of(*number)) {
+        if !are_there(
+            choices.table(),
+            choices.exists(),
+            records.writes_of(*number),
+        ) {
             return Ok(None);
         }
         entries.push(entry_of(alloc, choices, records, *number, None)?)?;
@@ -243,20 +243,19 @@ fn entries_that_stay<'a>(
 /// The inferred prerequisite of each node after all recipes have written their files.
 fn choices_after(
     alloc: Global,
-    table: &RuleTable<'_>,
-    there: &Exists<'_>,
+    choices: &Choices<'_>,
     records: &Records<'_>,
     order: &[usize],
 ) -> Result<Vec<Option<SharedName>>, AllocError>
     requires nodes { All (λ n. n < length records.now.graph.nodes) order.now }
     requires order { order.now ≡ serial_order records.now.graph }
     ensures { IfOk result (λ chosen. chosen.items ≡ map (choice_after
-        (subject_of table.now there.now
+        (subject_of choices.now.makefile choices.now.exists
         records.now.graph records.now.setting)) order.now) }
 {
     let writes = writes_among(alloc, records, order)?;
     let names = NameTable::new(alloc, writes)?;
-    choices_with(alloc, table, there, &names, records.graph(), order)
+    choices_with(alloc, choices, &names, records.graph(), order)
 }
 
 /// The entry of each of these nodes, given their inferred prerequisites after all recipes have
@@ -309,7 +308,7 @@ pub fn entries_for<'a>(
     records: &Records<'a>,
 ) -> Result<Vec<NodeRow<'a>>, InferFault>
     requires { there.now.more ≡ [] }
-    ensures entries { IfOk result (λ entries. AreEntries
+    ensures entries { IfOk result (λ entries. AreRows
         (subject_of table.now there.now
         records.now.graph records.now.setting) entries.items) }
     ensures fault { IfErr result (λ fault. IsFaultOf
@@ -318,9 +317,9 @@ pub fn entries_for<'a>(
 {
     let order = numbers_in_order(records.graph())?;
     let choices = Choices::new(alloc, table, there)?;
-    if let Some(entries) = entries_that_stay(alloc, table, there, &choices, records, &order)? {
+    if let Some(entries) = entries_that_stay(alloc, &choices, records, &order)? {
         return Ok(entries);
     }
-    let after = choices_after(alloc, table, there, records, &order)?;
+    let after = choices_after(alloc, &choices, records, &order)?;
     entries_with(alloc, &choices, records, &order, &after)
 }

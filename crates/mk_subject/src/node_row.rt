@@ -3,7 +3,7 @@
 ghost use Rattle.std.specs.Prelude.{◌≡◌, map, IfOk};
 ghost use Rattle.std.specs.Option.{option_copied};
 ghost use Rattle.std.specs.String.{string_bytes};
-ghost use Rattle.mk_subject.specs.NodeRow.{reads_in, writes_in, entry_reads, entry_writes, has_others, is_unwritten, lines_eq, lines_with};
+ghost use Rattle.mk_subject.specs.NodeRow.{reads_in, writes_in, row_reads, row_writes, has_others, is_unwritten, lines_eq, lines_with};
 
 use crate::shared_name::SharedName;
 use mk_foot::{Record, contains_by_scan};
@@ -155,7 +155,7 @@ impl<'a> NodeRow<'a> {
 
     /// The files that its recipe reads: empty without a recipe or a record.
     pub fn reads(&self) -> &[String]
-        ensures { map string_bytes result.now ≡ entry_reads self.now }
+        ensures { map string_bytes result.now ≡ row_reads self.now }
     {
         if self.recipe {
             reads_in(self.recorded)
@@ -166,7 +166,7 @@ impl<'a> NodeRow<'a> {
 
     /// The files that its recipe writes: empty without a recipe or a record.
     pub fn writes(&self) -> &'a [String]
-        ensures { map string_bytes result.now ≡ entry_writes self.now }
+        ensures { map string_bytes result.now ≡ row_writes self.now }
     {
         if self.recipe {
             writes_in(self.recorded)

@@ -8,7 +8,7 @@ ghost use Rattle.mk_infer.specs.Selection.{Selects};
 ghost use Rattle.mk_subject.specs.FileInfo.{all_names, known_of};
 ghost use Rattle.mk_subject.specs.Subject.{Subject as SubjectValue, IsSubject, name_of, reads_of, subject_of, writes_of};
 ghost use Rattle.mk_subject.specs.Target.{target_of, unsettled_of};
-ghost use Rattle.mk_subject.specs.NodeRow.{AreEntries, IsEntry, IsFaultOf, entry_reads, writers_of};
+ghost use Rattle.mk_subject.specs.NodeRow.{AreRows, IsRow, IsFaultOf, row_reads, writers_of};
 
 use crate::files::Files;
 use crate::node_row::NodeRow;
@@ -140,7 +140,7 @@ impl<'a> Subject<'a> {
 
     /// The entry of each node, in the serial order.
     pub fn entries(&self) -> &[NodeRow<'a>]
-        ensures { AreEntries self.now result.now }
+        ensures { AreRows self.now result.now }
     {
         self.tables.entries.as_slice()
     }
@@ -254,13 +254,13 @@ impl<'a> Subject<'a> {
     }
 
     /// The file at `place` among those that the recipe of a node reads. Doesn't allocate.
-    pub fn read(&self, entry: &NodeRow<'_>, place: usize) -> Target<'_>
-        requires entry { IsEntry self.now entry.now }
-        requires place { place < length (entry_reads entry.now) }
+    pub fn read(&self, row: &NodeRow<'_>, place: usize) -> Target<'_>
+        requires row { IsRow self.now row.now }
+        requires place { place < length (row_reads row.now) }
         ensures { result ≡ target_of self.entry.now
-            (slice_index_or (reads_of self.entry.now entry.now.number) place []) }
+            (slice_index_or (reads_of self.entry.now row.now.number) place []) }
     {
-        let at = self.tables.files.reads.at(entry.number)[place];
+        let at = self.tables.files.reads.at(row.number)[place];
         target_at(&self.tables.files, at)
     }
 }

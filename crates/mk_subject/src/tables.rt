@@ -3,7 +3,7 @@
 ghost use Rattle.std.specs.Prelude.{◌≡◌, [], map, IfErr, IfOk};
 ghost use Rattle.mk_graph.specs.Graph.{IsGraph};
 ghost use Rattle.mk_subject.specs.Subject.{subject_of};
-ghost use Rattle.mk_subject.specs.NodeRow.{AreEntries, IsFaultOf};
+ghost use Rattle.mk_subject.specs.NodeRow.{AreRows, IsFaultOf};
 ghost use Rattle.mk_subject.specs.Tables.{AreTables};
 
 use crate::files::{Files, files_of};
@@ -44,7 +44,7 @@ fn entries_in<'a>(
 ) -> Result<Vec<NodeRow<'a>>, InferFault>
     requires { there.now.more ≡ [] }
     ensures graph { IsGraph records.now.graph }
-    ensures entries { IfOk result (λ entries. AreEntries
+    ensures entries { IfOk result (λ entries. AreRows
         (subject_of table.now there.now
         records.now.graph records.now.setting) entries.items) }
     ensures fault { IfErr result (λ fault. IsFaultOf

@@ -4,7 +4,7 @@ ghost use Rattle.std.specs.Prelude.{◌≡◌, ◌∷◌, ◌++◌, [], List, �
 ghost use Rattle.std.specs.Str.{bytes_eq};
 ghost use Rattle.std.specs.String.{string_bytes};
 ghost use Rattle.mk_lines.specs.Names.{has_name};
-ghost use Rattle.mk_subject.specs.NodeRow.{entry_writes};
+ghost use Rattle.mk_subject.specs.NodeRow.{row_writes};
 ghost use Rattle.mk_subject.specs.Writers.{numbers_at};
 
 use crate::file_writers::FileWriters;
@@ -67,7 +67,7 @@ pub fn writers_at<'a>(writers: &'a Writers<'_>, file: &str) -> &'a [usize]
 pub fn writers_among<'a>(alloc: Global, entries: &[NodeRow<'a>]) -> Result<Writers<'a>, AllocError>
     ensures { IfOk result (λ writers. (name : List ℕ) →
         numbers_at writers name ≡ map (λ e. e.number)
-        (filter (λ e. has_name (entry_writes e) name) entries.now)) }
+        (filter (λ e. has_name (row_writes e) name) entries.now)) }
 {
     let mut writers = IndexMap::new(alloc);
     for entry in entries {

@@ -18,7 +18,7 @@ use crate::fault::StepFault;
 use crate::making::Making;
 use crate::outcomes::Sight;
 use crate::places::Places;
-use crate::recipes::put;
+use crate::recipes::{Written, put};
 use crate::scene::Scene;
 use std::alloc::{AllocError, Global};
 
@@ -129,94 +129,104 @@ fn put_all(
             return Ok(());
         };
         rest = after;
-        put(scene, disk, making, number, file.as_str(), *content)?;
+        let written = Written {
+            number,
+            file: file.as_str(),
+            content: *content,
+        };
+        put(scene, disk, making, &written)?;
     }
     Ok(())
+}
+
+/// A scene, with the places of its files, and the allocator of what is looked up there.
+#[derive(Clone, Copy)]
+pub struct PlacedScene<'a> {
+    pub alloc: Global,
+    pub scene: &'a Scene<'a>,
+    pub places: &'a Places,
 }
 
 /// Finishes a recipe that reads this: it reads its files, writes these contents into those that it
 /// writes, and ends. `NotRunning` (66) if it isn't running; otherwise the errors of `put_all` and
 /// `end_seeing`. An error keeps the steps before it.
 pub fn finish_seeing(
-    alloc: Global,
-    scene: &Scene,
+    placed: &PlacedScene<'_>,
     disk: &mut Disk,
     making: &mut Making,
     sight: Sight,
     contents: &[u64],
 ) -> Result<(), StepFault>
-    requires fits { Fits scene.now making.old }
-    requires node { sight.recipe < length scene.now.graph.nodes }
+    requires fits { Fits placed.now.scene.now making.old }
+    requires node { sight.recipe < length placed.now.scene.now.graph.nodes }
     requires sees { sight.seen.items ≡ map (content (disk_of disk.old))
-        (reads scene.now.graph (setting scene.now) sight.recipe) }
+        (reads placed.now.scene.now.graph (setting placed.now.scene.now) sight.recipe) }
     requires named { (f : FileName) →
-        Has (writes scene.now.graph (setting scene.now) sight.recipe) f →
+        Has (writes placed.now.scene.now.graph (setting placed.now.scene.now) sight.recipe) f →
         has_name disk.old.names f ≡ true }
-    ensures fits { Fits scene.now making.new }
+    ensures fits { Fits placed.now.scene.now making.new }
     ensures names { disk.new.names ≡ disk.old.names }
-    ensures takes { TakesInTurn scene.now.graph (setting scene.now)
-        (busy scene.now making.old disk.old) (busy scene.now making.new disk.new)
-        (rest_of_run scene.now.graph (setting scene.now) sight.recipe contents.now) result }
+    ensures takes { TakesInTurn placed.now.scene.now.graph (setting placed.now.scene.now) (busy
+        placed.now.scene.now making.old disk.old) (busy placed.now.scene.now making.new disk.new)
+        (rest_of_run placed.now.scene.now.graph (setting placed.now.scene.now) sight.recipe
+        contents.now) result }
 {
     let number = sight.recipe;
     if !making.is_running(number) {
         return Err(StepFault::NotRunning);
     }
-    let looks = looks_of(alloc, &sight.seen)?;
+    let looks = looks_of(placed.alloc, &sight.seen)?;
     making.look_at_all(number, looks);
-    put_all(scene, disk, making, number, contents)?;
-    end_seeing(alloc, scene, disk, making, sight)
+    put_all(placed.scene, disk, making, number, contents)?;
+    end_seeing(placed.alloc, placed.scene, disk, making, sight)
 }
 
 /// Finishes a recipe: it reads its files, writes these contents into those that it writes, and
 /// ends. Errors are as for `finish_seeing`.
 pub fn finish_with(
-    alloc: Global,
-    scene: &Scene,
-    places: &Places,
+    placed: &PlacedScene<'_>,
     disk: &mut Disk,
     making: &mut Making,
     number: usize,
     contents: &[u64],
 ) -> Result<(), StepFault>
-    requires fits { Fits scene.now making.old }
-    requires node { number < length scene.now.graph.nodes }
-    requires places { ArePlaces scene.now disk.old.names places.now }
-    requires named { (f : FileName) → Has (writes scene.now.graph (setting scene.now) number) f →
-        has_name disk.old.names f ≡ true }
-    ensures fits { Fits scene.now making.new }
+    requires fits { Fits placed.now.scene.now making.old }
+    requires node { number < length placed.now.scene.now.graph.nodes }
+    requires places { ArePlaces placed.now.scene.now disk.old.names placed.now.places.now }
+    requires named { (f : FileName) → Has (writes placed.now.scene.now.graph (setting
+        placed.now.scene.now) number) f → has_name disk.old.names f ≡ true }
+    ensures fits { Fits placed.now.scene.now making.new }
     ensures names { disk.new.names ≡ disk.old.names }
-    ensures takes { TakesInTurn scene.now.graph (setting scene.now)
-        (busy scene.now making.old disk.old) (busy scene.now making.new disk.new)
-        (rest_of_run scene.now.graph (setting scene.now) number contents.now) result }
+    ensures takes { TakesInTurn placed.now.scene.now.graph (setting placed.now.scene.now) (busy
+        placed.now.scene.now making.old disk.old) (busy placed.now.scene.now making.new disk.new)
+        (rest_of_run placed.now.scene.now.graph (setting placed.now.scene.now) number contents.now)
+        result }
 {
-    let sight = sight_of(alloc, places, disk, number)?;
-    finish_seeing(alloc, scene, disk, making, sight, contents)
+    let sight = sight_of(placed.alloc, placed.places, disk, number)?;
+    finish_seeing(placed, disk, making, sight, contents)
 }
 
 /// Finishes a recipe: it reads its files, writes the known outcome or else the new stamps, and
 /// ends. Errors are as for `finish_seeing`.
 pub fn finish(
-    alloc: Global,
-    scene: &Scene,
-    places: &Places,
+    placed: &PlacedScene<'_>,
     disk: &mut Disk,
     making: &mut Making,
     number: usize,
 ) -> Result<(), StepFault>
-    requires fits { Fits scene.now making.old }
-    requires node { number < length scene.now.graph.nodes }
-    requires places { ArePlaces scene.now disk.old.names places.now }
-    requires named { (f : FileName) → Has (writes scene.now.graph (setting scene.now) number) f →
-        has_name disk.old.names f ≡ true }
-    ensures fits { Fits scene.now making.new }
+    requires fits { Fits placed.now.scene.now making.old }
+    requires node { number < length placed.now.scene.now.graph.nodes }
+    requires places { ArePlaces placed.now.scene.now disk.old.names placed.now.places.now }
+    requires named { (f : FileName) → Has (writes placed.now.scene.now.graph (setting
+        placed.now.scene.now) number) f → has_name disk.old.names f ≡ true }
+    ensures fits { Fits placed.now.scene.now making.new }
     ensures names { disk.new.names ≡ disk.old.names }
-    ensures takes { TakesInTurn scene.now.graph (setting scene.now)
-        (busy scene.now making.old disk.old) (busy scene.now making.new disk.new)
-        (rest_of_run scene.now.graph (setting scene.now) number
-        (contents_of scene.now.graph (setting scene.now) (disk_of disk.old) number)) result }
+    ensures takes { TakesInTurn placed.now.scene.now.graph (setting placed.now.scene.now) (busy
+        placed.now.scene.now making.old disk.old) (busy placed.now.scene.now making.new disk.new)
+        (rest_of_run placed.now.scene.now.graph (setting placed.now.scene.now) number (contents_of
+        placed.now.scene.now.graph (setting placed.now.scene.now) (disk_of disk.old) number)) result }
 {
-    let sight = sight_of(alloc, places, disk, number)?;
-    let contents = contents_seeing(alloc, scene, disk, &sight)?;
-    finish_seeing(alloc, scene, disk, making, sight, &contents)
+    let sight = sight_of(placed.alloc, placed.places, disk, number)?;
+    let contents = contents_seeing(placed.alloc, placed.scene, disk, &sight)?;
+    finish_seeing(placed, disk, making, sight, &contents)
 }

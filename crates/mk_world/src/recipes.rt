@@ -82,6 +82,16 @@ pub fn look(
     Ok(())
 }
 
+/// What a running recipe writes.
+#[derive(Clone, Copy)]
+pub struct Written<'a> {
+    /// The number of its node.
+    pub number: usize,
+    pub file: &'a str,
+    /// The new content.
+    pub content: u64,
+}
+
 /// Lets a running recipe write a content into a file. `NotRunning` (66) if it isn't running; then
 /// `NotInFootprint` (67) if it isn't recorded to write the file; then `ClockSpent` (59) if no stamp
 /// is left. An error changes nothing.
@@ -89,32 +99,32 @@ pub fn put(
     scene: &Scene,
     disk: &mut Disk,
     making: &mut Making,
-    number: usize,
-    file: &str,
-    content: u64,
+    written: &Written<'_>,
 ) -> Result<(), StepFault>
     requires fits { Fits scene.now making.old }
-    requires named { (f : FileName) → Has (writes scene.now.graph (setting scene.now) number) f →
-        has_name disk.old.names f ≡ true }
+    requires named { (f : FileName) → Has (writes scene.now.graph (setting scene.now)
+        written.now.number) f → has_name disk.old.names f ≡ true }
     ensures fits { Fits scene.now making.new }
     ensures names { disk.new.names ≡ disk.old.names }
     ensures err { OnErr result (making.new ≡ making.old) }
     ensures disk_err { OnErr result (disk.new ≡ disk.old) }
-    ensures judged { Judges scene.now (busy scene.now making.old disk.old)
-        (busy scene.now making.new disk.new) (model.Put number file.now content) result }
+    ensures judged { Judges scene.now (busy scene.now making.old disk.old) (busy scene.now
+        making.new disk.new) (model.Put written.now.number written.now.file.now written.now.content)
+        result }
 {
-    if !making.is_running(number) {
+    if !making.is_running(written.number) {
         return Err(StepFault::NotRunning);
     }
-    let footprint = scene.footprint(number);
+    let footprint = scene.footprint(written.number);
+    let file = written.file;
     if !footprint.writes.contains(file) {
         return Err(StepFault::NotInFootprint);
     }
     if !disk.has_stamp() {
         return Err(StepFault::ClockSpent);
     }
-    making.put(number, &footprint.writes, file, content);
-    disk.write(file, content);
+    making.put(written.number, &footprint.writes, file, written.content);
+    disk.write(file, written.content);
     Ok(())
 }
 

@@ -299,7 +299,12 @@ impl<'a> World<'a> {
             return Err(StepFault::NoMake);
         };
         let number = self.scene.number(node);
-        recipes::put(&self.scene, &mut self.disk, making, number, file, content)
+        let written = recipes::Written {
+            number,
+            file: &*file,
+            content,
+        };
+        recipes::put(&self.scene, &mut self.disk, making, &written)
     }
 
     /// Ends a running recipe. Errors are those of `step` for this step.
@@ -423,14 +428,12 @@ impl<'a> World<'a> {
             return Err(StepFault::NoMake);
         };
         let number = self.scene.number(node);
-        finishing::finish(
-            self.alloc,
-            &self.scene,
-            &self.places,
-            &mut self.disk,
-            making,
-            number,
-        )?;
+        let placed = finishing::PlacedScene {
+            alloc: self.alloc,
+            scene: &self.scene,
+            places: &self.places,
+        };
+        finishing::finish(&placed, &mut self.disk, making, number)?;
         self.readiness.mark_done(number);
         Ok(())
     }
@@ -444,15 +447,12 @@ impl<'a> World<'a> {
         let Some(making) = &mut self.make else {
             return Err(StepFault::NoMake);
         };
-        finishing::finish_with(
-            self.alloc,
-            &self.scene,
-            &self.places,
-            &mut self.disk,
-            making,
-            number,
-            contents,
-        )?;
+        let placed = finishing::PlacedScene {
+            alloc: self.alloc,
+            scene: &self.scene,
+            places: &self.places,
+        };
+        finishing::finish_with(&placed, &mut self.disk, making, number, contents)?;
         self.readiness.mark_done(number);
         Ok(())
     }

@@ -8,5 +8,5 @@ use Rattle.mk_cert.proofs.judging.check_entries.Given as goal
 abbrev pub invariant-loop-place : goal.invariant-loop-place
 invariant-loop-place l = record {
   judged : JudgedSoFar l.subject l.ways (take l.place l.ways) (drop l.place l.ways) l.seen.items;
-  lists : IfSome l.lists.lists (λ lists. HoldReads l.subject lists.items);
+  lists : IfSome l.finder.lists.lists (λ lists. HoldReads l.subject lists.items);
 }

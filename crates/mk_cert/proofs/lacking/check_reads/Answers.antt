@@ -9,7 +9,7 @@ use Rattle.mk_graph.specs.Membership.{Has}
 use Rattle.mk_graph.specs.Serial.{serial_order}
 use Rattle.mk_cert.specs.declared.fault.CertFault.{CertFault}
 use Rattle.mk_subject.specs.Subject.{reads_of}
-use Rattle.mk_subject.specs.NodeRow.{NodeRow, IsEntry}
+use Rattle.mk_subject.specs.NodeRow.{NodeRow, IsRow}
 use Rattle.mk_find.specs.Listing.{IsFirstIn}
 use Rattle.mk_subject.specs.Reads.{Read, all_reads}
 use Rattle.mk_cert.specs.Verdict.{LacksWay}
@@ -31,7 +31,7 @@ first_lacking-requires c =
     let x = c.args.subject.now in
     let entries = c.entries-entries.result.now in
     let lt : c.loop-entry.entry-index < length entries = omega arith in
-    subst (λ (e : NodeRow). IsEntry x e) (sym c.entry-item.is) (All-get_or (IsEntry x) entries c.loop-entry.entry-index c.entry-item.result lt c.entries-entries.ensures.right)
+    subst (λ (e : NodeRow). IsRow x e) (sym c.entry-item.is) (All-get_or (IsRow x) entries c.loop-entry.entry-index c.entry-item.result lt c.entries-entries.ensures.right)
 
 pub returns-in-Some : goal.returns-in-Some
 returns-in-Some c = λ ways seen.
@@ -44,7 +44,7 @@ returns-in-Some c = λ ways seen.
     let lt : i < length entries = omega arith in
     let low : i < length numbers = omega (arith, length-map entries number) in
     let is : get_or numbers i 0 ≡ e.number = get_or-map number entries i e 0 lt ∙ ap number (sym c.entry-item.is) in
-    let it : IsEntry x e = subst (λ (k : NodeRow). IsEntry x k) (sym c.entry-item.is) (All-get_or (IsEntry x) entries i e lt c.entries-entries.ensures.right) in
+    let it : IsRow x e = subst (λ (k : NodeRow). IsRow x k) (sym c.entry-item.is) (All-get_or (IsRow x) entries i e lt c.entries-entries.ensures.right) in
     let left : Left (LacksWay x ways) (reads_by x (get_or numbers i 0) ++ flat_map (reads_by x) (drop (i + 1) numbers)) (all_reads x) = subst (λ (ns : List ℕ). Left (LacksWay x ways) (flat_map (reads_by x) ns) (all_reads x)) (drop_more numbers i 0 low) (c.loop-entry.invariant ways seen) in
     let read : Read = record { recipe = e.number; file = c.in-Some.file.now } in
     let first : IsFirstIn (LacksWay x ways) (reads_by x (get_or numbers i 0)) read = subst (λ (n : ℕ). IsFirstIn (LacksWay x ways) (reads_by x n) read) (sym is) (c.in-Some.ensures ways seen) in

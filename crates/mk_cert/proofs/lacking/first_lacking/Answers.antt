@@ -20,22 +20,22 @@ use Rattle.mk_cert.proofs.lacking.first_lacking.Goals as goal
 pub loop-place-init : goal.loop-place-init
 loop-place-init c = λ ways seen.
     let x = c.args.subject.now in
-    let n = c.args.entry.now.number in
+    let n = c.args.row.now.number in
     let read = λ (f : List ℕ). let r : Read = record { recipe = n; file = f } in r in
     left_passing (LacksWay x ways) read (λ f. not (is_settled (known_of x f))) (reads_of x n) (λ f out lacks. cannot_change x f (settled (known_of x f) out) lacks.0.1)
 
 pub lacks-requires-clause-read : goal.lacks-requires-clause-read
 lacks-requires-clause-read c =
-    let number : c.entry.inside.number ≡ c.args.entry.now.number = ap (λ (e : NodeRow). e.number) c.entry.view_is in
-    (open_at c.args.subject.now c.entry.inside.number c.args.entry.now.number c.loop-place.place c.count_of_unsettled-place-end.result c.unsettled-file.result number c.count_of_unsettled-place-end.ensures (omega arith) c.unsettled-file.ensures).read
+    let number : c.row.inside.number ≡ c.args.row.now.number = ap (λ (e : NodeRow). e.number) c.row.view_is in
+    (open_at c.args.subject.now c.row.inside.number c.args.row.now.number c.loop-place.place c.count_of_unsettled-place-end.result c.unsettled-file.result number c.count_of_unsettled-place-end.ensures (omega arith) c.unsettled-file.ensures).read
 
 pub returns-then-lacks : goal.returns-then-lacks
 returns-then-lacks c = λ ways seen.
     let x = c.args.subject.now in
-    let e = c.args.entry.now in
+    let e = c.args.row.now in
     let i = c.loop-place.place in
-    let number : c.entry.inside.number ≡ e.number = ap (λ (k : NodeRow). k.number) c.entry.view_is in
-    let at = open_at x c.entry.inside.number e.number i c.count_of_unsettled-place-end.result c.unsettled-file.result number c.count_of_unsettled-place-end.ensures (omega arith) c.unsettled-file.ensures in
+    let number : c.row.inside.number ≡ e.number = ap (λ (k : NodeRow). k.number) c.row.view_is in
+    let at = open_at x c.row.inside.number e.number i c.count_of_unsettled-place-end.result c.unsettled-file.result number c.count_of_unsettled-place-end.ensures (omega arith) c.unsettled-file.ensures in
     let all = unsettled_of x e.number in
     let read = λ (f : List ℕ). let r : Read = record { recipe = e.number; file = f } in r in
     let left : Left (LacksWay x ways) (read (get_or all i []) ∷ map read (drop (i + 1) all)) (reads_by x e.number) = subst (λ (fs : List (List ℕ)). Left (LacksWay x ways) (map read fs) (reads_by x e.number)) (drop_more all i [] at.low) (c.loop-place.invariant ways seen) in
@@ -47,10 +47,10 @@ returns-then-lacks c = λ ways seen.
 pub loop-place-preserved : goal.loop-place-preserved
 loop-place-preserved c = λ ways seen.
     let x = c.args.subject.now in
-    let e = c.args.entry.now in
+    let e = c.args.row.now in
     let i = c.loop-place.place in
-    let number : c.entry.inside.number ≡ e.number = ap (λ (k : NodeRow). k.number) c.entry.view_is in
-    let at = open_at x c.entry.inside.number e.number i c.count_of_unsettled-place-end.result c.unsettled-file.result number c.count_of_unsettled-place-end.ensures (omega arith) c.unsettled-file.ensures in
+    let number : c.row.inside.number ≡ e.number = ap (λ (k : NodeRow). k.number) c.row.view_is in
+    let at = open_at x c.row.inside.number e.number i c.count_of_unsettled-place-end.result c.unsettled-file.result number c.count_of_unsettled-place-end.ensures (omega arith) c.unsettled-file.ensures in
     let all = unsettled_of x e.number in
     let read = λ (f : List ℕ). let r : Read = record { recipe = e.number; file = f } in r in
     let left : Left (LacksWay x ways) (read (get_or all i []) ∷ map read (drop (i + 1) all)) (reads_by x e.number) = subst (λ (fs : List (List ℕ)). Left (LacksWay x ways) (map read fs) (reads_by x e.number)) (drop_more all i [] at.low) (c.loop-place.invariant ways seen) in
@@ -60,9 +60,9 @@ loop-place-preserved c = λ ways seen.
 pub returns : goal.returns
 returns c = λ ways seen.
     let x = c.args.subject.now in
-    let e = c.args.entry.now in
+    let e = c.args.row.now in
     let i = c.loop-place.place in
-    let number : c.entry.inside.number ≡ e.number = ap (λ (k : NodeRow). k.number) c.entry.view_is in
-    let none = none_left x c.entry.inside.number e.number i c.count_of_unsettled-place-end.result number c.count_of_unsettled-place-end.ensures (omega arith) in
+    let number : c.row.inside.number ≡ e.number = ap (λ (k : NodeRow). k.number) c.row.view_is in
+    let none = none_left x c.row.inside.number e.number i c.count_of_unsettled-place-end.result number c.count_of_unsettled-place-end.ensures (omega arith) in
     let read = λ (f : List ℕ). let r : Read = record { recipe = e.number; file = f } in r in
     left_none (LacksWay x ways) (reads_by x e.number) (subst (λ (fs : List (List ℕ)). Left (LacksWay x ways) (map read fs) (reads_by x e.number)) none (c.loop-place.invariant ways seen))

@@ -10,4 +10,4 @@ use Rattle.mk_cert.proofs.lacking.first_lacking.Given as goal
 
 -- the files that are left, of those that aren't settled
 abbrev pub invariant-loop-place : goal.invariant-loop-place
-invariant-loop-place l = (ways : List Way) → AreSeen l.subject ways l.seen → Left (LacksWay l.subject ways) (map (λ f. let r : Read = record { recipe = l.entry.number; file = f } in r) (drop l.place (unsettled_of l.subject l.entry.number))) (reads_by l.subject l.entry.number)
+invariant-loop-place l = (ways : List Way) → AreSeen l.subject ways l.seen → Left (LacksWay l.subject ways) (map (λ f. let r : Read = record { recipe = l.row.number; file = f } in r) (drop l.place (unsettled_of l.subject l.row.number))) (reads_by l.subject l.row.number)

@@ -11,12 +11,12 @@ use Rattle.mk_cert.proofs.lacking.lacks.Goals as goal
 pub returns-then-can_change : goal.returns-then-can_change
 returns-then-can_change c = λ ways seen.
     let x = c.args.subject.now in
-    let e = c.args.entry.now in
+    let e = c.args.row.now in
     let f = c.args.file.now.file in
     let sets = c.args.seen.now in
     let read = c.requires.read in
     let node : e.number < length x.graph.nodes = ⊎_elim (λ less. less) (λ past. absurd (past_reads x.graph (footprints x.setting) e.number past f read)) (cases_lt e.number (length x.graph.nodes)) in
-    let number : c.entry.inside.number ≡ e.number = ap (λ (k : NodeRow). k.number) c.entry.view_is in
+    let number : c.row.inside.number ≡ e.number = ap (λ (k : NodeRow). k.number) c.row.view_is in
     let named : c.file.inside.file.now ≡ f = ap (λ (t : Target). t.file) c.file.view_is in
     let told : c.stands_at.result ≡ has_name (get_or sets e.number []) f =
     c.stands_at.ensures ∙ (ap (λ (n : ℕ). has_name (get_or sets n []) c.file.inside.file.now) number ∙ ap (λ (g : List ℕ). has_name (get_or sets e.number []) g) named) in

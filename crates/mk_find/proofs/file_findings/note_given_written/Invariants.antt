@@ -6,4 +6,4 @@ use Rattle.mk_find.proofs.file_findings.note_given_written.Given as goal
 
 -- the files that are left
 abbrev pub invariant-loop-place : goal.invariant-loop-place
-invariant-loop-place l = Leads l.subject (map (λ f. given_written l.entry.number f) (drop l.place (writes_of l.subject l.entry.number))) (map (λ f. given_written l.entry.number f) (writes_of l.subject l.entry.number)) l.found l.initial.found
+invariant-loop-place l = Leads l.subject (map (λ f. given_written l.row.number f) (drop l.place (writes_of l.subject l.row.number))) (map (λ f. given_written l.row.number f) (writes_of l.subject l.row.number)) l.found l.initial.found

@@ -1,5 +1,5 @@
 use Rattle.std.proofs.Common.{◌≡◌, IfSome, map, drop}
-use Rattle.mk_subject.specs.NodeRow.{entry_writes}
+use Rattle.mk_subject.specs.NodeRow.{row_writes}
 use Rattle.mk_find.specs.Candidates.{own_read}
 use Rattle.mk_subject.specs.Target.{unsettled_of}
 use Rattle.mk_find.proofs.Adding.{Leads}
@@ -8,6 +8,6 @@ use Rattle.mk_find.proofs.file_findings.note_own_reads.Given as goal
 -- the files that are left, of those that aren't settled
 abbrev pub invariant-loop-place : goal.invariant-loop-place
 invariant-loop-place l = record {
-  leads : Leads l.subject (map (λ f. own_read l.entry.number f) (drop l.place (unsettled_of l.subject l.entry.number))) (map (λ f. own_read l.entry.number f) (unsettled_of l.subject l.entry.number)) l.found l.initial.found;
-  written : IfSome l.written (λ list. list ≡ entry_writes l.entry);
+  leads : Leads l.subject (map (λ f. own_read l.row.number f) (drop l.place (unsettled_of l.subject l.row.number))) (map (λ f. own_read l.row.number f) (unsettled_of l.subject l.row.number)) l.found l.initial.found;
+  written : IfSome l.written (λ list. list ≡ row_writes l.row);
 }

@@ -13,7 +13,7 @@ use Rattle.mk_find.proofs.file_findings.note_taken.Goals as goal
 pub returns-then-not-known : goal.returns-then-not-known
 returns-then-not-known c =
     let x = c.args.subject.now in
-    let n = c.args.entry.now.number in
+    let n = c.args.row.now.number in
     let f = c.args.file.now.file in
     let taken : c.known.inside.taken ≡ is_taken x f = ap (λ (k : FileInfo). k.taken) c.known.view_is ∙ ap (λ (t : Target). t.known.taken) (c.file.view_is ∙ c.requires.file) in
     adds_none x (given_written n f) c.args.found.now (not_taken x n f (sym taken ∙ c.if-not-known.true))
@@ -21,11 +21,11 @@ returns-then-not-known c =
 pub returns : goal.returns
 returns c =
     let x = c.args.subject.now in
-    let e = c.args.entry.now in
+    let e = c.args.row.now in
     let f = c.args.file.now.file in
     let old = c.args.found.now in
     let mid = c.name_of.new.self in
     let taken : c.known.inside.taken ≡ is_taken x f = ap (λ (k : FileInfo). k.taken) c.known.view_is ∙ ap (λ (t : Target). t.known.taken) (c.file.view_is ∙ c.requires.file) in
-    let recipe = ap (λ (k : List ℕ). mid ++ GivenWritten k c.in_ok-file.file ∷ []) (name_is x e c.in_ok-recipe.recipe c.requires.entry c.in_ok-recipe.ensures) in
+    let recipe = ap (λ (k : List ℕ). mid ++ GivenWritten k c.in_ok-file.file ∷ []) (name_is x e c.in_ok-recipe.recipe c.requires.row c.in_ok-recipe.ensures) in
     adds_pushed x (given_written e.number f) old mid c.push.new.self c.in_ok-file.ensures.same (taken_there x e.number f c.requires.written (sym taken ∙ c.if-not-known.false))
     (c.in_ok-push.ensures ∙ (recipe ∙ ap (λ (k : List ℕ). mid ++ GivenWritten (name_of x e.number) k ∷ []) c.in_ok-file.ensures.name))

@@ -6,4 +6,4 @@ use Rattle.mk_find.proofs.file_findings.note_unknown_reads.Given as goal
 
 -- the files that are left, of those that aren't settled
 abbrev pub invariant-loop-place : goal.invariant-loop-place
-invariant-loop-place l = Leads l.subject (map (λ f. unknown_read l.entry.number f) (drop l.place (unsettled_of l.subject l.entry.number))) (map (λ f. unknown_read l.entry.number f) (unsettled_of l.subject l.entry.number)) l.found l.initial.found
+invariant-loop-place l = Leads l.subject (map (λ f. unknown_read l.row.number f) (drop l.place (unsettled_of l.subject l.row.number))) (map (λ f. unknown_read l.row.number f) (unsettled_of l.subject l.row.number)) l.found l.initial.found

@@ -3,7 +3,7 @@ use Rattle.std.specs.Prelude.{Option, Some}
 use Rattle.std.specs.List.{flat_map}
 use Rattle.std.proofs.lemmas.List.{get_or-map, length-map, drop_more}
 use Rattle.std.proofs.lemmas.List.Elements.{All-get_or}
-use Rattle.mk_subject.specs.NodeRow.{NodeRow, IsEntry}
+use Rattle.mk_subject.specs.NodeRow.{NodeRow, IsRow}
 use Rattle.mk_find.specs.NodeChecks.{behind, pairs_with}
 use Rattle.mk_graph.specs.Membership.{IsDistinct}
 use Rattle.mk_graph.specs.Serial.{serial_order}
@@ -29,7 +29,7 @@ first_pair_with-requires c =
     let x = c.args.subject.now in
     let entries = c.entries-entries.result.now in
     let lt : c.loop-entry.entry-index < length entries = omega arith in
-    subst (λ (e : NodeRow). IsEntry x e) (sym c.entry-item.is) (All-get_or (IsEntry x) entries c.loop-entry.entry-index c.entry-item.result lt c.entries-entries.ensures.right)
+    subst (λ (e : NodeRow). IsRow x e) (sym c.entry-item.is) (All-get_or (IsRow x) entries c.loop-entry.entry-index c.entry-item.result lt c.entries-entries.ensures.right)
 
 -- those of the recipe that is looked at, and of those behind it
 parts : (x : Subject) (entries : List NodeRow) (i : ℕ) (e : NodeRow) → e ≡ get_or entries i e → i < length entries → IsDistinct (serial_order x.graph) → map (λ (k : NodeRow). k.number) entries ≡ serial_order x.graph

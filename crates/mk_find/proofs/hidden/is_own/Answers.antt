@@ -11,8 +11,8 @@ returns c =
     let x = c.args.subject.now in
     let f = c.args.file.now.file in
     let writers : c.writers.result.now ≡ writers_of x f = c.writers.ensures ∙ ap (λ (v : Target). v.known.writers) c.requires in
-    let number : c.entry.inside.number ≡ c.args.entry.now.number = ap (λ (e : NodeRow). e.number) c.entry.view_is in
+    let number : c.row.inside.number ≡ c.args.row.now.number = ap (λ (e : NodeRow). e.number) c.row.view_is in
     c.contains.ensures.value
-    ∙ (ap (λ (l : List ℕ). list_any (λ n. eqb n c.entry.inside.number) l) writers
+    ∙ (ap (λ (l : List ℕ). list_any (λ n. eqb n c.row.inside.number) l) writers
     ∙ (ap (λ (k : ℕ). list_any (λ n. eqb n k) (writers_of x f)) number
-    ∙ own_exactly c.serial_reaches_each_once.ensures x c.graph-graph.ensures.graph f c.args.entry.now.number))
+    ∙ own_exactly c.serial_reaches_each_once.ensures x c.graph-graph.ensures.graph f c.args.row.now.number))

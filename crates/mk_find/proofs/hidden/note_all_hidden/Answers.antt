@@ -3,7 +3,7 @@ use Rattle.std.proofs.Common.{◌≡◌, ◌∙◌, ◌<◌, ◌≤◌, ℕ, Lis
 use Rattle.std.specs.List.{flat_map}
 use Rattle.std.proofs.lemmas.List.{get_or-map, length-map}
 use Rattle.std.proofs.lemmas.List.Elements.{All-get_or}
-use Rattle.mk_subject.specs.NodeRow.{NodeRow, IsEntry}
+use Rattle.mk_subject.specs.NodeRow.{NodeRow, IsRow}
 use Rattle.mk_find.specs.Listed.{Adds}
 use Rattle.mk_find.specs.Findings.{hidden_reads}
 use Rattle.mk_find.proofs.Adding.{drop_past, leads_each, leads_done}
@@ -14,12 +14,12 @@ loop-entry-init c =
     let x = c.args.subject.now in
     λ last h. subst (λ (ns : List ℕ). Adds x (flat_map (hidden_reads x) ns) c.args.found.now last) c.entries-entries.ensures.in_order h
 
-pub search_hidden-requires-clause-entry : goal.search_hidden-requires-clause-entry
-search_hidden-requires-clause-entry c =
+pub search_hidden-requires-clause-row : goal.search_hidden-requires-clause-row
+search_hidden-requires-clause-row c =
     let x = c.args.subject.now in
     let entries = c.entries-entries.result.now in
     let lt : c.loop-entry.entry-index < length entries = omega arith in
-    subst (λ (e : NodeRow). IsEntry x e) (sym c.entry-item.is) (All-get_or (IsEntry x) entries c.loop-entry.entry-index c.entry-item.result lt c.entries-entries.ensures.right)
+    subst (λ (e : NodeRow). IsRow x e) (sym c.entry-item.is) (All-get_or (IsRow x) entries c.loop-entry.entry-index c.entry-item.result lt c.entries-entries.ensures.right)
 
 pub loop-entry-preserved : goal.loop-entry-preserved
 loop-entry-preserved c =

@@ -22,8 +22,8 @@ loop-place-init c = (c.requires.search, λ last h. h, always_none_before_first c
 pub read-file-requires-clause-place : goal.read-file-requires-clause-place
 read-file-requires-clause-place c =
     let x = c.args.tables.now.subject.now in
-    let count = c.count_of_reads-place-end.ensures ∙ ap (λ (k : NodeRow). length (reads_of x k.number)) c.entry.view_is in
-    omega (arith, c.loop-place-test.true, count, ap (λ (l : List (List ℕ)). length l) (same_reads x c.args.entry.now c.requires.entry))
+    let count = c.count_of_reads-place-end.ensures ∙ ap (λ (k : NodeRow). length (reads_of x k.number)) c.row.view_is in
+    omega (arith, c.loop-place-test.true, count, ap (λ (l : List (List ℕ)). length l) (same_reads x c.args.row.now c.requires.row))
 
 pub note_hidden_read-requires-clause-rows : goal.note_hidden_read-requires-clause-rows
 note_hidden_read-requires-clause-rows c =
@@ -39,21 +39,21 @@ note_hidden_read-requires-clause-ends c = c.requires.tables.ends
 pub note_hidden_read-requires-clause-read : goal.note_hidden_read-requires-clause-read
 note_hidden_read-requires-clause-read c =
     let x = c.args.tables.now.subject.now in
-    let e = c.args.entry.now in
+    let e = c.args.row.now in
     let i = c.loop-place.place in
-    let count = c.count_of_reads-place-end.ensures ∙ ap (λ (k : NodeRow). length (reads_of x k.number)) c.entry.view_is in
+    let count = c.count_of_reads-place-end.ensures ∙ ap (λ (k : NodeRow). length (reads_of x k.number)) c.row.view_is in
     let low : i < length (reads_of x e.number) = omega (arith, c.loop-place-test.true, count) in
-    read_at _ i c.requires.entry low c.read-file.ensures
+    read_at _ i c.requires.row low c.read-file.ensures
 
 pub loop-place-preserved : goal.loop-place-preserved
 loop-place-preserved c =
     let x = c.args.tables.now.subject.now in
-    let t = c.args.entry.now.number in
+    let t = c.args.row.now.number in
     let files = reads_of x t in
     let i = c.loop-place.place in
     let f = c.read-file.result.file in
     let is : f ≡ get_or files i [] = ap (λ (v : Target). v.file) c.read-file.ensures in
-    let count = c.count_of_reads-place-end.ensures ∙ ap (λ (k : NodeRow). length (reads_of x k.number)) c.entry.view_is in
+    let count = c.count_of_reads-place-end.ensures ∙ ap (λ (k : NodeRow). length (reads_of x k.number)) c.row.view_is in
     let low : i < length files = omega (arith, c.loop-place-test.true, count) in
     let inv = c.loop-place.invariant in
     let found = c.note_hidden_read.new.found in (
@@ -65,8 +65,8 @@ loop-place-preserved c =
 pub returns : goal.returns
 returns c =
     let x = c.args.tables.now.subject.now in
-    let e = c.args.entry.now in
+    let e = c.args.row.now in
     let i = c.loop-place.place in
-    let count = c.count_of_reads-place-end.ensures ∙ ap (λ (k : NodeRow). length (reads_of x k.number)) c.entry.view_is in
+    let count = c.count_of_reads-place-end.ensures ∙ ap (λ (k : NodeRow). length (reads_of x k.number)) c.row.view_is in
     let past : length (reads_of x e.number) ≤ i = omega (arith, c.loop-place-test.false, count) in
     leads_done x (flat_map (hidden_read x e.number) (drop i (reads_of x e.number))) _ c.loop-place.found c.args.found.now (ap (flat_map (hidden_read x e.number)) (drop_past (reads_of x e.number) i past)) c.loop-place.invariant.1

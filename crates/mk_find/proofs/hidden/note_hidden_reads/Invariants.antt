@@ -10,7 +10,7 @@ use Rattle.mk_find.proofs.hidden.note_hidden_reads.Given as goal
 -- over for the next file have no recipe that is always made.
 abbrev pub invariant-loop-place : goal.invariant-loop-place
 invariant-loop-place l =
-    (l.search ≡ record { rows = l.tables.rows; start = l.entry.number }) ×
-    Leads l.tables.subject.now (flat_map (hidden_read l.tables.subject.now l.entry.number) (drop l.place (reads_of l.tables.subject.now l.entry.number)))
-    (hidden_reads l.tables.subject.now l.entry.number) l.found l.initial.found ×
+    (l.search ≡ record { rows = l.tables.rows; start = l.row.number }) ×
+    Leads l.tables.subject.now (flat_map (hidden_read l.tables.subject.now l.row.number) (drop l.place (reads_of l.tables.subject.now l.row.number)))
+    (hidden_reads l.tables.subject.now l.row.number) l.found l.initial.found ×
     AlwaysNoneBefore l.tables.subject.now l.search.start l.passed

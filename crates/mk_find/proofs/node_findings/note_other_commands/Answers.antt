@@ -6,8 +6,8 @@ use Rattle.mk_find.proofs.Decided.{other_commands_there, no_other_commands, name
 use Rattle.mk_find.proofs.node_findings.note_other_commands.Goals as goal
 
 pub returns-then-not-has_other_commands : goal.returns-then-not-has_other_commands
-returns-then-not-has_other_commands c = λ x is. adds_none x (other_commands c.args.entry.now.number) c.args.found.now (no_other_commands x c.args.entry.now is (sym c.if-not-has_other_commands.ensures))
+returns-then-not-has_other_commands c = λ x is. adds_none x (other_commands c.args.row.now.number) c.args.found.now (no_other_commands x c.args.row.now is (sym c.if-not-has_other_commands.ensures))
 
 pub returns : goal.returns
-returns c = λ x is. adds_one x (other_commands c.args.entry.now.number) c.args.found.now c.push.new.self (other_commands_there x c.args.entry.now is (sym c.if-not-has_other_commands.ensures))
-    (c.in_ok-push.ensures ∙ ap (λ (name : List ℕ). c.args.found.now ++ OtherCommands name ∷ []) (name_is x c.args.entry.now c.in_ok-recipe.recipe is c.in_ok-recipe.ensures))
+returns c = λ x is. adds_one x (other_commands c.args.row.now.number) c.args.found.now c.push.new.self (other_commands_there x c.args.row.now is (sym c.if-not-has_other_commands.ensures))
+    (c.in_ok-push.ensures ∙ ap (λ (name : List ℕ). c.args.found.now ++ OtherCommands name ∷ []) (name_is x c.args.row.now c.in_ok-recipe.recipe is c.in_ok-recipe.ensures))

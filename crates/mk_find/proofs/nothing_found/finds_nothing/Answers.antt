@@ -2,7 +2,7 @@ use Rattle.std.proofs.Common.{◌≡◌, ◌∙◌, ◌<◌, ◌≤◌, ℕ, Lis
 use Rattle.std.proofs.lemmas.Bool.{true≢false}
 use Rattle.std.proofs.lemmas.List.{get_or-map, length-map, drop_more}
 use Rattle.std.proofs.lemmas.List.Elements.{All-get_or}
-use Rattle.mk_subject.specs.NodeRow.{NodeRow, IsEntry}
+use Rattle.mk_subject.specs.NodeRow.{NodeRow, IsRow}
 use Rattle.mk_find.proofs.Adding.{drop_past}
 use Rattle.mk_find.proofs.NothingFound.{Each, FindsNothingOf, each_at, nothing_found, nothing_of_each}
 use Rattle.mk_find.proofs.nothing_found.finds_nothing.Goals as goal
@@ -15,7 +15,7 @@ finds_nothing_of-requires c =
     let x = c.args.subject.now in
     let entries = c.entries-entries.result.now in
     let lt : c.loop-entry.entry-index < length entries = omega arith in
-    subst (λ (e : NodeRow). IsEntry x e) (sym c.entry-item.is) (All-get_or (IsEntry x) entries c.loop-entry.entry-index c.entry-item.result lt c.entries-entries.ensures.right)
+    subst (λ (e : NodeRow). IsRow x e) (sym c.entry-item.is) (All-get_or (IsRow x) entries c.loop-entry.entry-index c.entry-item.result lt c.entries-entries.ensures.right)
 
 pub loop-entry-preserved : goal.loop-entry-preserved
 loop-entry-preserved c = λ rest.

@@ -11,7 +11,7 @@ use Rattle.mk_find.proofs.nothing_found.finds_nothing_of.Goals as goal
 pub returns : goal.returns
 returns c =
     let x = c.args.subject.now in
-    let n = c.args.entry.now.number in
+    let n = c.args.row.now.number in
     let first = candidates_of_node x before_pairs n in
     let pairs = pairs_with x n in
     let then = candidates_of_node x behind_pairs n in

@@ -9,14 +9,14 @@ loop-check-init c = λ last h. h
 pub loop-check-preserved : goal.loop-check-preserved
 loop-check-preserved c =
     let x = c.args.subject.now in
-    let n = c.args.entry.now.number in
+    let n = c.args.row.now.number in
     let lt : c.loop-check.check-index < length c.args.checks.now = omega arith in
     leads_each x (λ check. candidates_of_check x check n) c.args.checks.now c.loop-check.check-index _ _ c.loop-check.found c.run_check.new.found c.args.found.now lt c.loop-check.invariant c.in_ok-run_check.ensures
 
 pub returns : goal.returns
 returns c =
     let x = c.args.subject.now in
-    let n = c.args.entry.now.number in
+    let n = c.args.row.now.number in
     let past : length c.args.checks.now ≤ c.loop-check.check-index = omega arith in
     leads_done x (candidates_of_node x (drop c.loop-check.check-index c.args.checks.now) n) _
     c.loop-check.found c.args.found.now (ap (λ checks. candidates_of_node x checks n)

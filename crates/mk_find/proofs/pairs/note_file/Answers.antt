@@ -20,19 +20,19 @@ use Rattle.mk_find.proofs.pairs.note_file.Goals as goal
 pub note_pairs_with-requires : goal.note_pairs_with-requires
 note_pairs_with-requires c =
     let x = c.args.subject.now in
-    let e = c.args.entry.now in
+    let e = c.args.row.now in
     let f = c.args.file.now.file in
     let order = serial_order x.graph in
     let writes = λ (t : ℕ). has_name (writes_of x t) f in
     let writers : c.writers-writers.result.now ≡ writers_of x f = c.writers-writers.ensures ∙ ap (λ (k : Target). k.known.writers) c.requires.file in
-    let number : c.entry.inside.number ≡ e.number = ap (λ (k : NodeRow). k.number) c.entry.view_is in
+    let number : c.row.inside.number ≡ e.number = ap (λ (k : NodeRow). k.number) c.row.view_is in
     let same : c.behind-others.result.now ≡ filter writes (behind e.number order) = c.behind-others.ensures
     ∙ (ap (λ n. behind n c.writers-writers.result.now) number
     ∙ (ap (behind e.number) writers ∙ behind_filter writes e.number order
     ((has_decides (writes_of x e.number) f).1 c.requires.written))) in
     let distinct = (c.serial_reaches_each_once.ensures x.graph c.graph-graph.ensures.graph.no_cycle).0 in
     record {
-      entry = c.requires.entry;
+      row = c.requires.row;
       written = λ t h.
           let kept = subst (λ (ns : List ℕ). Has ns t) same h in
           (behind_other e.number order t distinct ((Has-from_filter writes (behind e.number order) t kept).0), c.requires.written, (has_decides (writes_of x t) f).0 ((Has-from_filter writes (behind e.number order) t kept).1));
@@ -41,12 +41,12 @@ note_pairs_with-requires c =
 pub returns : goal.returns
 returns c =
     let x = c.args.subject.now in
-    let e = c.args.entry.now in
+    let e = c.args.row.now in
     let f = c.args.file.now.file in
     let order = serial_order x.graph in
     let writes = λ (t : ℕ). has_name (writes_of x t) f in
     let writers : c.writers-writers.result.now ≡ writers_of x f = c.writers-writers.ensures ∙ ap (λ (k : Target). k.known.writers) c.requires.file in
-    let number : c.entry.inside.number ≡ e.number = ap (λ (k : NodeRow). k.number) c.entry.view_is in
+    let number : c.row.inside.number ≡ e.number = ap (λ (k : NodeRow). k.number) c.row.view_is in
     let same : c.behind-others.result.now ≡ filter writes (behind e.number order) = c.behind-others.ensures
     ∙ (ap (λ n. behind n c.writers-writers.result.now) number
     ∙ (ap (behind e.number) writers ∙ behind_filter writes e.number order

@@ -16,34 +16,34 @@ loop-place-init c = λ last h. h
 pub note_file-requires : goal.note_file-requires
 note_file-requires c =
     let x = c.args.subject.now in
-    let e = c.args.entry.now in
+    let e = c.args.row.now in
     let i = c.loop-place.place in
-    let number : c.entry.inside.number ≡ e.number = ap (λ (k : NodeRow). k.number) c.entry.view_is in
+    let number : c.row.inside.number ≡ e.number = ap (λ (k : NodeRow). k.number) c.row.view_is in
     let low : i < length (writes_of x e.number) = omega (arith, c.loop-place-test.true, c.count_of_written-place-end.ensures, ap (λ n. length (writes_of x n)) number) in
     record {
-      entry = c.requires;
+      row = c.requires;
       file = by_name x c.written-file.result _ c.written-file.ensures;
-      written = is_written x c.written-file.result c.entry.inside.number e.number i number c.written-file.ensures low;
+      written = is_written x c.written-file.result c.row.inside.number e.number i number c.written-file.ensures low;
     }
 
 pub loop-place-preserved : goal.loop-place-preserved
 loop-place-preserved c =
     let x = c.args.subject.now in
-    let e = c.args.entry.now in
+    let e = c.args.row.now in
     let i = c.loop-place.place in
-    let number : c.entry.inside.number ≡ e.number = ap (λ (k : NodeRow). k.number) c.entry.view_is in
+    let number : c.row.inside.number ≡ e.number = ap (λ (k : NodeRow). k.number) c.row.view_is in
     let low : i < length (writes_of x e.number) = omega (arith, c.loop-place-test.true, c.count_of_written-place-end.ensures, ap (λ n. length (writes_of x n)) number) in
-    let is = written_at x c.written-file.result c.entry.inside.number e.number i number c.written-file.ensures in
+    let is = written_at x c.written-file.result c.row.inside.number e.number i number c.written-file.ensures in
     leads_each x (λ f. map (λ t. two_writers e.number t f) (behind e.number (serial_order x.graph))) (writes_of x e.number) i [] _ c.loop-place.found c.note_file.new.found c.args.found.now low c.loop-place.invariant
     (subst (λ (f : List ℕ). Adds x (map (λ t. two_writers e.number t f) (behind e.number (serial_order x.graph))) c.loop-place.found c.note_file.new.found) (sym is) c.in_ok-note_file.ensures)
 
 pub returns : goal.returns
 returns c =
     let x = c.args.subject.now in
-    let e = c.args.entry.now in
+    let e = c.args.row.now in
     let i = c.loop-place.place in
     let files = writes_of x e.number in
-    let number : c.entry.inside.number ≡ e.number = ap (λ (k : NodeRow). k.number) c.entry.view_is in
+    let number : c.row.inside.number ≡ e.number = ap (λ (k : NodeRow). k.number) c.row.view_is in
     let past : length files ≤ i = omega (arith, c.loop-place-test.false, c.count_of_written-place-end.ensures, ap (λ n. length (writes_of x n)) number) in
     leads_done x (flat_map (λ f. map (λ t. two_writers e.number t f) (behind e.number (serial_order x.graph)))
     (drop i files)) _ c.loop-place.found c.args.found.now

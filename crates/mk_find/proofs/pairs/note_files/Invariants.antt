@@ -9,5 +9,5 @@ use Rattle.mk_find.proofs.pairs.note_files.Given as goal
 
 -- the files that are left
 abbrev pub invariant-loop-place : goal.invariant-loop-place
-invariant-loop-place l = Leads l.subject (flat_map (λ f. map (λ t. two_writers l.entry.number t f) (behind l.entry.number (serial_order l.subject.graph))) (drop l.place (writes_of l.subject l.entry.number)))
-    (flat_map (λ f. map (λ t. two_writers l.entry.number t f) (behind l.entry.number (serial_order l.subject.graph))) (writes_of l.subject l.entry.number)) l.found l.initial.found
+invariant-loop-place l = Leads l.subject (flat_map (λ f. map (λ t. two_writers l.row.number t f) (behind l.row.number (serial_order l.subject.graph))) (drop l.place (writes_of l.subject l.row.number)))
+    (flat_map (λ f. map (λ t. two_writers l.row.number t f) (behind l.row.number (serial_order l.subject.graph))) (writes_of l.subject l.row.number)) l.found l.initial.found

@@ -2,7 +2,7 @@ use Rattle.std.proofs.Common.{◌≡◌, ◌∙◌, ◌<◌, ◌≤◌, ℕ, ◌
 use Rattle.std.specs.List.{flat_map}
 use Rattle.std.proofs.lemmas.List.{get_or-map, length-map, drop_more}
 use Rattle.std.proofs.lemmas.List.Elements.{All-get_or}
-use Rattle.mk_subject.specs.NodeRow.{NodeRow, IsEntry}
+use Rattle.mk_subject.specs.NodeRow.{NodeRow, IsRow}
 use Rattle.mk_find.specs.NodeChecks.{behind}
 use Rattle.mk_find.specs.Listed.{Adds}
 use Rattle.mk_graph.specs.Membership.{IsDistinct}
@@ -23,7 +23,7 @@ note_files-requires c =
     let x = c.args.subject.now in
     let entries = c.entries-entries.result.now in
     let lt : c.loop-entry.entry-index < length entries = omega arith in
-    subst (λ (e : NodeRow). IsEntry x e) (sym c.entry-item.is) (All-get_or (IsEntry x) entries c.loop-entry.entry-index c.entry-item.result lt c.entries-entries.ensures.right)
+    subst (λ (e : NodeRow). IsRow x e) (sym c.entry-item.is) (All-get_or (IsRow x) entries c.loop-entry.entry-index c.entry-item.result lt c.entries-entries.ensures.right)
 
 pub loop-entry-preserved : goal.loop-entry-preserved
 loop-entry-preserved c =

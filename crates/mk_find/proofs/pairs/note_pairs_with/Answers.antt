@@ -15,12 +15,12 @@ note_pair-requires-clause-written c =
 pub loop-other-preserved : goal.loop-other-preserved
 loop-other-preserved c =
     let lt : c.loop-other.other-index < length c.args.others.now = omega arith in
-    leads_map c.args.subject.now (λ t. two_writers c.args.entry.now.number t c.args.file.now.file) c.args.others.now c.loop-other.other-index 0 _ c.loop-other.found c.note_pair.new.found c.args.found.now lt c.loop-other.invariant c.in_ok-note_pair.ensures
+    leads_map c.args.subject.now (λ t. two_writers c.args.row.now.number t c.args.file.now.file) c.args.others.now c.loop-other.other-index 0 _ c.loop-other.found c.note_pair.new.found c.args.found.now lt c.loop-other.invariant c.in_ok-note_pair.ensures
 
 pub returns : goal.returns
 returns c =
     let past : length c.args.others.now ≤ c.loop-other.other-index = omega arith in
-    leads_done c.args.subject.now (map (λ t. two_writers c.args.entry.now.number t c.args.file.now.file)
+    leads_done c.args.subject.now (map (λ t. two_writers c.args.row.now.number t c.args.file.now.file)
     (drop c.loop-other.other-index c.args.others.now)) _ c.loop-other.found c.args.found.now
-    (ap (map (λ t. two_writers c.args.entry.now.number t c.args.file.now.file))
+    (ap (map (λ t. two_writers c.args.row.now.number t c.args.file.now.file))
     (drop_past c.args.others.now c.loop-other.other-index past)) c.loop-other.invariant

@@ -30,26 +30,26 @@ returns-then-is_empty-clause-found c =
     let ns = c.writers-writers.result.now in
     let none : ns ≡ [] = nil_from_length ns (eqb-true (length ns) 0 (sym c.is_empty.ensures ∙ c.if-is_empty.true)) in
     let writers : ns ≡ writers_of x f = c.writers-writers.ensures ∙ ap (λ (t : Target). t.known.writers) c.requires.read.file in
-    with_writers x c.args.read.now.entry.now.number f [] old old (sym none ∙ writers) (adds_nothing x old)
+    with_writers x c.args.read.now.row.now.number f [] old old (sym none ∙ writers) (adds_nothing x old)
 
 pub note_races_with-requires : goal.note_races_with-requires
 note_races_with-requires c =
     let x = c.args.read.now.subject.now in
-    let e = c.args.read.now.entry.now in
+    let e = c.args.read.now.row.now in
     let f = c.args.read.now.file.file in
     let ns = c.writers-writers.result.now in
     let writers : ns ≡ writers_of x f = c.writers-writers.ensures ∙ ap (λ (t : Target). t.known.writers) c.requires.read.file in
     record {
       read = c.requires.read;
       graph = c.turn_to.ensures.graph ∙ c.requires.graph;
-      number = c.turn_to.ensures.number ∙ ap (λ (k : NodeRow). k.number) c.entry.view_is;
+      number = c.turn_to.ensures.number ∙ ap (λ (k : NodeRow). k.number) c.row.view_is;
       written = λ o h. writers_write x f ns writers o h;
     }
 
 pub returns-clause-found : goal.returns-clause-found
 returns-clause-found c =
     let x = c.args.read.now.subject.now in
-    let t = c.args.read.now.entry.now.number in
+    let t = c.args.read.now.row.now.number in
     let f = c.args.read.now.file.file in
     let ns = c.writers-writers.result.now in
     let writers : ns ≡ writers_of x f = c.writers-writers.ensures ∙ ap (λ (k : Target). k.known.writers) c.requires.read.file in

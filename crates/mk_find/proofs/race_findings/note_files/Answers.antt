@@ -21,11 +21,11 @@ loop-place-init c = record { leads = λ last h. h; graph = refl }
 
 pub note_file-requires-clause-read : goal.note_file-requires-clause-read
 note_file-requires-clause-read c =
-    let number : c.entry.inside.number ≡ c.args.entry.now.number = ap (λ (e : NodeRow). e.number) c.entry.view_is in
+    let number : c.row.inside.number ≡ c.args.row.now.number = ap (λ (e : NodeRow). e.number) c.row.view_is in
     record {
-      entry = c.requires.entry;
+      row = c.requires.row;
       file = by_name c.args.subject.now c.unsettled-file.result _ c.unsettled-file.ensures;
-      read = (open_at c.args.subject.now c.entry.inside.number c.args.entry.now.number c.loop-place.place c.count_of_unsettled-place-end.result c.unsettled-file.result number c.count_of_unsettled-place-end.ensures (omega arith) c.unsettled-file.ensures).read;
+      read = (open_at c.args.subject.now c.row.inside.number c.args.row.now.number c.loop-place.place c.count_of_unsettled-place-end.result c.unsettled-file.result number c.count_of_unsettled-place-end.ensures (omega arith) c.unsettled-file.ensures).read;
     }
 
 pub note_file-requires-clause-graph : goal.note_file-requires-clause-graph
@@ -34,10 +34,10 @@ note_file-requires-clause-graph c = c.loop-place.invariant.graph ∙ c.requires.
 pub loop-place-preserved : goal.loop-place-preserved
 loop-place-preserved c =
     let x = c.args.subject.now in
-    let e = c.args.entry.now in
+    let e = c.args.row.now in
     let i = c.loop-place.place in
-    let number : c.entry.inside.number ≡ e.number = ap (λ (k : NodeRow). k.number) c.entry.view_is in
-    let at = open_at x c.entry.inside.number e.number i c.count_of_unsettled-place-end.result c.unsettled-file.result number c.count_of_unsettled-place-end.ensures (omega arith) c.unsettled-file.ensures in
+    let number : c.row.inside.number ≡ e.number = ap (λ (k : NodeRow). k.number) c.row.view_is in
+    let at = open_at x c.row.inside.number e.number i c.count_of_unsettled-place-end.result c.unsettled-file.result number c.count_of_unsettled-place-end.ensures (omega arith) c.unsettled-file.ensures in
     let races = λ (f : List ℕ). map (λ o. race e.number o f) (serial_order x.graph) in
     record {
       leads = leads_each x races (unsettled_of x e.number) i [] _ c.loop-place.found c.note_file.new.found c.args.found.now at.low c.loop-place.invariant.leads
@@ -48,11 +48,11 @@ loop-place-preserved c =
 pub returns-clause-found : goal.returns-clause-found
 returns-clause-found c =
     let x = c.args.subject.now in
-    let e = c.args.entry.now in
+    let e = c.args.row.now in
     let i = c.loop-place.place in
-    let number : c.entry.inside.number ≡ e.number = ap (λ (k : NodeRow). k.number) c.entry.view_is in
+    let number : c.row.inside.number ≡ e.number = ap (λ (k : NodeRow). k.number) c.row.view_is in
     let left = unsettled_of x e.number in
-    let none = none_left x c.entry.inside.number e.number i c.count_of_unsettled-place-end.result number c.count_of_unsettled-place-end.ensures (omega arith) in
+    let none = none_left x c.row.inside.number e.number i c.count_of_unsettled-place-end.result number c.count_of_unsettled-place-end.ensures (omega arith) in
     let races = λ (f : List ℕ). map (λ o. race e.number o f) (serial_order x.graph) in
     adds_each_lifted x races (λ f. not (is_settled (known_of x f))) (reads_of x e.number) c.args.found.now c.loop-place.found
     (λ f out. no_race x f (settled (known_of x f) out) e.number)

@@ -9,7 +9,7 @@ use Rattle.mk_find.proofs.race_findings.note_files.Given as goal
 -- the files that are left, of those that aren't settled
 abbrev pub invariant-loop-place : goal.invariant-loop-place
 invariant-loop-place l = record {
-  leads : Leads l.subject (flat_map (λ f. map (λ o. race l.entry.number o f) (serial_order l.subject.graph)) (drop l.place (unsettled_of l.subject l.entry.number)))
-      (flat_map (λ f. map (λ o. race l.entry.number o f) (serial_order l.subject.graph)) (unsettled_of l.subject l.entry.number)) l.found l.initial.found;
+  leads : Leads l.subject (flat_map (λ f. map (λ o. race l.row.number o f) (serial_order l.subject.graph)) (drop l.place (unsettled_of l.subject l.row.number)))
+      (flat_map (λ f. map (λ o. race l.row.number o f) (serial_order l.subject.graph)) (unsettled_of l.subject l.row.number)) l.found l.initial.found;
   graph : l.earlier.graph ≡ l.fn.earlier.graph;
 }

@@ -2,7 +2,7 @@ use Rattle.std.proofs.Common.{◌≡◌, ◌∙◌, ◌<◌, ◌≤◌, ℕ, Lis
 use Rattle.std.specs.List.{flat_map}
 use Rattle.std.proofs.lemmas.List.{get_or-map, length-map}
 use Rattle.std.proofs.lemmas.List.Elements.{All-get_or}
-use Rattle.mk_subject.specs.NodeRow.{NodeRow, IsEntry}
+use Rattle.mk_subject.specs.NodeRow.{NodeRow, IsRow}
 use Rattle.mk_find.specs.Listed.{Adds}
 use Rattle.mk_find.specs.Candidates.{race}
 use Rattle.mk_subject.specs.Subject.{reads_of}
@@ -21,12 +21,12 @@ loop-entry-init c =
 pub note_files-requires-clause-graph : goal.note_files-requires-clause-graph
 note_files-requires-clause-graph c = c.loop-entry.invariant.graph
 
-pub note_files-requires-clause-entry : goal.note_files-requires-clause-entry
-note_files-requires-clause-entry c =
+pub note_files-requires-clause-row : goal.note_files-requires-clause-row
+note_files-requires-clause-row c =
     let x = c.args.subject.now in
     let entries = c.entries-entries.result.now in
     let lt : c.loop-entry.entry-index < length entries = omega arith in
-    subst (λ (e : NodeRow). IsEntry x e) (sym c.entry-item.is) (All-get_or (IsEntry x) entries c.loop-entry.entry-index c.entry-item.result lt c.entries-entries.ensures.right)
+    subst (λ (e : NodeRow). IsRow x e) (sym c.entry-item.is) (All-get_or (IsRow x) entries c.loop-entry.entry-index c.entry-item.result lt c.entries-entries.ensures.right)
 
 pub loop-entry-preserved : goal.loop-entry-preserved
 loop-entry-preserved c =

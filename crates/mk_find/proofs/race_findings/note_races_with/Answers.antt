@@ -23,14 +23,14 @@ pub loop-writer-preserved : goal.loop-writer-preserved
 loop-writer-preserved c =
     let lt : c.loop-writer.writer-index < length c.args.writers.now = omega arith in
     record {
-      leads = leads_map c.args.read.now.subject.now (λ o. race c.args.read.now.entry.now.number o c.args.read.now.file.file) c.args.writers.now c.loop-writer.writer-index 0 _ c.loop-writer.found c.note_race.new.found c.args.found.now lt c.loop-writer.invariant.leads c.in_ok-note_race.ensures.found;
+      leads = leads_map c.args.read.now.subject.now (λ o. race c.args.read.now.row.now.number o c.args.read.now.file.file) c.args.writers.now c.loop-writer.writer-index 0 _ c.loop-writer.found c.note_race.new.found c.args.found.now lt c.loop-writer.invariant.leads c.in_ok-note_race.ensures.found;
       same = c.in_ok-note_race.ensures.same ∙ c.loop-writer.invariant.same;
     }
 
 pub returns-clause-found : goal.returns-clause-found
 returns-clause-found c =
     let past : length c.args.writers.now ≤ c.loop-writer.writer-index = omega arith in
-    leads_done c.args.read.now.subject.now (map (λ o. race c.args.read.now.entry.now.number o c.args.read.now.file.file)
+    leads_done c.args.read.now.subject.now (map (λ o. race c.args.read.now.row.now.number o c.args.read.now.file.file)
     (drop c.loop-writer.writer-index c.args.writers.now)) _ c.loop-writer.found
-    c.args.found.now (ap (map (λ o. race c.args.read.now.entry.now.number o c.args.read.now.file.file))
+    c.args.found.now (ap (map (λ o. race c.args.read.now.row.now.number o c.args.read.now.file.file))
     (drop_past c.args.writers.now c.loop-writer.writer-index past)) c.loop-writer.invariant.leads

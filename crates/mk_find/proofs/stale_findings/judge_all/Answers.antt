@@ -6,7 +6,7 @@ use Rattle.std.proofs.lemmas.List.{get_or-map, length-map, take_more, take_all, 
 use Rattle.std.proofs.lemmas.List.Elements.{All-get_or}
 use Rattle.mk_graph.specs.Serial.{serial_order}
 use Rattle.mk_cert_text.specs.Certificate.{Way}
-use Rattle.mk_subject.specs.NodeRow.{NodeRow, IsEntry}
+use Rattle.mk_subject.specs.NodeRow.{NodeRow, IsRow}
 use Rattle.mk_find.specs.Listed.{Adds}
 use Rattle.mk_find.specs.Candidates.{stale}
 use Rattle.mk_subject.specs.Subject.{reads_of}
@@ -21,12 +21,12 @@ loop-entry-init c =
     let x = c.args.subject.now in
     (λ last h. subst (λ (ns : List ℕ). Adds x (flat_map (λ t. map (λ f. stale t f) (reads_of x t)) ns) c.args.found.now last) c.entries-entries.ensures.in_order h, λ none. subst (λ (l : List Way). AddsEntries x [] [] l) (sym c.in_ok-ways.ensures) (adds_no_entries x []))
 
-pub judge_recipe-requires-clause-entry : goal.judge_recipe-requires-clause-entry
-judge_recipe-requires-clause-entry c =
+pub judge_recipe-requires-clause-row : goal.judge_recipe-requires-clause-row
+judge_recipe-requires-clause-row c =
     let x = c.args.subject.now in
     let entries = c.entries-entries.result.now in
     let lt : c.loop-entry.entry-index < length entries = omega arith in
-    subst (λ (e : NodeRow). IsEntry x e) (sym c.entry-item.is) (All-get_or (IsEntry x) entries c.loop-entry.entry-index c.entry-item.result lt c.entries-entries.ensures.right)
+    subst (λ (e : NodeRow). IsRow x e) (sym c.entry-item.is) (All-get_or (IsRow x) entries c.loop-entry.entry-index c.entry-item.result lt c.entries-entries.ensures.right)
 
 pub loop-entry-preserved : goal.loop-entry-preserved
 loop-entry-preserved c =

@@ -15,7 +15,7 @@ pub returns-in-Fixed-clause-found : goal.returns-in-Fixed-clause-found
 returns-in-Fixed-clause-found c =
     let x = c.args.read.now.subject.now in
     let f = c.args.read.now.file.file in
-    let t = c.args.read.now.entry.now.number in
+    let t = c.args.read.now.row.now.number in
     let at = subst (λ (n : ℕ). IsReadStatus x n f c.in_ok-read_status_of.field-0) c.requires.start c.in_ok-read_status_of.ensures.standing in
     let so : IsReadStatus x t f Fixed = subst (λ (s : ReadStatus). IsReadStatus x t f s) c.in-Fixed.is at in
     adds_none x (stale t f) c.args.found.now (λ is. so is.1)
@@ -25,7 +25,7 @@ pub returns-in-HasWay-clause-found :
 returns-in-HasWay-clause-found c =
     let x = c.args.read.now.subject.now in
     let f = c.args.read.now.file.file in
-    let t = c.args.read.now.entry.now.number in
+    let t = c.args.read.now.row.now.number in
     let p = c.in-HasWay.path in
     let at = subst (λ (n : ℕ). IsReadStatus x n f c.in_ok-read_status_of.field-0) c.requires.start c.in_ok-read_status_of.ensures.standing in
     let so : IsReadStatus x t f (HasWay p) = subst (λ (s : ReadStatus). IsReadStatus x t f s) c.in-HasWay.is at in
@@ -35,7 +35,7 @@ pub returns-in-HasWay-2-clause-found : goal.returns-in-HasWay-2-clause-found
 returns-in-HasWay-2-clause-found c =
     let x = c.args.read.now.subject.now in
     let f = c.args.read.now.file.file in
-    let t = c.args.read.now.entry.now.number in
+    let t = c.args.read.now.row.now.number in
     let p = c.in-HasWay-2.field-0 in
     let at = subst (λ (n : ℕ). IsReadStatus x n f c.in_ok-read_status_of.field-0) c.requires.start c.in_ok-read_status_of.ensures.standing in
     let so : IsReadStatus x t f (HasWay p) = subst (λ (s : ReadStatus). IsReadStatus x t f s) c.in-HasWay-2.is at in
@@ -46,8 +46,8 @@ pub returns-in_ok-note_stale-in-Stale-clause-path :
 returns-in_ok-note_stale-in-Stale-clause-path c = λ empty needed.
     let x = c.args.read.now.subject.now in
     let f = c.args.read.now.file.file in
-    let t = c.args.read.now.entry.now.number in
+    let t = c.args.read.now.row.now.number in
     let at = subst (λ (n : ℕ). IsReadStatus x n f c.in_ok-read_status_of.field-0) c.requires.start c.in_ok-read_status_of.ensures.standing in
     let so : IsStale x t f = subst (λ (s : ReadStatus). IsReadStatus x t f s) c.in-Stale.is at in
-    let added = c.in_ok-note_stale-in-Stale.ensures x c.requires.read.entry so in
+    let added = c.in_ok-note_stale-in-Stale.ensures x c.requires.read.row so in
     (c.listed_exactly.ensures x (stale t f ∷ []) [] (nothing_kept x (stale t f ∷ []) c.args.found.now c.note_stale.new.found added empty) (stale t f)).1 (inl refl, so)

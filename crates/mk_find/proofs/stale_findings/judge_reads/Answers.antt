@@ -31,8 +31,8 @@ loop-place-init c = (c.requires.search, λ last h. h, λ none. adds_no_entries c
 pub read-file-requires-clause-place : goal.read-file-requires-clause-place
 read-file-requires-clause-place c =
     let x = c.args.tables.now.subject.now in
-    let count = c.count_of_reads-place-end.ensures ∙ ap (λ (k : NodeRow). length (reads_of x k.number)) c.entry.view_is in
-    omega (arith, c.loop-place-test.true, count, ap (λ (l : List (List ℕ)). length l) (same_reads x c.args.entry.now c.requires.entry))
+    let count = c.count_of_reads-place-end.ensures ∙ ap (λ (k : NodeRow). length (reads_of x k.number)) c.row.view_is in
+    omega (arith, c.loop-place-test.true, count, ap (λ (l : List (List ℕ)). length l) (same_reads x c.args.row.now c.requires.row))
 
 pub judge_read-requires-clause-rows : goal.judge_read-requires-clause-rows
 judge_read-requires-clause-rows c =
@@ -48,18 +48,18 @@ judge_read-requires-clause-ends c = c.requires.tables.ends
 pub judge_read-requires-clause-read : goal.judge_read-requires-clause-read
 judge_read-requires-clause-read c =
     let x = c.args.tables.now.subject.now in
-    let e = c.args.entry.now in
+    let e = c.args.row.now in
     let i = c.loop-place.place in
-    let count = c.count_of_reads-place-end.ensures ∙ ap (λ (k : NodeRow). length (reads_of x k.number)) c.entry.view_is in
+    let count = c.count_of_reads-place-end.ensures ∙ ap (λ (k : NodeRow). length (reads_of x k.number)) c.row.view_is in
     let low : i < length (reads_of x e.number) = omega (arith, c.loop-place-test.true, count) in
-    read_at _ i c.requires.entry low c.read-file.ensures
+    read_at _ i c.requires.row low c.read-file.ensures
 
 pub judge_read-requires-clause-out : goal.judge_read-requires-clause-out
 judge_read-requires-clause-out c =
     let x = c.args.tables.now.subject.now in
-    let e = c.args.entry.now in
+    let e = c.args.row.now in
     let i = c.loop-place.place in
-    let count = c.count_of_reads-place-end.ensures ∙ ap (λ (k : NodeRow). length (reads_of x k.number)) c.entry.view_is in
+    let count = c.count_of_reads-place-end.ensures ∙ ap (λ (k : NodeRow). length (reads_of x k.number)) c.row.view_is in
     let low : i < length (reads_of x e.number) = omega (arith, c.loop-place-test.true, count) in
     let reads : Has (reads_of x e.number) c.read-file.result.file = subst (λ (v : Target). Has (reads_of x e.number) v.file) (sym c.read-file.ensures) (Has-get_or (reads_of x e.number) i [] low) in
     reader_writes_not c.nothing_found_is_sound.ensures x c.graph-graph.ensures.graph c.graph-graph.ensures.subject c.requires.nothing e.number c.read-file.result.file reads
@@ -67,24 +67,24 @@ judge_read-requires-clause-out c =
 pub push-requires : goal.push-requires
 push-requires c =
     let x = c.args.tables.now.subject.now in
-    let t = c.args.entry.now.number in
+    let t = c.args.row.now.number in
     let f = c.read-file.result.file in
     let told = λ (o : Option FirstPath). MatchOption o (c.judge_read.new.found ≡ [] → ¬ (ReadNeedsWay x (record { recipe = t; file = f }))) (λ path. (c.judge_read.new.found ≡ []) × ReadNeedsWay x (record { recipe = t; file = f }) × IsAlongFirstPath x f t path.nodes.items path.finish) in
     let (none, needs, first) = subst told c.in-Some.is c.in_ok-path.ensures.path in
-    let count = c.count_of_reads-place-end.ensures ∙ ap (λ (k : NodeRow). length (reads_of x k.number)) c.entry.view_is in
+    let count = c.count_of_reads-place-end.ensures ∙ ap (λ (k : NodeRow). length (reads_of x k.number)) c.row.view_is in
     let low : c.loop-place.place < length (reads_of x t) = omega (arith, c.loop-place-test.true, count) in
-    record { read = read_at _ c.loop-place.place c.requires.entry low c.read-file.ensures; first = first }
+    record { read = read_at _ c.loop-place.place c.requires.row low c.read-file.ensures; first = first }
 
 pub loop-place-preserved : goal.loop-place-preserved
 loop-place-preserved c =
     let x = c.args.tables.now.subject.now in
-    let t = c.args.entry.now.number in
+    let t = c.args.row.now.number in
     let files = reads_of x t in
     let i = c.loop-place.place in
     let g = get_or files i [] in
     let f = c.read-file.result.file in
     let is : f ≡ g = ap (λ (v : Target). v.file) c.read-file.ensures in
-    let count = c.count_of_reads-place-end.ensures ∙ ap (λ (k : NodeRow). length (reads_of x k.number)) c.entry.view_is in
+    let count = c.count_of_reads-place-end.ensures ∙ ap (λ (k : NodeRow). length (reads_of x k.number)) c.row.view_is in
     let low : i < length files = omega (arith, c.loop-place-test.true, count) in
     let inv = c.loop-place.invariant in
     let found = c.judge_read.new.found in
@@ -112,18 +112,18 @@ loop-place-preserved c =
 pub returns-clause-found : goal.returns-clause-found
 returns-clause-found c =
     let x = c.args.tables.now.subject.now in
-    let e = c.args.entry.now in
+    let e = c.args.row.now in
     let i = c.loop-place.place in
-    let count = c.count_of_reads-place-end.ensures ∙ ap (λ (k : NodeRow). length (reads_of x k.number)) c.entry.view_is in
+    let count = c.count_of_reads-place-end.ensures ∙ ap (λ (k : NodeRow). length (reads_of x k.number)) c.row.view_is in
     let past : length (reads_of x e.number) ≤ i = omega (arith, c.loop-place-test.false, count) in
     leads_done x (map (λ f. stale e.number f) (drop i (reads_of x e.number))) _ c.loop-place.found c.args.found.now (ap (λ (fs : List (List ℕ)). map (λ f. stale e.number f) fs) (drop_past (reads_of x e.number) i past)) c.loop-place.invariant.1
 
 pub returns-clause-ways : goal.returns-clause-ways
 returns-clause-ways c none =
     let x = c.args.tables.now.subject.now in
-    let e = c.args.entry.now in
+    let e = c.args.row.now in
     let i = c.loop-place.place in
-    let count = c.count_of_reads-place-end.ensures ∙ ap (λ (k : NodeRow). length (reads_of x k.number)) c.entry.view_is in
+    let count = c.count_of_reads-place-end.ensures ∙ ap (λ (k : NodeRow). length (reads_of x k.number)) c.row.view_is in
     let past : length (reads_of x e.number) ≤ i = omega (arith, c.loop-place-test.false, count) in
-    let all : take i (reads_of x e.number) ≡ once (reads_of x e.number) = take_all i (reads_of x e.number) past ∙ sym (reads_distinct x e c.requires.entry) in
+    let all : take i (reads_of x e.number) ≡ once (reads_of x e.number) = take_all i (reads_of x e.number) past ∙ sym (reads_distinct x e c.requires.row) in
     subst (λ (l : List (List ℕ)). AddsEntries x (reads_of_files e.number l) c.args.ways.now c.loop-place.ways) all (c.loop-place.invariant.2 none)

@@ -12,7 +12,7 @@ use Rattle.mk_find.proofs.stale_findings.judge_reads.Given as goal
 -- recipe that is always made.
 abbrev pub invariant-loop-place : goal.invariant-loop-place
 invariant-loop-place l =
-    (l.search ≡ record { rows = l.tables.rows; start = l.entry.number }) × Leads l.tables.subject.now (map (λ f. stale l.entry.number f) (drop l.place (reads_of l.tables.subject.now l.entry.number)))
-    (map (λ f. stale l.entry.number f) (reads_of l.tables.subject.now l.entry.number)) l.found l.initial.found ×
-    (l.found ≡ [] → AddsEntries l.tables.subject.now (reads_of_files l.entry.number (take l.place (reads_of l.tables.subject.now l.entry.number))) l.initial.ways l.ways) ×
+    (l.search ≡ record { rows = l.tables.rows; start = l.row.number }) × Leads l.tables.subject.now (map (λ f. stale l.row.number f) (drop l.place (reads_of l.tables.subject.now l.row.number)))
+    (map (λ f. stale l.row.number f) (reads_of l.tables.subject.now l.row.number)) l.found l.initial.found ×
+    (l.found ≡ [] → AddsEntries l.tables.subject.now (reads_of_files l.row.number (take l.place (reads_of l.tables.subject.now l.row.number))) l.initial.ways l.ways) ×
     AlwaysNoneBefore l.tables.subject.now l.search.start l.passed

@@ -15,20 +15,20 @@ use Rattle.mk_find.proofs.stale_findings.judge_recipe.Goals as goal
 pub judge_reads-requires-clause-search : goal.judge_reads-requires-clause-search
 judge_reads-requires-clause-search c =
     let from : ℕ → SearchInput = λ start. record { rows = c.args.tables.now.rows; start = start } in
-    c.in_ok-search.ensures ∙ ap (λ (k : NodeRow). from k.number) c.entry.view_is
+    c.in_ok-search.ensures ∙ ap (λ (k : NodeRow). from k.number) c.row.view_is
 
 pub returns-then-count_of_reads-eq0-clause-found : goal.returns-then-count_of_reads-eq0-clause-found
 returns-then-count_of_reads-eq0-clause-found c =
     let x = c.args.tables.now.subject.now in
-    let t = c.args.entry.now.number in
-    let few : length (reads_of x c.entry.inside.number) ≡ 0 = omega (arith, c.count_of_reads.ensures, c.if-count_of_reads-eq0.true) in
-    let none : reads_of x t ≡ [] = nil_from_length (reads_of x t) (ap (λ (k : NodeRow). length (reads_of x k.number)) (sym c.entry.view_is) ∙ few) in
+    let t = c.args.row.now.number in
+    let few : length (reads_of x c.row.inside.number) ≡ 0 = omega (arith, c.count_of_reads.ensures, c.if-count_of_reads-eq0.true) in
+    let none : reads_of x t ≡ [] = nil_from_length (reads_of x t) (ap (λ (k : NodeRow). length (reads_of x k.number)) (sym c.row.view_is) ∙ few) in
     subst (λ (fs : List (List ℕ)). Adds x (map (λ f. stale t f) fs) c.args.found.now c.args.found.now) (sym none) (adds_nothing x c.args.found.now)
 
 pub returns-then-count_of_reads-eq0-clause-ways : goal.returns-then-count_of_reads-eq0-clause-ways
 returns-then-count_of_reads-eq0-clause-ways c = λ nothing.
     let x = c.args.tables.now.subject.now in
-    let t = c.args.entry.now.number in
-    let few : length (reads_of x c.entry.inside.number) ≡ 0 = omega (arith, c.count_of_reads.ensures, c.if-count_of_reads-eq0.true) in
-    let none : reads_of x t ≡ [] = nil_from_length (reads_of x t) (ap (λ (k : NodeRow). length (reads_of x k.number)) (sym c.entry.view_is) ∙ few) in
+    let t = c.args.row.now.number in
+    let few : length (reads_of x c.row.inside.number) ≡ 0 = omega (arith, c.count_of_reads.ensures, c.if-count_of_reads-eq0.true) in
+    let none : reads_of x t ≡ [] = nil_from_length (reads_of x t) (ap (λ (k : NodeRow). length (reads_of x k.number)) (sym c.row.view_is) ∙ few) in
     subst (λ (fs : List (List ℕ)). AddsEntries x (reads_of_files t (once fs)) c.args.ways.now c.args.ways.now) (sym none) (adds_no_entries x c.args.ways.now)

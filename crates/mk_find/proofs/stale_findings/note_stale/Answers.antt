@@ -10,7 +10,7 @@ use Rattle.mk_find.proofs.stale_findings.note_stale.Goals as goal
 pub returns : goal.returns
 returns c = λ x is stale_read.
     let f = c.args.file.now.file in
-    let t = c.args.entry.now.number in
+    let t = c.args.row.now.number in
     let old = c.args.found.now in
     let mid = c.name_of.new.self in
     let recipe = ap (λ (k : List ℕ). mid ++ Stale k c.in_ok-file.file ∷ []) (c.in_ok-recipe.ensures ∙ ap (λ (n : Node). n.name) is.same_node) in

@@ -14,28 +14,28 @@ use Rattle.mk_subject.proofs.Decided.{has_decides}
 use Rattle.mk_subject.proofs.FileDecided.{writers_write}
 use Rattle.mk_find.proofs.writer_findings.note_loose.Goals as goal
 
-pub returns-then-entry : goal.returns-then-entry
-returns-then-entry c =
+pub returns-then-row : goal.returns-then-row
+returns-then-row c =
     let x = c.args.subject.now in
-    let e = c.args.entry.now in
-    let recipe : (node x.graph e.number).recipe ≡ true = sym (ap (λ (n : Node). n.recipe) c.requires.same_node) ∙ (sym (ap (λ (k : NodeRow). k.node.recipe) c.entry.view_is) ∙ (sym c.entry.invariant ∙ c.if-entry.true)) in
+    let e = c.args.row.now in
+    let recipe : (node x.graph e.number).recipe ≡ true = sym (ap (λ (n : Node). n.recipe) c.requires.same_node) ∙ (sym (ap (λ (k : NodeRow). k.node.recipe) c.row.view_is) ∙ (sym c.row.invariant ∙ c.if-row.true)) in
     adds_none_of x (λ o. loose e.number o) (serial_order x.graph) c.args.found.now (λ o h. true≢false (sym recipe ∙ h.0))
 
 pub note_loose_writers-requires : goal.note_loose_writers-requires
 note_loose_writers-requires c =
     let x = c.args.subject.now in
-    let e = c.args.entry.now in
+    let e = c.args.row.now in
     let same : c.writers_for-writers.result.now ≡ writers_of x (name_of x e.number) = c.writers_for-writers.ensures in
     record {
-      entry = c.requires;
-      bare = sym (ap (λ (k : NodeRow). k.node.recipe) c.entry.view_is) ∙ (sym c.entry.invariant ∙ c.if-entry.false);
+      row = c.requires;
+      bare = sym (ap (λ (k : NodeRow). k.node.recipe) c.row.view_is) ∙ (sym c.row.invariant ∙ c.if-row.false);
       written = λ o h. writers_write x (name_of x e.number) c.writers_for-writers.result.now same o h;
     }
 
 pub returns : goal.returns
 returns c =
     let x = c.args.subject.now in
-    let e = c.args.entry.now in
+    let e = c.args.row.now in
     let old = c.args.found.now in
     let new = c.note_loose_writers.new.found in
     let same : c.writers_for-writers.result.now ≡ writers_of x (name_of x e.number) = c.writers_for-writers.ensures in

@@ -16,9 +16,9 @@ use Rattle.mk_find.proofs.writer_findings.note_loose_writer.Goals as goal
 pub returns-then-has_number : goal.returns-then-has_number
 returns-then-has_number c =
     let x = c.args.subject.now in
-    let e = c.args.entry.now in
-    let number : c.entry.inside.number ≡ e.number = ap (λ (k : NodeRow). k.number) c.entry.view_is in
-    let needs : c.prerequisites.result.now ≡ prerequisites x.graph e.number = c.prerequisites.ensures ∙ (ap (λ (g : Graph). prerequisites g c.entry.inside.number) c.graph.ensures.value ∙ ap (prerequisites x.graph) number) in
+    let e = c.args.row.now in
+    let number : c.row.inside.number ≡ e.number = ap (λ (k : NodeRow). k.number) c.row.view_is in
+    let needs : c.prerequisites.result.now ≡ prerequisites x.graph e.number = c.prerequisites.ensures ∙ (ap (λ (g : Graph). prerequisites g c.row.inside.number) c.graph.ensures.value ∙ ap (prerequisites x.graph) number) in
     adds_none x (loose e.number c.args.writer) c.args.found.now (λ h. h.2 (subst (λ (l : List ℕ). Has l c.args.writer) needs (Has-from_has c.prerequisites.result.now c.args.writer (sym c.if-has_number.ensures))))
 
 pub file_of_node-requires : goal.file_of_node-requires
@@ -27,12 +27,12 @@ file_of_node-requires c = writer_is_node c.args.subject.now c.args.writer _ c.re
 pub returns : goal.returns
 returns c =
     let x = c.args.subject.now in
-    let e = c.args.entry.now in
+    let e = c.args.row.now in
     let old = c.args.found.now in
     let mid = c.name_of.new.self in
-    let is = c.requires.entry in
-    let number : c.entry.inside.number ≡ e.number = ap (λ (k : NodeRow). k.number) c.entry.view_is in
-    let needs : c.prerequisites.result.now ≡ prerequisites x.graph e.number = c.prerequisites.ensures ∙ (ap (λ (g : Graph). prerequisites g c.entry.inside.number) c.graph.ensures.value ∙ ap (prerequisites x.graph) number) in
+    let is = c.requires.row in
+    let number : c.row.inside.number ≡ e.number = ap (λ (k : NodeRow). k.number) c.row.view_is in
+    let needs : c.prerequisites.result.now ≡ prerequisites x.graph e.number = c.prerequisites.ensures ∙ (ap (λ (g : Graph). prerequisites g c.row.inside.number) c.graph.ensures.value ∙ ap (prerequisites x.graph) number) in
     let bare : (node x.graph e.number).recipe ≡ false = sym (ap (λ (n : Node). n.recipe) is.same_node) ∙ c.requires.bare in
     let named = ap (λ (k : List ℕ). mid ++ Loose k c.in_ok-writer.writer ∷ []) (name_is x e c.in_ok-name.name is c.in_ok-name.ensures) in
     adds_pushed x (loose e.number c.args.writer) old mid c.push.new.self c.in_ok-writer.ensures.same (bare, c.requires.written, λ h. not-from_has c.prerequisites.result.now c.args.writer (sym c.if-has_number.ensures) (subst (λ (l : List ℕ). Has l c.args.writer) (sym needs) h))

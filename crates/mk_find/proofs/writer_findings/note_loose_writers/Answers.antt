@@ -15,12 +15,12 @@ note_loose_writer-requires-clause-written c =
 pub loop-writer-preserved : goal.loop-writer-preserved
 loop-writer-preserved c =
     let lt : c.loop-writer.writer-index < length c.args.writers.now = omega arith in
-    leads_map c.args.subject.now (λ o. loose c.args.entry.now.number o) c.args.writers.now c.loop-writer.writer-index 0 _ c.loop-writer.found c.note_loose_writer.new.found c.args.found.now lt c.loop-writer.invariant c.in_ok-note_loose_writer.ensures
+    leads_map c.args.subject.now (λ o. loose c.args.row.now.number o) c.args.writers.now c.loop-writer.writer-index 0 _ c.loop-writer.found c.note_loose_writer.new.found c.args.found.now lt c.loop-writer.invariant c.in_ok-note_loose_writer.ensures
 
 pub returns : goal.returns
 returns c =
     let past : length c.args.writers.now ≤ c.loop-writer.writer-index = omega arith in
-    leads_done c.args.subject.now (map (λ o. loose c.args.entry.now.number o)
+    leads_done c.args.subject.now (map (λ o. loose c.args.row.now.number o)
     (drop c.loop-writer.writer-index c.args.writers.now)) _ c.loop-writer.found
-    c.args.found.now (ap (map (λ o. loose c.args.entry.now.number o))
+    c.args.found.now (ap (map (λ o. loose c.args.row.now.number o))
     (drop_past c.args.writers.now c.loop-writer.writer-index past)) c.loop-writer.invariant

@@ -9,8 +9,8 @@ use Rattle.mk_infer.proofs.inference.inferred.Goals as goal
 
 pub returns-in_default : goal.returns-in_default
 returns-in_default c =
-    let m = c.args.table.now in
-    let e = c.args.exists.now in
+    let m = c.args.lookup.now.table.now in
+    let e = c.args.lookup.now.exists.now in
     let name = c.args.name.now in
     let gives : Option (List ℕ) → _ = option_map (chosen_by m (stem m name) (ending m name)) in
     let may = sym c.may_infer.ensures ∙ c.if-not-may_infer.false in
@@ -19,8 +19,8 @@ returns-in_default c =
 -- the first suffix that fits a name of these parts, by those that have a rule
 pub fitting-requires-clause-sources : goal.fitting-requires-clause-sources
 fitting-requires-clause-sources c =
-    let m = c.args.table.now in
-    let e = c.args.exists.now in
+    let m = c.args.lookup.now.table.now in
+    let e = c.args.lookup.now.exists.now in
     let name = c.args.name.now in
     let sources = texts c.in-Some.sources.now in
     let first = first_fits m e name sources (c.in-Some.ensures name c.parted.ensures.ending) in
@@ -29,8 +29,8 @@ fitting-requires-clause-sources c =
 
 pub returns : goal.returns
 returns c =
-    let m = c.args.table.now in
-    let e = c.args.exists.now in
+    let m = c.args.lookup.now.table.now in
+    let e = c.args.lookup.now.exists.now in
     let name = c.args.name.now in
     let by_stem = subst (λ (s : List ℕ). IfOk c.fitting.result (λ chosen. chosen ≡ option_map (chosen_by m s c.parted.result.1.now) (find (fits_by m e s c.parted.result.1.now) m.suffixes))) c.parted.ensures.stem c.fitting.ensures in
     let by_both = subst (λ (s : List ℕ). IfOk c.fitting.result (λ chosen. chosen ≡ option_map (chosen_by m (stem m name) s) (find (fits_by m e (stem m name) s) m.suffixes))) c.parted.ensures.ending by_stem in

@@ -14,7 +14,7 @@ loop-suffix-preserved c =
     let i = c.loop-suffix.suffix-index in
     let lt : i < length names = omega arith in
     let more : texts (take (i + 1) names) ≡ texts (take i names) ++ (get_or names i _).now ∷ [] = ap texts (take_more names i _ lt) ∙ map_push (λ (n : Bor (List ℕ)). n.now) (take i names) (get_or names i _) in
-    subst (λ (tried : List (List ℕ)). IsLeast (fits_by c.args.table.now c.args.exists.now c.args.stem.now
-    c.args.ending.now) (chosen_by c.args.table.now c.args.stem.now c.args.ending.now)
-    c.args.table.now.suffixes tried c.in_ok-least.least) (sym more)
+    subst (λ (tried : List (List ℕ)). IsLeast (fits_by c.args.lookup.now.table.now c.args.lookup.now.exists.now c.args.stem.now
+    c.args.ending.now) (chosen_by c.args.lookup.now.table.now c.args.stem.now c.args.ending.now)
+    c.args.lookup.now.table.now.suffixes tried c.in_ok-least.least) (sym more)
     (c.in_ok-least.ensures (texts (take i names)) c.loop-suffix.invariant)

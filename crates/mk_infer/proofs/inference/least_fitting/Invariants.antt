@@ -5,4 +5,4 @@ use Rattle.mk_infer.proofs.inference.least_fitting.Given as goal
 
 -- the least of the suffixes so far
 abbrev pub invariant-loop-suffix : goal.invariant-loop-suffix
-invariant-loop-suffix l = IsLeast (fits_by l.table l.exists l.stem l.ending) (chosen_by l.table l.stem l.ending) l.table.suffixes (texts (take l.suffix-index l.suffixes)) l.least
+invariant-loop-suffix l = IsLeast (fits_by l.lookup.table.now l.lookup.exists.now l.stem l.ending) (chosen_by l.lookup.table.now l.stem l.ending) l.lookup.table.now.suffixes (texts (take l.suffix-index l.suffixes)) l.least

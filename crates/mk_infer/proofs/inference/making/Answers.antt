@@ -11,7 +11,7 @@ pub returns-in-Some : goal.returns-in-Some
 returns-in-Some c =
     ap (λ (x : Chosen). let r : ResolvedRule = record { choice = Some x.name; commands = x.commands; rules = c.rules_of-rules.result } in r) c.chosen.view_is
     ∙ (ap (λ (rules : List RuleRead). let r : ResolvedRule = record { choice = Some c.in-Some.chosen.name; commands = c.in-Some.chosen.commands; rules = rules } in r) c.rules_of-rules.ensures
-    ∙ by_rule c.args.table.now c.args.exists.now c.args.name.now c.in-Some.chosen (sym c.in-Some.is ∙ c.in_ok-chosen.ensures))
+    ∙ by_rule c.args.lookup.now.table.now c.args.lookup.now.exists.now c.args.name.now c.in-Some.chosen (sym c.in-Some.is ∙ c.in_ok-chosen.ensures))
 
 pub returns-in-None : goal.returns-in-None
 returns-in-None c =
@@ -21,8 +21,8 @@ returns-in-None c =
       choice = None;
       commands = commands;
       rules = lines_of
-          (rules_for c.args.table.now c.args.name.now) c.args.name.now;
+          (rules_for c.args.lookup.now.table.now c.args.name.now) c.args.name.now;
     } in r)
-    (c.commands-own.ensures (rules_for c.args.table.now c.args.name.now) c.args.name.now
+    (c.commands-own.ensures (rules_for c.args.lookup.now.table.now c.args.name.now) c.args.name.now
     c.rules_of-rules.ensures)
-    ∙ by_itself c.args.table.now c.args.exists.now c.args.name.now (sym c.in-None.is ∙ c.in_ok-chosen.ensures))
+    ∙ by_itself c.args.lookup.now.table.now c.args.lookup.now.exists.now c.args.name.now (sym c.in-None.is ∙ c.in_ok-chosen.ensures))

@@ -51,7 +51,7 @@ pub read_files-returns-in_err-read_file-clause-follows : goal.read_files-returns
 read_files-returns-in_err-read_file-clause-follows g t c =
     let lt : c.loop-name.name-index < length c.args.names.now = omega arith in
     let p = err_from_is_err_and c.from_residual.result c.from_residual.ensures.1 in
-    rw (p.1, p.2) (file_failed string_bytes c.args.levels (place_at c.args.spot.now) c.args.optional
+    rw (p.1, p.2) (file_failed string_bytes c.args.include.now.levels (place_at c.args.include.now.location.now) c.args.include.now.optional
     c.args.names.now c.args.state.now (g.F.Files.fits c.loop-name.files) (g.F.Files.fits c.read_file.new.files)
     c.loop-name.name-index _ _ c.loop-name.state c.in_err-read_file.field-0.0 c.in_err-read_file.ensures.keeps
     (c.deref.ensures ∙ ap string_bytes c.name-item.is) lt c.loop-name.invariant.2
@@ -62,7 +62,7 @@ read_files-loop-name-preserved g t c =
     let lt : c.loop-name.name-index < length c.args.names.now = omega arith in (
       λ told fits. c.loop-name.invariant.0 told (c.in_ok-read_file.ensures.keeps told fits),
       c.in_ok-read_file.ensures.noted ∙ c.loop-name.invariant.1,
-      file_done string_bytes c.args.levels (place_at c.args.spot.now) c.args.optional c.args.names.now
+      file_done string_bytes c.args.include.now.levels (place_at c.args.include.now.location.now) c.args.include.now.optional c.args.names.now
           c.args.state.now (g.F.Files.fits c.loop-name.files) (g.F.Files.fits c.read_file.new.files)
           c.loop-name.name-index _ _ c.loop-name.state c.read_file.new.state c.in_ok-read_file.ensures.keeps
           (c.deref.ensures ∙ ap string_bytes c.name-item.is) lt c.loop-name.invariant.2
@@ -72,7 +72,7 @@ read_files-loop-name-preserved g t c =
 pub read_files-returns-clause-follows : goal.read_files-returns-clause-follows
 read_files-returns-clause-follows g t c =
     let le : length c.args.names.now ≤ c.loop-name.name-index = omega arith in
-    files_done string_bytes c.args.levels (place_at c.args.spot.now) c.args.optional c.args.names.now c.args.state.now (g.F.Files.fits c.loop-name.files) c.loop-name.name-index c.loop-name.state le c.loop-name.invariant.2
+    files_done string_bytes c.args.include.now.levels (place_at c.args.include.now.location.now) c.args.include.now.optional c.args.names.now c.args.state.now (g.F.Files.fits c.loop-name.files) c.loop-name.name-index c.loop-name.state le c.loop-name.invariant.2
 
 pub read_text-returns-in_err-lines-clause-follows : goal.read_text-returns-in_err-lines-clause-follows
 read_text-returns-in_err-lines-clause-follows g t c =
@@ -117,7 +117,7 @@ pub read_kind-returns-in-Include-clause-follows : goal.read_kind-returns-in-Incl
 read_kind-returns-in-Include-clause-follows g t c =
     subst (λ (k : code.Kind). IfFits (g.F.Files.fits c.read_include.new.files)
     (λ told. Follows told (λ reader. plain_line reader (below c.args.source.now.levels reader)
-    c.args.source.now.default (place_at c.args.spot.now) c.args.state.now (kind_view k)) c.args.state.now
+    c.args.source.now.default (place_at c.args.location.now) c.args.state.now (kind_view k)) c.args.state.now
     (seen (λ done. c.read_include.new.state) c.read_include.result))) (sym c.in-Include.is)
     c.read_include.ensures.follows
 
@@ -125,9 +125,9 @@ pub read_kind-returns-in-Assignment-clause-follows : goal.read_kind-returns-in-A
 read_kind-returns-in-Assignment-clause-follows g t c =
     subst (λ (k : code.Kind). IfFits (g.F.Files.fits c.args.files.now)
     (λ told. Follows told (λ reader. plain_line reader (below c.args.source.now.levels reader)
-    c.args.source.now.default (place_at c.args.spot.now) c.args.state.now (kind_view k)) c.args.state.now
+    c.args.source.now.default (place_at c.args.location.now) c.args.state.now (kind_view k)) c.args.state.now
     (seen (λ done. c.assign.new.self) c.assign.result))) (sym c.in-Assignment.is)
-    (assignment_read c.args.source.now.levels c.args.source.now.default (place_at c.args.spot.now)
+    (assignment_read c.args.source.now.levels c.args.source.now.default (place_at c.args.location.now)
     c.args.state.now (g.F.Files.fits c.args.files.now) (assignment_view c.in-Assignment.line)
     (seen (λ done. c.assign.new.self) c.assign.result) (gives_left (λ done. c.assign.new.self)
     c.assign.result _ c.assign.ensures.exact) (own_left (λ done. c.assign.new.self) c.assign.result
@@ -137,9 +137,9 @@ pub read_kind-returns-in-Rule-clause-follows : goal.read_kind-returns-in-Rule-cl
 read_kind-returns-in-Rule-clause-follows g t c =
     subst (λ (k : code.Kind). IfFits (g.F.Files.fits c.args.files.now)
     (λ told. Follows told (λ reader. plain_line reader (below c.args.source.now.levels reader)
-    c.args.source.now.default (place_at c.args.spot.now) c.args.state.now (kind_view k)) c.args.state.now
+    c.args.source.now.default (place_at c.args.location.now) c.args.state.now (kind_view k)) c.args.state.now
     (seen (λ done. c.add_rule.new.self) c.add_rule.result))) (sym c.in-Rule.is)
-    (rule_read c.args.source.now.levels c.args.source.now.default (place_at c.args.spot.now) c.args.state.now
+    (rule_read c.args.source.now.levels c.args.source.now.default (place_at c.args.location.now) c.args.state.now
     (g.F.Files.fits c.args.files.now) (rule_view c.in-Rule.line)
     (seen (λ done. c.add_rule.new.self) c.add_rule.result)
     (gives_left (λ done. c.add_rule.new.self) c.add_rule.result _ c.add_rule.ensures.exact)
@@ -149,28 +149,28 @@ pub read_include-returns-in_err-names-clause-follows : goal.read_include-returns
 read_include-returns-in_err-names-clause-follows g t c =
     let table : c.state.inside.macros ≡ c.args.state.now.table = ap (λ (s : State). s.table) c.state.view_is in
     let p = err_from_is_err_and c.from_residual.result c.from_residual.ensures.1 in
-    rw (p.1, p.2) (include_fails (place_at c.args.spot.now) c.args.state.now (include_view c.args.line) c.args.source.now.levels (g.F.Files.fits c.args.files.now) c.in_err-names.field-0.0
-    (subst (λ (t : List Macro). Fails c.in_err-names.field-0.0 (include_names c.args.source.now.levels (place_at c.args.spot.now) t c.args.line.names.now)) table c.in_err-names.ensures.exact) c.in_err-names.ensures.own)
+    rw (p.1, p.2) (include_fails (place_at c.args.location.now) c.args.state.now (include_view c.args.line) c.args.source.now.levels (g.F.Files.fits c.args.files.now) c.in_err-names.field-0.0
+    (subst (λ (t : List Macro). Fails c.in_err-names.field-0.0 (include_names c.args.source.now.levels (place_at c.args.location.now) t c.args.line.names.now)) table c.in_err-names.ensures.exact) c.in_err-names.ensures.own)
 
 pub read_include-returns-clause-follows : goal.read_include-returns-clause-follows
 read_include-returns-clause-follows g t c =
     let table : c.state.inside.macros ≡ c.args.state.now.table = ap (λ (s : State). s.table) c.state.view_is in
-    include_read (place_at c.args.spot.now) c.args.state.now (include_view c.args.line) c.args.source.now.levels (g.F.Files.fits c.read_files.new.files) (map string_bytes c.deref.result.now) (seen (λ done. c.read_files.new.state) c.read_files.result)
-    (ap (λ (t : List Macro). include_names c.args.source.now.levels (place_at c.args.spot.now) t c.args.line.names.now) (sym table) ∙ (c.in_ok-names.ensures.exact ∙ ap (λ (items : List (String Global)). Ok (map string_bytes items)) (sym c.deref.ensures.value)))
+    include_read (place_at c.args.location.now) c.args.state.now (include_view c.args.line) c.args.source.now.levels (g.F.Files.fits c.read_files.new.files) (map string_bytes c.deref.result.now) (seen (λ done. c.read_files.new.state) c.read_files.result)
+    (ap (λ (t : List Macro). include_names c.args.source.now.levels (place_at c.args.location.now) t c.args.line.names.now) (sym table) ∙ (c.in_ok-names.ensures.exact ∙ ap (λ (items : List (String Global)). Ok (map string_bytes items)) (sym c.deref.ensures.value)))
     (subst (λ (s : State). IfFits (g.F.Files.fits c.read_files.new.files)
     (λ told. Follows told (λ reader. files reader (read_below (c.args.source.now.levels - 1) reader)
-    (place_at c.args.spot.now) c.args.line.optional (map string_bytes c.deref.result.now) s) s
+    (place_at c.args.location.now) c.args.line.optional (map string_bytes c.deref.result.now) s) s
     (seen (λ done. c.read_files.new.state) c.read_files.result))) c.in_ok-own.ensures
     c.read_files.ensures.follows)
 
 pub read_file-returns-then-is_full-clause-follows : goal.read_file-returns-then-is_full-clause-follows
 read_file-returns-then-is_full-clause-follows g t c =
-    file_full c.args.levels (place_at c.args.spot.now) c.args.optional c.args.state.now c.args.name.now (g.F.Files.fits c.args.files.now) c.too_many.result (sym c.if-is_full.ensures) c.too_many.ensures.exact c.too_many.ensures.own
+    file_full c.args.include.now.levels (place_at c.args.include.now.location.now) c.args.include.now.optional c.args.state.now c.args.name.now (g.F.Files.fits c.args.files.now) c.too_many.result (sym c.if-is_full.ensures) c.too_many.ensures.exact c.too_many.ensures.own
 
 pub read_file-returns-in_err-text-clause-follows : goal.read_file-returns-in_err-text-clause-follows
 read_file-returns-in_err-text-clause-follows g t c =
     let p = err_from_is_err_and c.from_residual.result c.from_residual.ensures.1 in
-    rw (p.1, p.2) (file_unread c.args.levels (place_at c.args.spot.now) c.args.optional c.args.state.now c.args.name.now (g.F.Files.fits c.text_at.new.files) c.in_err-text.field-0.0 (sym c.if-is_full.ensures) c.in_err-text.ensures.fault)
+    rw (p.1, p.2) (file_unread c.args.include.now.levels (place_at c.args.include.now.location.now) c.args.include.now.optional c.args.state.now c.args.name.now (g.F.Files.fits c.text_at.new.files) c.in_err-text.field-0.0 (sym c.if-is_full.ensures) c.in_err-text.ensures.fault)
 
 pub read_file-returns-in_err-text-clause-noted : goal.read_file-returns-in_err-text-clause-noted
 read_file-returns-in_err-text-clause-noted g t c =
@@ -179,7 +179,7 @@ read_file-returns-in_err-text-clause-noted g t c =
 
 pub read_file-returns-in-Some-clause-follows : goal.read_file-returns-in-Some-clause-follows
 read_file-returns-in-Some-clause-follows g t c =
-    file_found c.args.levels (place_at c.args.spot.now) c.args.optional c.args.state.now c.args.name.now
+    file_found c.args.include.now.levels (place_at c.args.include.now.location.now) c.args.include.now.optional c.args.state.now c.args.name.now
     (g.F.Files.fits c.text_at.new.files) (g.F.Files.fits c.read_found.new.files) c.deref.result.now
     (seen (λ done. c.read_found.new.state) c.read_found.result) (sym c.if-is_full.ensures)
     c.read_found.ensures.keeps
@@ -190,7 +190,7 @@ read_file-returns-in-Some-clause-follows g t c =
 
 pub read_file-returns-in-None-clause-follows : goal.read_file-returns-in-None-clause-follows
 read_file-returns-in-None-clause-follows g t c =
-    file_missing c.args.levels (place_at c.args.spot.now) c.args.optional c.args.state.now c.args.name.now (g.F.Files.fits c.text_at.new.files) (seen (λ done. c.pass_over.new.state) c.pass_over.result) (sym c.if-is_full.ensures)
+    file_missing c.args.include.now.levels (place_at c.args.include.now.location.now) c.args.include.now.optional c.args.state.now c.args.name.now (g.F.Files.fits c.text_at.new.files) (seen (λ done. c.pass_over.new.state) c.pass_over.result) (sym c.if-is_full.ensures)
     (λ told e. ap (option_map (λ text. text.items))
     (sym c.in-None.is) ∙ c.in_ok-text.ensures.text told e)
     (gives_left (λ done. c.pass_over.new.state) c.pass_over.result _ c.pass_over.ensures.exact)
@@ -199,30 +199,30 @@ read_file-returns-in-None-clause-follows g t c =
 pub read_found-returns-clause-follows : goal.read_found-returns-clause-follows
 read_found-returns-clause-follows g t c =
     let at_state = subst (λ (s : State). IfFits (g.F.Files.fits c.read_text.new.files)
-    (λ told. Follows told (λ reader. with_text reader (below c.args.levels reader)
+    (λ told. Follows told (λ reader. with_text reader (below c.args.include.now.levels reader)
     (record { file = c.in_ok-file.file; default = false }) c.args.text.now s) s
     (Ok c.read_text.new.state))) c.in_ok-note_text.ensures c.in_ok-read_text.ensures.follows in
     let went = subst (λ (name : List ℕ). IfFits (g.F.Files.fits c.read_text.new.files)
-    (λ told. Follows told (λ reader. with_text reader (below c.args.levels reader)
+    (λ told. Follows told (λ reader. with_text reader (below c.args.include.now.levels reader)
     (record { file = name; default = false }) c.args.text.now
     (text_more c.args.state.now c.args.name.now)) (text_more c.args.state.now c.args.name.now)
     (Ok c.read_text.new.state))) c.in_ok-file.ensures at_state in
     subst (λ (s : State). IfFits (g.F.Files.fits c.read_text.new.files)
-    (λ told. Follows told (λ reader. found_after (read_below c.args.levels reader) c.args.name.now
+    (λ told. Follows told (λ reader. found_after (read_below c.args.include.now.levels reader) c.args.name.now
     c.args.text.now (text_more c.args.state.now c.args.name.now))
     (text_more c.args.state.now c.args.name.now) (Ok s))) (sym c.in_ok-own.ensures)
-    (found_read c.args.levels c.args.name.now c.args.text.now (text_more c.args.state.now c.args.name.now) (g.F.Files.fits c.read_text.new.files) c.read_text.new.state went)
+    (found_read c.args.include.now.levels c.args.name.now c.args.text.now (text_more c.args.state.now c.args.name.now) (g.F.Files.fits c.read_text.new.files) c.read_text.new.state went)
 
 pub read_found-returns-in_err-read_text-clause-follows : goal.read_found-returns-in_err-read_text-clause-follows
 read_found-returns-in_err-read_text-clause-follows g t c =
     let at_state = subst (λ (s : State). IfFits (g.F.Files.fits c.read_text.new.files)
-    (λ told. Follows told (λ reader. with_text reader (below c.args.levels reader)
+    (λ told. Follows told (λ reader. with_text reader (below c.args.include.now.levels reader)
     (record { file = c.in_ok-file.file; default = false }) c.args.text.now s) s
     (Err c.in_err-read_text.field-0.0))) c.in_ok-note_text.ensures c.in_err-read_text.ensures.follows in
     let went = subst (λ (name : List ℕ). IfFits (g.F.Files.fits c.read_text.new.files)
-    (λ told. Follows told (λ reader. with_text reader (below c.args.levels reader)
+    (λ told. Follows told (λ reader. with_text reader (below c.args.include.now.levels reader)
     (record { file = name; default = false }) c.args.text.now
     (text_more c.args.state.now c.args.name.now)) (text_more c.args.state.now c.args.name.now)
     (Err c.in_err-read_text.field-0.0))) c.in_ok-file.ensures at_state in
     let p = err_from_is_err_and c.from_residual-in_err-read_text.result c.from_residual-in_err-read_text.ensures.1 in
-    rw (p.1, p.2) (found_fails c.args.levels c.args.name.now c.args.text.now (text_more c.args.state.now c.args.name.now) (g.F.Files.fits c.read_text.new.files) c.in_err-read_text.field-0.0 went)
+    rw (p.1, p.2) (found_fails c.args.include.now.levels c.args.name.now c.args.text.now (text_more c.args.state.now c.args.name.now) (g.F.Files.fits c.read_text.new.files) c.in_err-read_text.field-0.0 went)

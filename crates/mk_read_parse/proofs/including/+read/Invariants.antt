@@ -24,13 +24,13 @@ abbrev pub decreases-read_include : goal.decreases-read_include
 decreases-read_include g l = 8 * l.source.now.levels + 3
 
 abbrev pub decreases-read_files : goal.decreases-read_files
-decreases-read_files g l = 8 * l.levels + 10
+decreases-read_files g l = 8 * l.include.now.levels + 10
 
 abbrev pub decreases-read_file : goal.decreases-read_file
-decreases-read_file g l = 8 * l.levels + 9
+decreases-read_file g l = 8 * l.include.now.levels + 9
 
 abbrev pub decreases-read_found : goal.decreases-read_found
-decreases-read_found g l = 8 * l.levels + 8
+decreases-read_found g l = 8 * l.include.now.levels + 8
 
 -- the maps that fit fitted before, no read failed, and what the remaining items do
 abbrev pub invariant-read_lines-loop-line : goal.invariant-read_lines-loop-line
@@ -43,7 +43,7 @@ invariant-read_lines-loop-line g l = Keeps (g.F.Files.fits l.fn.files) (g.F.File
 abbrev pub invariant-read_files-loop-name : goal.invariant-read_files-loop-name
 invariant-read_files-loop-name g l = Keeps (g.F.Files.fits l.fn.files) (g.F.Files.fits l.files) × (g.F.Files.failed l.files ≡ g.F.Files.failed l.fn.files)
     × IfFits (g.F.Files.fits l.files) (λ told. SoFar told
-    (λ reader. files reader (read_below l.levels reader) (place_at l.spot) l.optional
-    (map string_bytes l.names) l.fn.state) (λ reader. files reader (read_below l.levels reader)
-    (place_at l.spot) l.optional (map string_bytes (drop l.name-index l.names)) l.state) l.fn.state
+    (λ reader. files reader (read_below l.include.levels reader) (place_at l.include.location.now) l.include.optional
+    (map string_bytes l.names) l.fn.state) (λ reader. files reader (read_below l.include.levels reader)
+    (place_at l.include.location.now) l.include.optional (map string_bytes (drop l.name-index l.names)) l.state) l.fn.state
     l.state)

@@ -2,7 +2,7 @@ use Rattle.std.proofs.Common.{◌≡◌, ◌+◌, ◌<◌, ◌∙◌, ℕ, List,
 use Rattle.std.specs.String.{string_bytes}
 use Rattle.std.proofs.lemmas.Bool.{true≢false}
 use Rattle.std.proofs.lemmas.List.{take_all}
-use Rattle.mk_subject.specs.NodeRow.{NodeRow, entry_writes}
+use Rattle.mk_subject.specs.NodeRow.{NodeRow, row_writes}
 use Rattle.mk_since.specs.Parts.{Renews, is_made_anew}
 use Rattle.mk_since.proofs.Naming.{AreNoted, none_noted, noted_more, noted_same, renews_noted}
 use Rattle.mk_since.proofs.named.note_made_anew.Goals.{then-is_anew+in_ok-note_owned, else-is_anew}
@@ -25,7 +25,7 @@ loop-entry-preserved c =
       | then-is_anew+in_ok-note_owned w ↦
           subst (λ (l : List (List ℕ)). AreNoted (Renews past y always) l c.args.names.now (take (i + 1) rows)) (sym w.names-is)
           (noted_more (Renews past y always) c.loop-entry.names w.note_owned.new.names c.args.names.now rows i e lt
-          (renews_noted past y always (get_or rows i e) c.loop-entry.names w.note_owned.new.names (map string_bytes w.writes.result.now) (w.writes.ensures ∙ ap (λ (k : NodeRow). entry_writes k) c.entry-item.is) w.in_ok-note_owned.ensures (test ∙ (sym c.in_ok-is_anew.ensures ∙ w.if-is_anew.true))) c.loop-entry.invariant)
+          (renews_noted past y always (get_or rows i e) c.loop-entry.names w.note_owned.new.names (map string_bytes w.writes.result.now) (w.writes.ensures ∙ ap (λ (k : NodeRow). row_writes k) c.entry-item.is) w.in_ok-note_owned.ensures (test ∙ (sym c.in_ok-is_anew.ensures ∙ w.if-is_anew.true))) c.loop-entry.invariant)
       | else-is_anew w ↦
           subst (λ (l : List (List ℕ)). AreNoted (Renews past y always) l c.args.names.now (take (i + 1) rows)) (sym w.names-is)
           (noted_same (Renews past y always) c.loop-entry.names c.args.names.now rows i e lt

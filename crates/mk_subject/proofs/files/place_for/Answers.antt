@@ -25,7 +25,7 @@ returns-in_ok-push c =
     let keys = c.args.files.now.keys in
     let last = put_last _ keys (keys ++ c.args.file ∷ []) c.insert_full.new.self.keys c.in_ok-place.is_new c.in_ok-place.ensures.added c.if-is_new.true c.in_ok-place.ensures.keys in
     record {
-      all = c.in_ok-push.ensures.items ∙ (ap (λ (l : List FileInfo). l ++ c.in_ok-known_by.field-0 ∷ []) c.requires ∙ (ap (λ (v : FileInfo). map so keys ++ v ∷ []) c.in_ok-known_by.ensures ∙ (sym (map_push so keys c.args.file) ∙ ap (map so) (sym last))));
+      all = c.in_ok-push.ensures.items ∙ (ap (λ (l : List FileInfo). l ++ c.in_ok-known_of.field-0 ∷ []) c.requires ∙ (ap (λ (v : FileInfo). map so keys ++ v ∷ []) c.in_ok-known_of.ensures ∙ (sym (map_push so keys c.args.file) ∙ ap (map so) (sym last))));
       more = (c.args.file ∷ [], last);
       here = met c.insert_full.new.self.keys c.in_ok-place.place c.args.file.now k at same;
     }

@@ -11,10 +11,10 @@ use Rattle.mk_subject.proofs.looking_up.choices_after.Goals as goal
 pub returns : goal.returns
 returns c =
     let g = c.args.records.now.graph in
-    let x = subject_of c.args.table.now c.args.there.now g c.args.records.now.setting in
+    let x = subject_of c.args.choices.now.makefile c.args.choices.now.exists g c.args.records.now.setting in
     let written : c.in_ok-names.names ≡ all_writes x = c.in_ok-names.ensures ∙ (c.in_ok-writes.ensures ∙ ap (flat_map (build.writes g (footprints c.args.records.now.setting))) c.requires.order) in
     IfOk-weaker c.choices_with.result _ _ (λ chosen e. e ∙ (ap
-    (λ (k : Graph). map (λ n. choice c.args.table.now (with_more c.args.there.now c.in_ok-names.names)
+    (λ (k : Graph). map (λ n. choice c.args.choices.now.makefile (with_more c.args.choices.now.exists c.in_ok-names.names)
     (node k n).name) c.args.order.now) c.graph.ensures ∙ ap
-    (λ (ws : List (List ℕ)). map (λ n. choice c.args.table.now (with_more c.args.there.now ws)
+    (λ (ws : List (List ℕ)). map (λ n. choice c.args.choices.now.makefile (with_more c.args.choices.now.exists ws)
     (node g n).name) c.args.order.now) written)) c.choices_with.ensures

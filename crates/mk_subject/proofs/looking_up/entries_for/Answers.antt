@@ -2,6 +2,7 @@ use Rattle.std.proofs.Common.{◌<◌, ◌∙◌, ℕ, List, refl, inl, ap, sym,
 use Rattle.std.proofs.lemmas.Result.{err_from_is_err_and}
 use Rattle.mk_graph.specs.Graph.{Graph}
 use Rattle.mk_graph.specs.Serial.{serial_order}
+use Rattle.mk_infer.specs.Choosing.{Looked}
 use Rattle.mk_subject.proofs.looking_up.entries_for.Goals as goal
 
 pub returns-in_err-order-clause-fault : goal.returns-in_err-order-clause-fault
@@ -26,6 +27,5 @@ entries_that_stay-requires c =
     record {
       nodes = subst (λ (ns : List ℕ). (k d : ℕ) → k < length ns → get_or ns k d < length g.nodes) (sym c.deref.ensures.value) nodes;
       order = c.deref.ensures.value ∙ (c.in_ok-order.ensures.order ∙ ap (λ (k : Graph). serial_order k) c.graph.ensures);
-      choices = c.in_ok-choices.ensures;
-      nothing_more = c.requires;
+      nothing_more = ap (λ (l : Looked). l.exists.more) c.in_ok-choices.ensures ∙ c.requires;
     }

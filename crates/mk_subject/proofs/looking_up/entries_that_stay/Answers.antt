@@ -5,17 +5,17 @@ use Rattle.std.proofs.lemmas.Result.{err_from_is_err_and}
 use Rattle.mk_graph.specs.Membership.{Has}
 use Rattle.mk_graph.specs.Serial.{serial_order}
 use Rattle.mk_build.specs.Setting as build
-use Rattle.mk_infer.specs.There.{is_there}
-use Rattle.mk_infer.specs.Choosing.{Looked}
+use Rattle.mk_read.specs.Reading.{Makefile}
+use Rattle.mk_infer.specs.There.{Exists, is_there}
 use Rattle.mk_subject.specs.Subject.{all_writes, commands_of, footprints, name_of, subject_of, writes_of}
-use Rattle.mk_subject.specs.NodeRow.{NodeRow, AreEntriesOf, IsEntry, StaysChosen}
+use Rattle.mk_subject.specs.NodeRow.{NodeRow, AreEntriesOf, IsRow, StaysChosen}
 use Rattle.mk_subject.proofs.Stays.{in_lists, same_choice, same_there}
 use Rattle.mk_subject.proofs.Staying.{AreStaying, all_stay, first_behind, none_yet, staying_more}
 use Rattle.mk_subject.proofs.looking_up.entries_that_stay.Goals as goal
 
 pub loop-number-init : goal.loop-number-init
 loop-number-init c =
-    let x = subject_of c.args.table.now c.args.there.now c.args.records.now.graph c.args.records.now.setting in
+    let x = subject_of c.args.choices.now.makefile c.args.choices.now.exists c.args.records.now.graph c.args.records.now.setting in
     record {
       staying = subst (λ (es : List NodeRow). AreStaying x [] es) (sym c.in_ok-entries.ensures.items) (none_yet x);
       there = λ f h. absurd h;
@@ -25,32 +25,33 @@ pub returns-in_err-entry_of-clause-fault : goal.returns-in_err-entry_of-clause-f
 returns-in_err-entry_of-clause-fault c =
     let lt : c.loop-number.number-index < length c.args.order.now = omega arith in
     let p = err_from_is_err_and c.from_residual-in_err-entry_of.result c.from_residual-in_err-entry_of.ensures.1 in
-    rw (p.1, p.2) (⊎_elim (λ h. inl h) (λ h. inr (first_behind _ _ _ _ c.args.choices.now c.args.order.now c.loop-number.number-index c.loop-number.entries.items _ c.requires.choices c.requires.order lt c.loop-number.invariant.staying h)) c.in_err-entry_of.ensures.fault)
+    rw (p.1, p.2) (⊎_elim (λ h. inl h) (λ h. inr (first_behind _ _ _ _ c.args.order.now c.loop-number.number-index c.loop-number.entries.items _ c.requires.order lt c.loop-number.invariant.staying h)) c.in_err-entry_of.ensures.fault)
 
 pub loop-number-preserved : goal.loop-number-preserved
 loop-number-preserved c =
     let g = c.args.records.now.graph in
     let s = c.args.records.now.setting in
-    let x = subject_of c.args.table.now c.args.there.now g s in
+    let x = subject_of c.args.choices.now.makefile c.args.choices.now.exists g s in
     let order = c.args.order.now in
     let i = c.loop-number.number-index in
     let lt : i < length order = omega arith in
     let e = c.in_ok-entry_of.field-0 in
     let made = c.in_ok-entry_of.ensures in
     let writes = build.writes g (footprints s) in
-    let told : commands_of x e.number ≡ Ok e.commands = ap (commands_of x) made.number ∙ subst (λ (l : Looked). commands_of (subject_of l.makefile l.exists g s) (get_or order i 0) ≡ Ok e.commands) c.requires.choices made.told in
-    let right : StaysChosen x e.number → IsEntry x e = λ stays. subst (λ (l : Looked). StaysChosen (subject_of l.makefile l.exists g s) (get_or order i 0) → IsEntry (subject_of l.makefile l.exists g s) e) c.requires.choices made.entry (subst (λ (n : ℕ). StaysChosen x n) made.number stays) in
+    let told : commands_of x e.number ≡ Ok e.commands = ap (commands_of x) made.number ∙ made.told in
+    let right : StaysChosen x e.number → IsRow x e = λ stays. made.entry (subst (λ (n : ℕ). StaysChosen x n) made.number stays) in
+    let is : (f : List ℕ) → is_there c.table.result.now c.exists.result.now f ≡ true → is_there c.args.choices.now.makefile c.args.choices.now.exists f ≡ true = λ f h. subst (λ (k : Exists). is_there c.args.choices.now.makefile k f ≡ true) c.exists.ensures (subst (λ (k : Makefile). is_there k c.exists.result.now f ≡ true) c.table.ensures h) in
     record {
       staying = staying_more x order i c.loop-number.entries.items c.push.new.self.items e c.in_ok-push.ensures.items made.number lt told right c.loop-number.invariant.staying;
-      there = in_lists (λ (f : List ℕ). is_there c.args.table.now c.args.there.now f ≡ true) writes order i 0 lt
-          (λ f h. c.are_there.ensures c.if-not-are_there.false f (subst (λ (l : List (List ℕ)). Has l f) (sym c.writes_of.ensures) h))
+      there = in_lists (λ (f : List ℕ). is_there c.args.choices.now.makefile c.args.choices.now.exists f ≡ true) writes order i 0 lt
+          (λ f h. is f (c.are_there.ensures c.if-not-are_there.false f (subst (λ (l : List (List ℕ)). Has l f) (sym c.writes_of.ensures) h)))
           c.loop-number.invariant.there;
     }
 
 pub returns-clause-entries : goal.returns-clause-entries
 returns-clause-entries c =
-    let m = c.args.table.now in
-    let e = c.args.there.now in
+    let m = c.args.choices.now.makefile in
+    let e = c.args.choices.now.exists in
     let g = c.args.records.now.graph in
     let s = c.args.records.now.setting in
     let x = subject_of m e g s in

@@ -10,6 +10,6 @@ use Rattle.mk_subject.proofs.looking_up.entries_that_stay.Given as goal
 -- the nodes so far, and what they write is there
 abbrev pub invariant-loop-number : goal.invariant-loop-number
 invariant-loop-number l = record {
-  staying : AreStaying (subject_of l.table l.there l.records.graph l.records.setting) (take l.number-index l.order) l.entries.items;
-  there : (f : List ℕ) → Has (flat_map (build.writes l.records.graph (footprints l.records.setting)) (take l.number-index l.order)) f → is_there l.table l.there f ≡ true;
+  staying : AreStaying (subject_of l.choices.makefile l.choices.exists l.records.graph l.records.setting) (take l.number-index l.order) l.entries.items;
+  there : (f : List ℕ) → Has (flat_map (build.writes l.records.graph (footprints l.records.setting)) (take l.number-index l.order)) f → is_there l.choices.makefile l.choices.exists f ≡ true;
 }

@@ -13,7 +13,7 @@ use Rattle.mk_infer.specs.declared.fault.InferFault.{InferFault}
 use Rattle.mk_read.specs.Reading.{Makefile}
 use Rattle.mk_subject.specs.Subject.{footprints, reads_of, subject_of, writes_of}
 use Rattle.mk_subject.specs.Writers.{numbers_at}
-use Rattle.mk_subject.specs.NodeRow.{AreEntries, NodeRow, IsFaultOf, entry_writes, writers_of}
+use Rattle.mk_subject.specs.NodeRow.{AreRows, NodeRow, IsFaultOf, row_writes, writers_of}
 use Rattle.mk_subject.proofs.Entries.{all_told, writers_are}
 use Rattle.mk_subject.proofs.KnownFiles.{known_is}
 use Rattle.mk_subject.proofs.tables.tables_for.Goals as goal
@@ -54,12 +54,12 @@ returns c =
     let m = c.args.table.now in
     let e = c.args.there.now in
     let recorded = c.in_ok-records.ensures in
-    let held : AreEntries x entries = subst (λ (r : Recorded). AreEntries (subject_of m e r.graph r.setting) entries) recorded c.in_ok-entries.ensures.entries in
+    let held : AreRows x entries = subst (λ (r : Recorded). AreRows (subject_of m e r.graph r.setting) entries) recorded c.in_ok-entries.ensures.entries in
     let is_graph : IsGraph x.graph = subst (λ (r : Recorded). IsGraph r.graph) recorded c.in_ok-entries.ensures.graph in
     let writers : (file : List ℕ) → numbers_at c.in_ok-writers.writers file
     ≡ writers_of x file = λ file. c.in_ok-writers.ensures file
     ∙ (ap (λ (es : List NodeRow). map (λ (e : NodeRow). e.number)
-    (filter (λ (e : NodeRow). has_name (entry_writes e) file) es)) c.deref.ensures.value
+    (filter (λ (e : NodeRow). has_name (row_writes e) file) es)) c.deref.ensures.value
     ∙ writers_are x file entries held) in
     let names : c.in_ok-names.names ≡ all_names x = c.in_ok-names.ensures in
     let files = c.in_ok-files.files in

@@ -11,7 +11,7 @@ use Rattle.mk_world.proofs.finishing.finish.Goals as goal
 
 pub returns-in_err-sight-clause-takes : goal.returns-in_err-sight-clause-takes
 returns-in_err-sight-clause-takes c =
-    let scene = c.args.scene.now in
+    let scene = c.args.placed.now.scene.now in
     let n = c.args.number in
     let g = scene.graph in
     let s = setting scene in
@@ -20,7 +20,7 @@ returns-in_err-sight-clause-takes c =
 
 pub returns-in_err-contents-clause-takes : goal.returns-in_err-contents-clause-takes
 returns-in_err-contents-clause-takes c =
-    let scene = c.args.scene.now in
+    let scene = c.args.placed.now.scene.now in
     let n = c.args.number in
     let g = scene.graph in
     let s = setting scene in
@@ -29,7 +29,7 @@ returns-in_err-contents-clause-takes c =
 
 pub returns-clause-takes : goal.returns-clause-takes
 returns-clause-takes c =
-    let scene = c.args.scene.now in
+    let scene = c.args.placed.now.scene.now in
     let n = c.args.number in
     let d = c.args.disk.now in
     let g = scene.graph in

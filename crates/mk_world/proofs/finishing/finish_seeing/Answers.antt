@@ -12,7 +12,7 @@ use Rattle.mk_world.proofs.finishing.finish_seeing.Goals as goal
 
 pub returns-then-not-is_running-clause-takes : goal.returns-then-not-is_running-clause-takes
 returns-then-not-is_running-clause-takes c =
-    let scene = c.args.scene.now in
+    let scene = c.args.placed.now.scene.now in
     let t = c.args.sight.recipe in
     let g = scene.graph in
     let s = setting scene in
@@ -20,7 +20,7 @@ returns-then-not-is_running-clause-takes c =
 
 pub returns-in_err-looks-clause-takes : goal.returns-in_err-looks-clause-takes
 returns-in_err-looks-clause-takes c =
-    let scene = c.args.scene.now in
+    let scene = c.args.placed.now.scene.now in
     let t = c.args.sight.recipe in
     let g = scene.graph in
     let s = setting scene in
@@ -29,7 +29,7 @@ returns-in_err-looks-clause-takes c =
 
 pub returns-in_err-put_all-clause-takes : goal.returns-in_err-put_all-clause-takes
 returns-in_err-put_all-clause-takes c =
-    let scene = c.args.scene.now in
+    let scene = c.args.placed.now.scene.now in
     let m = c.args.making.now in
     let mid = c.look_at_all.new.self in
     let d = c.args.disk.now in
@@ -47,7 +47,7 @@ returns-in_err-put_all-clause-takes c =
 
 pub end_seeing-requires-clause-runs : goal.end_seeing-requires-clause-runs
 end_seeing-requires-clause-runs c =
-    let scene = c.args.scene.now in
+    let scene = c.args.placed.now.scene.now in
     let m = c.args.making.now in
     let mid = c.look_at_all.new.self in
     let d = c.args.disk.now in
@@ -63,7 +63,7 @@ end_seeing-requires-clause-runs c =
 
 pub end_seeing-requires-clause-seen : goal.end_seeing-requires-clause-seen
 end_seeing-requires-clause-seen c =
-    let scene = c.args.scene.now in
+    let scene = c.args.placed.now.scene.now in
     let m = c.args.making.now in
     let mid = c.look_at_all.new.self in
     let d = c.args.disk.now in
@@ -79,7 +79,7 @@ end_seeing-requires-clause-seen c =
 
 pub returns-clause-takes : goal.returns-clause-takes
 returns-clause-takes c =
-    let scene = c.args.scene.now in
+    let scene = c.args.placed.now.scene.now in
     let m = c.args.making.now in
     let mid = c.look_at_all.new.self in
     let d = c.args.disk.now in

@@ -10,7 +10,7 @@ use Rattle.mk_world.proofs.finishing.finish_with.Goals as goal
 
 pub returns-in_err-sight-clause-takes : goal.returns-in_err-sight-clause-takes
 returns-in_err-sight-clause-takes c =
-    let scene = c.args.scene.now in
+    let scene = c.args.placed.now.scene.now in
     let n = c.args.number in
     let g = scene.graph in
     let s = setting scene in
@@ -19,7 +19,7 @@ returns-in_err-sight-clause-takes c =
 
 pub returns-clause-takes : goal.returns-clause-takes
 returns-clause-takes c =
-    let scene = c.args.scene.now in
+    let scene = c.args.placed.now.scene.now in
     let old = busy scene c.args.making.now c.args.disk.now in
     let new = busy scene c.finish_seeing.new.making c.finish_seeing.new.disk in
     subst (λ (t : ℕ). TakesInTurn scene.graph (setting scene) old new (rest_of_run scene.graph (setting scene) t c.args.contents.now) c.finish_seeing.result) c.in_ok-sight.ensures.recipe c.finish_seeing.ensures.takes

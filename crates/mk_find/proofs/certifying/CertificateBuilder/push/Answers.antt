@@ -9,6 +9,6 @@ pub name_all-requires : goal.name_all-requires
 name_all-requires c =
     let x = c.args.read.now.subject.now in
     let f = c.args.read.now.file.file in
-    let t = c.args.read.now.entry.now.number in
+    let t = c.args.read.now.row.now.number in
     let low = reader_is_node x t f c.requires.read.read in
     subst (λ (l : List ℕ). (n : ℕ) → Has l n → n < length x.graph.nodes) (sym c.deref.ensures.value) (nodes_low x f t c.args.path.now.nodes.items c.args.path.now.finish low c.requires.first)

@@ -12,7 +12,7 @@ use Rattle.mk_read_parse.proofs.state.State.assign.Goals as goal
 
 pub returns-clause-exact : goal.returns-clause-exact
 returns-clause-exact c =
-    let place = place_at c.args.spot.now in
+    let place = place_at c.args.location.now in
     let line = assignment_view c.args.line.now in
     let table : c.self.inside.macros ≡ c.args.self.now.table = ap (λ (s : State). s.table) c.self.view_is in
     let is : expanded_text place c.args.self.now.table line.name ≡ Ok c.deref.result.now = ap (λ t. expanded_text place t line.name) (sym table) ∙ (c.in_ok-name.ensures.exact ∙ ap (λ text. Ok text) (sym c.deref.ensures.value)) in
@@ -20,7 +20,7 @@ returns-clause-exact c =
 
 pub returns-in_err-name-clause-exact : goal.returns-in_err-name-clause-exact
 returns-in_err-name-clause-exact c =
-    let place = place_at c.args.spot.now in
+    let place = place_at c.args.location.now in
     let line = assignment_view c.args.line.now in
     let fault = c.in_err-name.field-0.0 in
     let table : c.self.inside.macros ≡ c.args.self.now.table = ap (λ (s : State). s.table) c.self.view_is in
