@@ -22,7 +22,7 @@ use Rattle.mk_build_behaviours.proofs.Known.{State, state, sees, IsLeft, found, 
 use Rattle.mk_build_behaviours.proofs.Keeping.{reads_none, AreKnown, IsKept, keep_all}
 
 -- whether a disk is coherent doesn't depend on what footprints say is read
-pub other_reads : (g : Graph) (s : Setting) (b : Behaviours) (reads : FileName → List FileName) (running : List ℕ) (d : Disk) → IsCoherentWhileBy g s b running d → IsCoherentWhileBy g (record s { reads = reads }) b running d
+abbrev pub other_reads : (g : Graph) (s : Setting) (b : Behaviours) (reads : FileName → List FileName) (running : List ℕ) (d : Disk) → IsCoherentWhileBy g s b running d → IsCoherentWhileBy g (record s { reads = reads }) b running d
 other_reads g s b reads running d is = record {
   last = is.last;
   stamped = is.stamped;
@@ -33,36 +33,36 @@ other_reads g s b reads running d is = record {
 
 module _ (g : Graph) (s : Setting) (b : Behaviours) (d : Disk) (is : IsCoherentBy g (without_reads s) b d) where
   -- what is known, over footprints without reads
-  abbrev now : Disk
+  abbrev pub now : Disk
   now = with_known g (without_reads s) b d is
 
   -- a node is as its last run left it, or is bound to run if it has a recipe
-  abbrev In : ℕ → Type 0
+  abbrev pub In : ℕ → Type 0
   In t = State g (without_reads s) b d is t
 
-  abbrev place : (t : ℕ) → In t
+  abbrev pub place : (t : ℕ) → In t
   place t = state g (without_reads s) b d is t
 
   -- its last run, with numbers of steps that are in the order of the clocks
-  abbrev run_at : ℕ → WholeRun
+  abbrev pub run_at : ℕ → WholeRun
   run_at t = record { ended = (is.last t).ended; begin_step = 2 * (is.last t).began + 1; end_step = 2 * (is.last t).ended; saw = (is.last t).saw }
 
   -- its last begin: what is bound to run begins now
-  abbrev began_in : (t : ℕ) → In t → ℕ
+  abbrev pub began_in : (t : ℕ) → In t → ℕ
   began_in t (inl left) = (is.last t).began
   began_in t (inr bound) = d.clock
 
-  abbrev step_in : (t : ℕ) → In t → ℕ
+  abbrev pub step_in : (t : ℕ) → In t → ℕ
   step_in t (inl left) = 2 * (is.last t).began + 1
   step_in t (inr bound) = 2 * d.clock + 1
 
   -- and its last whole run, which only counts where it left the recipe as it is
-  abbrev last_in : (t : ℕ) → In t → Option WholeRun
+  abbrev pub last_in : (t : ℕ) → In t → Option WholeRun
   last_in t (inl left) = Some (run_at t)
   last_in t (inr bound) = None
 
   -- the runs before this disk
-  abbrev runs_before : Runs
+  abbrev pub runs_before : Runs
   runs_before = record { steps = 2 * d.clock + 1; began = λ t. began_in t (place t); begin_step = λ t. step_in t (place t); last = λ t. last_in t (place t) }
 
   -- they have come
@@ -131,7 +131,7 @@ module _ (g : Graph) (s : Setting) (b : Behaviours) (d : Disk) (is : IsCoherentB
   apart_in o t (inr bound) c q last_o last_t before = inr (inl (through_now t c))
 
   -- the disk fits these runs
-  fits_before : Fits g (without_reads s) d.clock runs_before [] now
+  pub fits_before : Fits g (without_reads s) d.clock runs_before [] now
   fits_before = record {
     stamped = is.stamped;
     began = λ t. began_came t (place t);
@@ -144,16 +144,16 @@ module _ (g : Graph) (s : Setting) (b : Behaviours) (d : Disk) (is : IsCoherentB
   }
 
   -- what last runs saw and wrote
-  saw_in : (t : ℕ) (c : In t) (run : WholeRun) → last_in t c ≡ Some run → (f : FileName) → Has (path (behaviour g b t) run.saw) f → ContainsOrChanged g s d f (run.saw f) run.ended
+  pub saw_in : (t : ℕ) (c : In t) (run : WholeRun) → last_in t c ≡ Some run → (f : FileName) → Has (path (behaviour g b t) run.saw) f → ContainsOrChanged g s d f (run.saw f) run.ended
   saw_in t (inl left) run e f = let same : run_at t ≡ run = cc in subst (λ (r : WholeRun). Has (path (behaviour g b t) r.saw) f → ContainsOrChanged g s d f (r.saw f) r.ended) same (left.1.saw f)
   saw_in t (inr bound) run e f = absurd (cc)
 
-  wrote_in : (t : ℕ) (c : In t) (run : WholeRun) → place t ≡ c → last_in t c ≡ Some run → outcome now.known t (map run.saw (reads g (without_reads s) t)) ≡ Some (result (behaviour g b t) run.saw)
+  pub wrote_in : (t : ℕ) (c : In t) (run : WholeRun) → place t ≡ c → last_in t c ≡ Some run → outcome now.known t (map run.saw (reads g (without_reads s) t)) ≡ Some (result (behaviour g b t) run.saw)
   wrote_in t (inl left) run at e = let same : run_at t ≡ run = cc in subst (λ (r : WholeRun). outcome now.known t (map r.saw (reads g (without_reads s) t)) ≡ Some (result (behaviour g b t) r.saw)) same (known_in t (inl left) at tt left.0)
   wrote_in t (inr bound) run at e = absurd (cc)
 
   -- so it is as these runs left it
-  pub coherent_is_kept : IsKept g s b (Idle d)
+  abbrev pub coherent_is_kept : IsKept g s b (Idle d)
   coherent_is_kept = record {
     epoch = d.clock;
     runs = runs_before;
@@ -165,7 +165,7 @@ module _ (g : Graph) (s : Setting) (b : Behaviours) (d : Disk) (is : IsCoherentB
 
 module _ (g : Graph) (s : Setting) (b : Behaviours) (epoch : ℕ) (p : Runs) (running : List ℕ) (d : Disk) (known : List Outcome) (fits : Fits g (without_reads s) epoch p running (record d { known = known })) (are : AreKnown g s b p known d) where
   -- a node ran whole, or is bound to run if it has a recipe that doesn't run
-  abbrev Status : ℕ → Type 0
+  abbrev pub Status : ℕ → Type 0
   Status t = ((run : WholeRun) × RanWhole g (without_reads s) p run (record d { known = known }) t) ⊎ ((node g t).recipe ≡ true → ¬ (Has running t) → IsBoundToRun g s d t)
 
   -- each node has a status
@@ -173,21 +173,21 @@ module _ (g : Graph) (s : Setting) (b : Behaviours) (epoch : ℕ) (p : Runs) (ru
   status_with t recipe (inl runs) = inr (λ e stopped. absurd (stopped runs))
   status_with t recipe (inr stopped) = ⊎_elim (λ bound. inr (λ e other. bound)) (λ ran. inl ran) (fits.whole t recipe stopped)
 
-  status : (t : ℕ) → Status t
+  pub status : (t : ℕ) → Status t
   status t = ⊎_elim (λ recipe. status_with t recipe (cases_Has running t)) (λ none. inr (λ recipe stopped. absurd (true≢false (sym recipe ∙ none)))) (cases_Bool (node g t).recipe)
 
   -- its last run, where that matters
-  abbrev last_of : (t : ℕ) → Status t → LastRun
+  abbrev pub last_of : (t : ℕ) → Status t → LastRun
   last_of t (inl ran) = record { began = p.began t; ended = ran.0.ended; saw = ran.0.saw }
   last_of t (inr bound) = record { began = 0; ended = 0; saw = λ f. None }
 
   -- it has come
-  came_of : (t : ℕ) (c : Status t) → ((last_of t c).began ≤ (last_of t c).ended) × ((last_of t c).ended ≤ d.clock)
+  pub came_of : (t : ℕ) (c : Status t) → ((last_of t c).began ≤ (last_of t c).ended) × ((last_of t c).ended ≤ d.clock)
   came_of t (inl ran) = (ran.1.in_order, fits.ended t ran.0 ran.1.is_last)
   came_of t (inr bound) = (omega arith, omega arith)
 
   -- a recipe is bound to run or is as this run left it
-  left_of : (t : ℕ) (c : Status t) → (node g t).recipe ≡ true → ¬ (Has running t) → IsBoundToRun g s d t ⊎ IsAsLeftBy g s b (last_of t c) d t
+  pub left_of : (t : ℕ) (c : Status t) → (node g t).recipe ≡ true → ¬ (Has running t) → IsBoundToRun g s d t ⊎ IsAsLeftBy g s b (last_of t c) d t
   left_of t (inl ran) recipe stopped =
       let both : Some ran.1.whole.written ≡ Some (result (behaviour g b t) ran.0.saw) = sym ran.1.whole.known ∙ are.wrote t ran.0 ran.1.is_last in
       let same : ran.1.whole.written ≡ result (behaviour g b t) ran.0.saw = cc in
@@ -199,7 +199,7 @@ module _ (g : Graph) (s : Setting) (b : Behaviours) (epoch : ℕ) (p : Runs) (ru
   left_of t (inr bound) recipe stopped = inl (bound recipe stopped)
 
   -- of two of which the first writes a direct prerequisite of the second, the last run of the first ended no later, or began after the second
-  apart_of : (o t : ℕ) (a : Status o) (c : Status t) → Carries g s t o → ((last_of o a).ended ≤ (last_of t c).ended) ⊎ ((last_of t c).ended ≤ (last_of o a).began)
+  pub apart_of : (o t : ℕ) (a : Status o) (c : Status t) → Carries g s t o → ((last_of o a).ended ≤ (last_of t c).ended) ⊎ ((last_of t c).ended ≤ (last_of o a).began)
   apart_of o t (inl first) (inl second) before =
       ⊎_elim (λ early. inl (let first_ended = early.ended first.0 first.1.is_last in let order = second.1.in_order in omega arith)) (λ rest. ⊎_elim (λ early. inr (early.ended second.0 second.1.is_last)) (λ old. inl (old.in_order first.0 second.0 first.1.is_last second.1.is_last).0) rest) (fits.apart o t before)
   apart_of o t (inl first) (inr bound) before = inr (omega arith)
@@ -225,6 +225,10 @@ pub coherence_is_kept : (g : Graph) (s : Setting) (b : Behaviours) → IsGraph g
 coherence_is_kept g s b graph sound d steps is legal still =
     coherent_in g s b (after_all_by g s (Idle d) steps) (keep_all g s b graph sound (Idle d) steps (coherent_is_kept g s b d (other_reads g s b (λ target. []) [] d is)) legal still)
 
+-- where no outcome is known, none is found
+pub unknown : (outcomes : List Outcome) (t : ℕ) (seen : List (Option ℕ)) (w : List ℕ) → outcomes ≡ [] → ¬ (outcome outcomes t seen ≡ Some w)
+unknown outcomes t seen w none e = let gone : None ≡ Some w = subst (λ (l : List Outcome). outcome l t seen ≡ Some w) none e in cc
+
 -- a start disk is coherent
 pub start_is_coherent_by : (g : Graph) (s : Setting) (b : Behaviours) → AreSound g (without_reads s) → (d : Disk) → IsStartDisk s d → IsCoherentBy g s b d
 start_is_coherent_by g s b sound d start =
@@ -235,9 +239,7 @@ start_is_coherent_by g s b sound d start =
       came = today.came;
       left = λ t recipe stopped. ⊎_elim (λ bound. inl bound) (λ left. absurd (unknown d.known t (map (today.last t).saw (reads g (without_reads s) t)) left.0.written start.nothing_known left.0.known)) (today.left t recipe stopped);
       apart = today.apart;
-    } where
-      unknown : (outcomes : List Outcome) (t : ℕ) (seen : List (Option ℕ)) (w : List ℕ) → outcomes ≡ [] → ¬ (outcome outcomes t seen ≡ Some w)
-      unknown outcomes t seen w none e = let gone : None ≡ Some w = subst (λ (l : List Outcome). outcome l t seen ≡ Some w) none e in cc
+    }
 
 -- so the disk that one leaves is coherent
 pub left_is_coherent : (g : Graph) (s : Setting) (b : Behaviours) → IsGraph g → AreSound g (without_reads s) → (d end : Disk) (past : List Step) → IsCoherentBy g s b d → IsLegalBy g s b (Idle d) past → AreUndisturbed g s b (Idle d) past → after_all_by g s (Idle d) past ≡ Idle end → IsCoherentBy g s b end

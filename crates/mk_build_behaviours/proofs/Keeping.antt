@@ -112,14 +112,14 @@ module _ (g : Graph) (s : Setting) (b : Behaviours) (graph : IsGraph g) (sound :
 
   module _ (m : Making) (d : Disk) (kept : IsKept g s b (Busy m d)) (x : ℕ) (may : MayEndBy g s b m x) where
     -- its outcome
-    abbrev own : Outcome
+    abbrev pub own : Outcome
     own = record { recipe = x; seen = seen_by g (without_reads s) m x; written = put_by g (without_reads s) m x }
 
     -- noted before it ends
-    abbrev before_end : Disk
+    abbrev pub before_end : Disk
     before_end = record d { known = own ∷ kept.known }
 
-    holds_before : Holds g (without_reads s) kept.epoch kept.runs kept.start m before_end
+    pub holds_before : Holds g (without_reads s) kept.epoch kept.runs kept.start m before_end
     holds_before = holds_with kept.epoch kept.runs kept.start m d kept.known (own ∷ kept.known) (λ t stopped seen. outcome_other own kept.known t seen (λ same. stopped (subst (λ (k : ℕ). Has m.running k) same may.runs))) kept.is
 
     -- it agrees with what is known
@@ -127,11 +127,11 @@ module _ (g : Graph) (s : Setting) (b : Behaviours) (graph : IsGraph g) (sound :
     agrees = subst (λ (o : Option (List ℕ)). IfSome o (λ known. known ≡ put_by g (without_reads s) m x)) (sym (outcome_here own kept.known)) refl
 
     -- so it may end
-    may_end : MayEnd g (without_reads s) m before_end x
+    pub may_end : MayEnd g (without_reads s) m before_end x
     may_end = record { runs = may.runs; seen = λ f read none. reads_none g s x f read; put = may.put; agrees = agrees }
 
     -- the runs after it
-    abbrev runs_then : Runs
+    abbrev pub runs_then : Runs
     runs_then = runs_after (Busy m before_end) (End x) kept.runs
 
     -- a last run is this one, or that of another recipe
@@ -141,7 +141,7 @@ module _ (g : Graph) (s : Setting) (b : Behaviours) (graph : IsGraph g) (sound :
         (λ differ. inr (differ, sym (changed_at_there kept.runs.last x t (Some (run_of kept.runs m before_end x)) differ) ∙ e))
         (cases_eq x t)
 
-    known_then : (undisturbed : (f : FileName) → Has (path (behaviour g b x) (saw_in m x)) f → content d f ≡ saw_in m x f) → AreKnown g s b runs_then (noted before_end own).known d
+    pub known_then : (undisturbed : (f : FileName) → Has (path (behaviour g b x) (saw_in m x)) f → content d f ≡ saw_in m x f) → AreKnown g s b runs_then (noted before_end own).known d
     known_then undisturbed = record {
       saw = λ t run e f on. ⊎_elim
           (λ here. subst (λ (r : WholeRun). Has (path (behaviour g b t) r.saw) f → ContainsOrChanged g s d f (r.saw f) r.ended) here.1
@@ -155,23 +155,23 @@ module _ (g : Graph) (s : Setting) (b : Behaviours) (graph : IsGraph g) (sound :
     }
 
   -- what the last runs saw stays over a writing and a removal
-  are_written : (p : Runs) (known : List Outcome) (d : Disk) (f : FileName) (c : ℕ) → ((t : ℕ) (run : WholeRun) → p.last t ≡ Some run → run.ended ≤ d.clock) → CanChange s f → AreKnown g s b p known d → AreKnown g s b p known (written d f c)
+  pub are_written : (p : Runs) (known : List Outcome) (d : Disk) (f : FileName) (c : ℕ) → ((t : ℕ) (run : WholeRun) → p.last t ≡ Some run → run.ended ≤ d.clock) → CanChange s f → AreKnown g s b p known d → AreKnown g s b p known (written d f c)
   are_written p known d f c ended can are = record { saw = λ t run e h on. changed_written g s d f c h (run.saw h) run.ended can (ended t run e) (are.saw t run e h on); wrote = are.wrote }
 
-  are_removed : (p : Runs) (known : List Outcome) (d : Disk) (x : ℕ) (removed : Bool) → IsLeftToRun g s d x removed → AreKnown g s b p known d → AreKnown g s b p known (if removed then without d (name g x) else d)
+  pub are_removed : (p : Runs) (known : List Outcome) (d : Disk) (x : ℕ) (removed : Bool) → IsLeftToRun g s d x removed → AreKnown g s b p known d → AreKnown g s b p known (if removed then without d (name g x) else d)
   are_removed p known d x true wrote are = record { saw = λ t run e h on. changed_without g s d (name g x) x wrote h (run.saw h) run.ended (are.saw t run e h on); wrote = are.wrote }
   are_removed p known d x false must are = are
 
   -- and over steps that end no recipe
-  are_later : (p q : Runs) (known : List Outcome) (d : Disk) → ((t : ℕ) → q.last t ≡ p.last t) → AreKnown g s b p known d → AreKnown g s b q known d
+  pub are_later : (p q : Runs) (known : List Outcome) (d : Disk) → ((t : ℕ) → q.last t ≡ p.last t) → AreKnown g s b p known d → AreKnown g s b q known d
   are_later p q known d same are = record { saw = λ t run e. are.saw t run (sym (same t) ∙ e); wrote = λ t run e. are.wrote t run (sym (same t) ∙ e) }
 
   -- today's invariant after a step of today's world
-  next : (epoch : ℕ) (w : World) (p : Runs) (start : ℕ) (step : Step) → IsInvariant g (without_reads s) epoch p start w → Allowed g (without_reads s) w step → IsInvariant g (without_reads s) epoch (runs_after w step p) (start_after w step start) (after g (without_reads s) w step)
+  pub next : (epoch : ℕ) (w : World) (p : Runs) (start : ℕ) (step : Step) → IsInvariant g (without_reads s) epoch p start w → Allowed g (without_reads s) w step → IsInvariant g (without_reads s) epoch (runs_after w step p) (start_after w step start) (after g (without_reads s) w step)
   next epoch w p start step is may = step_keeps g (without_reads s) graph sound epoch (none_races g s) p start w step is may
 
   -- each undisturbed step keeps a world
-  pub keep : (w : World) (step : Step) → IsKept g s b w → AllowedBy g s b w step → IsUndisturbed g s b w step → IsKept g s b (after_by g s w step)
+  abbrev pub keep : (w : World) (step : Step) → IsKept g s b w → AllowedBy g s b w step → IsUndisturbed g s b w step → IsKept g s b (after_by g s w step)
   keep (Idle d) (Edit f c) kept may still = record {
     epoch = kept.epoch;
     runs = runs_after (Idle d) (Edit f c) kept.runs;

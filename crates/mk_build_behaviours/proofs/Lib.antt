@@ -11,4 +11,5 @@ pub mod Coherence
 pub mod Traces
 pub mod OtherReads
 pub mod OneJob
+pub mod Serial
 pub mod Straight

@@ -37,21 +37,17 @@ module _ (g : Graph) (s : Setting) (b : Behaviours) (counts : ℕ → FileName �
   still_there (Busy m d) EndMake sees on_path may = tt
 
 -- a list that is shorter than one has nothing
-none_in : (ns : List ℕ) (t : ℕ) → length ns < 1 → ¬ (Has ns t)
+pub none_in : (ns : List ℕ) (t : ℕ) → length ns < 1 → ¬ (Has ns t)
 none_in [] t short h = h
 none_in (n ∷ ns) t short h = absurd (omega arith)
 
-module _ (g : Graph) (s : Setting) (b : Behaviours) (no_own : ReadNoOwn g s b) where
-  -- files of others
-  abbrev NotOwn : ℕ → FileName → Type 0
-  NotOwn t f = ¬ (Has (writes g s t) f)
-
+module _ (g : Graph) (s : Setting) (b : Behaviours) where
   -- one recipe runs at most
-  record OneRuns (m : Making) : Type 0 where
-    jobs : m.jobs ≡ 1
-    one : (t u : ℕ) → Has m.running t → Has m.running u → t ≡ u
+  pub record OneRuns (m : Making) : Type 0 where
+    pub jobs : m.jobs ≡ 1
+    pub one : (t u : ℕ) → Has m.running t → Has m.running u → t ≡ u
 
-  abbrev OneRunsIn : World → Type 0
+  abbrev pub OneRunsIn : World → Type 0
   OneRunsIn (Idle d) = Unit {0}
   OneRunsIn (Busy m d) = OneRuns m
 
@@ -67,7 +63,7 @@ module _ (g : Graph) (s : Setting) (b : Behaviours) (no_own : ReadNoOwn g s b) w
   fewer m x is t u t_runs u_runs = is.one t u (Has-without x t m.running t_runs).0 (Has-without x u m.running u_runs).0
 
   -- each step keeps it
-  one_after : (w : World) (step : Step) → OneRunsIn w → HasOneJob step → AllowedBy g s b w step → OneRunsIn (after_by g s w step)
+  pub one_after : (w : World) (step : Step) → OneRunsIn w → HasOneJob step → AllowedBy g s b w step → OneRunsIn (after_by g s w step)
   one_after (Idle d) (Edit f c) is one may = tt
   one_after (Idle d) (Make jobs goals) is one may = record { jobs = one; one = λ t u h. absurd h }
   one_after (Idle d) (Begin t) is one may = absurd may
@@ -89,16 +85,21 @@ module _ (g : Graph) (s : Setting) (b : Behaviours) (no_own : ReadNoOwn g s b) w
   one_after (Busy m d) Stop is one may = tt
   one_after (Busy m d) EndMake is one may = tt
 
+module _ (g : Graph) (s : Setting) (b : Behaviours) (no_own : ReadNoOwn g s b) where
+  -- files of others
+  abbrev NotOwn : ℕ → FileName → Type 0
+  NotOwn t f = ¬ (Has (writes g s t) f)
+
   -- what it writes is no file of others
-  others_in : (w : World) → OneRunsIn w → AreOthersIn g s b NotOwn w
+  others_in : (w : World) → OneRunsIn g s b w → AreOthersIn g s b NotOwn w
   others_in (Idle d) is = tt
   others_in (Busy m d) is = λ x t h f c x_runs wrote runs other e same. other (subst (λ (k : ℕ). Has (writes g s k) f) (is.one x t x_runs runs) (subst (λ (k : FileName). Has (writes g s x) k) same wrote))
 
-  one_job : (w : World) (steps : List Step) → OneRunsIn w → SeesIn g s b NotOwn w → HaveOneJob steps → IsLegalBy g s b w steps → AreUndisturbed g s b w steps
+  one_job : (w : World) (steps : List Step) → OneRunsIn g s b w → SeesIn g s b NotOwn w → HaveOneJob steps → IsLegalBy g s b w steps → AreUndisturbed g s b w steps
   one_job w [] is sees one legal = tt
   one_job w (first ∷ steps) is sees one legal = (
     still_there g s b NotOwn w first sees (λ m t f on. no_own t (saw_in m t) f on) legal.0,
-    one_job (after_by g s w first) steps (one_after w first is one.0 legal.0) (sees_after g s b NotOwn w first sees (others_in w is) legal.0) one.1 legal.1,
+    one_job (after_by g s w first) steps (one_after g s b w first is one.0 legal.0) (sees_after g s b NotOwn w first sees (others_in w is) legal.0) one.1 legal.1,
   )
 
   -- makes with one job disturb no recipe

@@ -5,4 +5,5 @@ pub mod CoherentBy
 pub mod Straight
 pub mod BehaviourLaws
 pub mod Undisturbed
+pub mod Serial
 pub mod StraightLaws

@@ -2,6 +2,7 @@
 //! the function gives the law.
 
 ghost use Rattle.mk_build_behaviours.specs.BehaviourLaws.{StartIsCoherentBy, CoherenceIsKeptBy, PresentFootprintsSuffice, PresentMakesAreUndisturbed, PresentTracesAreRight, PresentTracesAreUndisturbed, EachMakeIsRight, ReadsDecideNothing};
+ghost use Rattle.mk_build_behaviours.specs.Serial.{StartIsSerialBy, OneJobStaysSerialBy};
 ghost use Rattle.mk_build_behaviours.specs.Undisturbed.{OneJobIsUndisturbed, ApartIsUndisturbed};
 ghost use Rattle.mk_build_behaviours.specs.StraightLaws.{StraightTracesAreTodays, TodaysTracesAreTraces, StraightOutcomesAreThese, StraightFootprintsArePresent};
 
@@ -56,6 +57,17 @@ pub fn one_job_is_undisturbed()
 /// recipe reads changes before the end of its run.
 pub fn apart_is_undisturbed()
     ensures { ApartIsUndisturbed }
+{}
+
+/// If what recipes write is sound, no last runs of recipes overlap on a start disk.
+pub fn start_is_serial_by()
+    ensures { StartIsSerialBy }
+{}
+
+/// Makes with one job that change no file that a recipe reads before the end of its run leave a
+/// disk on which no last runs overlap, if they began on one.
+pub fn one_job_stays_serial_by()
+    ensures { OneJobStaysSerialBy }
 {}
 
 /// If behaviours are straight and looks are at files of footprints, each trace by behaviours is a

@@ -9,3 +9,4 @@ mod OtherCommands
 mod ReadText
 mod OtherWrites
 mod OtherReads
+mod Adding

@@ -3,3 +3,4 @@ pub mod Alike
 pub mod Next
 pub mod SinceLaws
 pub mod Needed
+pub mod Adding

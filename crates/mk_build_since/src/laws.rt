@@ -1,6 +1,7 @@
 //! Laws of changes of the makefile. Each is the contract of an empty function; calling the function
 //! gives the law.
 
+ghost use Rattle.mk_build_since.specs.Adding.{AddedPrerequisitesKeepCoherence, PrerequisitesMayBeAdded};
 ghost use Rattle.mk_build_since.specs.Needed.{RulesAreNeeded};
 ghost use Rattle.mk_build_since.specs.SinceLaws.{NextIsCoherent, NextBuildsAreRight, PrerequisitesNameNothing};
 
@@ -19,6 +20,17 @@ pub fn next_builds_are_right()
 /// nothing is named.
 pub fn prerequisites_name_nothing()
     ensures { PrerequisitesNameNothing }
+{}
+
+/// If no last runs of recipes overlap on a disk, it is coherent for a graph with more prerequisites.
+pub fn added_prerequisites_keep_coherence()
+    ensures { AddedPrerequisitesKeepCoherence }
+{}
+
+/// After makes with one job prerequisites may be added without a clean build: with present
+/// footprints that are sound, without race and with ways, each make is right from then on.
+pub fn prerequisites_may_be_added()
+    ensures { PrerequisitesMayBeAdded }
 {}
 
 /// Without one of the rules the others fall short: after the removal of the files that they name a
