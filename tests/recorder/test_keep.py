@@ -65,14 +65,22 @@ class KeepTest(ProjectTest):
     def test_what_was_given(self) -> None:
         """The words are those of this recording alone, since the make had no others."""
         (self.folder / "makefile").rename(self.folder / "build.mk")
-        given = ("-f", "build.mk", "-r", "MODE=a", "all")
+        given = ("-f", "./build.mk", "-r", "MODE=a", "all")
         conditions = self.conditions(*given)
         self.assertEqual(self.texts()["options"], "-f\nbuild.mk\n-r\n")
         self.assertEqual(self.texts()["words"], "MODE=a\nall\n")
-        self.assertEqual(conditions["operands"], ["MODE=a"])
+        self.assertEqual((conditions["operands"], conditions["default_text"]), (["MODE=a"], False))
         (self.folder / "build.mk").rename(self.folder / "makefile")
         self.assertEqual(self.conditions()["operands"], [])
         self.assertEqual((self.texts()["options"], self.texts()["words"]), ("", ""))
+
+    def test_another_makefile(self) -> None:
+        """The old build has the makefile that it was made from, whatever is given now."""
+        (self.folder / "makefile").rename(self.folder / "build.mk")
+        self.recorded("-f", "./build.mk", "-r", "--keep", str(self.kept), "all")
+        self.write({"makefile": MAKEFILE.replace("cp s a", "cat s > a")})
+        self.recorded("all")
+        self.assertEqual(self.since(), ("a\n", "", 0))
 
     def test_conditions_are_the_same_text(self) -> None:
         """Where only texts and sources are others; also where nothing is recorded anew."""

@@ -179,6 +179,15 @@ class KeepingTest(ScriptTest):
         self.write("makefile", f"all: a.txt c.txt\n{own}")
         self.assert_made_as_clean()
 
+    def test_without_the_default_text(self) -> None:
+        """Make hands `-r` on to recipes, and the commands are the same."""
+        self.write("gen.sh", "case ${MAKEFLAGS%% *} in r*) echo r ;; *) echo ;; esac > a.txt\n")
+        self.write("makefile", "a.txt: gen.sh\n\tsh gen.sh\n")
+        self.tracked = ("gen.sh",)
+        self.command("git", "add", "gen.sh")
+        for words in (["-r"], [], ["-r"]):
+            self.assert_made_as_clean(*words)
+
     def test_goals_that_are_not_given_any_more(self) -> None:
         """What only the goals of before made is made anew when they come back."""
         text = "a.txt: a.in\n\tcp a.in a.txt\nc.txt: a.in\n\t{} a.in > c.txt\n"

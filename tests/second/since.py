@@ -4,13 +4,14 @@ from __future__ import annotations
 
 from answers import finding_value, refusal_value, shown
 from judge import Finding, Subject
-from lines import Refused
+from lines import Refused, is_plain_path
 from reading import Files, Found
 from repair import printed
 from request import Request, prepared
 from sentences import in_words_with_cause
 
 WORDS = b"words"
+OPTIONS = b"options"
 BOOK = b"footprint.json"
 OLD = b"this is the old build, in %b: begin with a clean build\n"
 NOTHING_KEPT = (
@@ -53,12 +54,47 @@ def old_words(files: Files, request: Request) -> list[bytes]:
     return [line for line in found.split(b"\n") if line]
 
 
+def options_in(text: bytes) -> dict[bytes, bytes]:
+    """The options in a text, each with what stands after it."""
+    lines = text.split(b"\n")
+    found: dict[bytes, bytes] = {}
+    while lines:
+        number, option = text.count(b"\n") + 2 - len(lines), lines.pop(0)
+        name = lines.pop(0) if option == b"-f" and lines else b""
+        if option == b"-f" and name and option not in found:
+            if name == b"-" or not is_plain_path(name):
+                raise bad_option(number + 1, name)
+        elif option not in (b"", b"-r"):
+            raise bad_option(number, option)
+        found[option] = name
+    return found
+
+
+def bad_option(number: int, line: bytes) -> Refused:
+    """The refusal of a line of the options."""
+    return Refused(27, where=b"%b:%d" % (OPTIONS, number), about=line)
+
+
+def old_request(files: Files, request: Request) -> Request:
+    """What is asked of the old build: by its own words and options, or by those of now."""
+    old = Request([request.command, "DIR", "-b", "B"])
+    old.take(old_words(files, request))
+    found = files.read(OPTIONS)
+    if found == "failed":
+        raise Refused(35, OPTIONS, name="FileReadFailed")
+    old.flags, old.values = set(request.flags), {**request.values, "b": BOOK}
+    if found is not None:
+        options = options_in(found)
+        old.flags = request.flags - {"r"} | ({"r"} if b"-r" in options else set())
+        old.values.pop("f", None)
+        if b"-f" in options:
+            old.values["f"] = options[b"-f"]
+    return old
+
+
 def old_subject(files: Files, request: Request) -> Subject:
     """The old build, which these files hold."""
-    old = Request([request.command, "DIR", "-b", "B"])
-    old.flags = request.flags
-    old.values = {**request.values, "b": BOOK}
-    old.take(old_words(files, request))
+    old = old_request(files, request)
     graph, book, passed_over = prepared(old, files)
     return Subject(graph, book, passed_over)
 

@@ -257,6 +257,22 @@ def spoiled(rng: Random, files: dict[bytes, Contents]) -> None:
         files[name] = data + rng.choice([b"x y\n", b"include no.mk\n", b"\x00\n", b"t:\n\ta $(\n"])
 
 
+def keep_options(rng: Random, old: dict[bytes, Contents], name: bytes) -> None:
+    """Keeps the old build's options, at times with another makefile, or with damage."""
+    kept = name
+    if rng.random() < 0.5:
+        kept = rng.choice([b"old.mk", b"lib/old.mk", b"old.mk", b"./old.mk", b"-", b"-f"])
+        old[kept.removeprefix(b"./")] = old.pop(name)
+    lines = [b"-f", kept] if kept != b"makefile" or rng.random() < 0.3 else []
+    lines += [b"-r"] * rng.choice([0, 0, 1])
+    if rng.random() < 0.2:
+        damage = rng.choice([b"", b"-f", b"-r", b"-x", b"\xff"])
+        lines.insert(rng.randrange(len(lines) + 1), damage)
+    if lines and rng.random() < 0.1:
+        lines.pop(rng.randrange(len(lines)))
+    old[b"options"] = b"\n".join([*lines, *([b""] if rng.random() < 0.9 else [])])
+
+
 def put_below(folder: str, files: dict[bytes, Contents]) -> dict[bytes, Contents]:
     """The files, in a folder."""
     front = folder.rstrip("/").replace("//", "/").encode() + b"/"
@@ -271,6 +287,8 @@ def two_versions(rng: Random, name: bytes) -> tuple[str, dict[bytes, Contents], 
     words = old_words(rng, first)
     if words is not None:
         old[b"words"] = words
+    if rng.random() < 0.4:
+        keep_options(rng, old, name)
     if rng.random() < 0.06:
         spoiled(rng, old)
     folder = rng.choice(FOLDERS)

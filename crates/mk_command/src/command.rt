@@ -106,7 +106,16 @@ fn in_words_option<'a>(alloc: Global) -> Arg<'a>
     Arg::new(alloc, "in-words")
         .short('w')
         .action(ArgAction::Count)
-        .help("Prints findings and faults in words, each at its line, with what to do")
+        .help("Prints a refusal in words, at its line, with what to do")
+}
+
+fn findings_in_words_option<'a>(alloc: Global) -> Arg<'a>
+    ensures rule { rule_of result ≡ in_words_option }
+    ensures local { result.global ≡ false }
+{
+    in_words_option(alloc).help(
+        "Prints findings and faults in words, each at its line, with what to do",
+    )
 }
 
 fn in_json_option<'a>(alloc: Global) -> Arg<'a>
@@ -317,7 +326,7 @@ fn with_showing<'a>(alloc: Global, command: Command<'a>) -> Result<Command<'a>, 
 {
     command
         .arg(only_certificate_option(alloc))?
-        .arg(in_words_option(alloc))?
+        .arg(findings_in_words_option(alloc))?
         .arg(evidence_option(alloc))?
         .arg(in_json_option(alloc))
 }

@@ -13,21 +13,25 @@ use Rattle.mk_core_since.specs.declared.outcome.Since.TheVariants.{Refused}
 use Rattle.mk_core_since.specs.InFolder.{fault_in}
 use Rattle.mk_core_since.specs.OldAnswer.{AnswersBefore, AnswersOld, GivesOld}
 use Rattle.mk_core_since.specs.SinceAnswer.{AfterOld, AnswersSince}
-use Rattle.mk_core_since.specs.Words.{IsUnlessFailed, before, words_name}
+use Rattle.mk_core_since.specs.Before.{IsUnlessFailed, before}
+use Rattle.mk_core_since.specs.Options.{options_name}
+use Rattle.mk_core_since.specs.Words.{words_name}
 
 module _ (was : Told) (request : Request) where
-  -- the words of the old build are refused
-  pub words_refused : (fault : Fault) → IsUnlessFailed (before was request) (Err fault) → AnswersOld was request (Err fault)
-  words_refused fault (inl e) = let k : fault ≡ Memory = cc in inl (ap Err k)
-  words_refused fault (inr (inl e)) = let k : fault ≡ FileReadFailed words_name = cc in inr (inl (ap Err k))
-  words_refused fault (inr (inr e)) =
-      inr (inr (subst (λ (q : Result Request Fault). AnswersBefore was q (Err fault)) e refl))
+  -- the words or the options of the old build are refused
+  pub request_refused : (fault : Fault) → IsUnlessFailed (before was request) (Err fault) → AnswersOld was request (Err fault)
+  request_refused fault (inl e) = let k : fault ≡ Memory = cc in inl (ap Err k)
+  request_refused fault (inr (inl e)) = let k : fault ≡ FileReadFailed words_name = cc in inr (inl (ap Err k))
+  request_refused fault (inr (inr (inl e))) = let k : fault ≡ FileReadFailed options_name = cc in inr (inr (inl (ap Err k)))
+  request_refused fault (inr (inr (inr e))) =
+      inr (inr (inr (subst (λ (q : Result Request Fault). AnswersBefore was q (Err fault)) e refl)))
 
   -- the old build is judged
   pub old_answers : (q : Request) (r : Result OldBuild Fault) → IsUnlessFailed (before was request) (Ok q) → Answers was q (AnswersJudged GivesOld) r → AnswersOld was request r
   old_answers q r (inl e) a = absurd cc
   old_answers q r (inr (inl e)) a = absurd cc
-  old_answers q r (inr (inr e)) a = inr (inr (subst (λ (p : Result Request Fault). AnswersBefore was p r) e a))
+  old_answers q r (inr (inr (inl e))) a = absurd cc
+  old_answers q r (inr (inr (inr e))) a = inr (inr (inr (subst (λ (p : Result Request Fault). AnswersBefore was p r) e a)))
 
 module _ (was told : Told) (folder : List ℕ) (request : Request) where
   -- something is known of the old build

@@ -11,6 +11,7 @@ use Rattle.mk_core.specs.declared.request.Request.{Request}
 use Rattle.mk_core.specs.Answer.{Draws}
 use Rattle.mk_core.specs.Judging.{AnswersJudged, recorded, subject_over}
 use Rattle.mk_core.specs.Ready.{Ready, ready_for}
+use Rattle.mk_core_since.specs.Before.{before}
 use Rattle.mk_core_since.specs.declared.old_build.OldBuild.{OldBuild}
 use Rattle.mk_core_since.specs.declared.old_build.OldBuild.TheVariants as old
 use Rattle.mk_core_since.specs.declared.outcome.Since.{Since}
@@ -18,7 +19,6 @@ use Rattle.mk_core_since.specs.declared.outcome.Since.TheVariants.{Named, No, Un
 use Rattle.mk_core_since.specs.Next.{IfNamed, IsNextFor, NamedIsRight, SinceIsNext}
 use Rattle.mk_core_since.specs.OldAnswer.{AnswersBefore, AnswersOld, GivesOld, HasYes, IsOld}
 use Rattle.mk_core_since.specs.SinceAnswer.{AfterOld, AnswersSince, GivesSince, IsSince}
-use Rattle.mk_core_since.specs.Words.{before}
 
 -- a build of which `check` says yes
 record Judged (files : Told) (request : Request) : Type 0 where
@@ -57,7 +57,8 @@ module _ (was : Told) (request : Request) (past : Past) where
   old_found : AnswersOld was request (Ok (old.Kept past)) → (q : Request) × (before was request ≡ Ok q) × Kept was q past
   old_found (inl e) = absurd cc
   old_found (inr (inl e)) = absurd cc
-  old_found (inr (inr a)) = old_before (before was request) refl a
+  old_found (inr (inr (inl e))) = absurd cc
+  old_found (inr (inr (inr a))) = old_before (before was request) refl a
 
 module _ (right : NamedIsRight) (was files : Told) (request : Request) (names : List (List ℕ)) where
   module _ (past : Past) (q : Request) (is_old : before was request ≡ Ok q) (kept : Kept was q past) where

@@ -1,6 +1,8 @@
 pub mod Below
 pub mod InFolder
 pub mod Words
+pub mod Options
+pub mod Before
 pub mod OldAnswer
 pub mod SinceAnswer
 pub mod SinceText

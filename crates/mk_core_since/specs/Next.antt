@@ -21,11 +21,11 @@ use Rattle.mk_core_text.specs.declared.fault.Fault.{Fault}
 use Rattle.mk_core.specs.declared.request.Request.{Request}
 use Rattle.mk_core.specs.Judging.{recorded, subject_over}
 use Rattle.mk_core.specs.Ready.{Ready, ready_for}
+use Rattle.mk_core_since.specs.Before.{before}
 use Rattle.mk_core_since.specs.declared.outcome.Since.{Since}
 use Rattle.mk_core_since.specs.declared.outcome.Since.TheVariants.{Named}
 use Rattle.mk_core_since.specs.OldAnswer.{HasYes}
 use Rattle.mk_core_since.specs.SinceAnswer.{AnswersSince}
-use Rattle.mk_core_since.specs.Words.{before}
 
 -- Take recipes of both builds that behave alike where targets and commands are the same, and a
 -- finished make of all goals of the old build x, with present footprints, from a coherent disk; then

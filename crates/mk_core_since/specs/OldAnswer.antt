@@ -13,7 +13,9 @@ use Rattle.mk_core.specs.Answer.{Answers}
 use Rattle.mk_core.specs.Judging.{AnswersJudged}
 use Rattle.mk_core_since.specs.declared.old_build.OldBuild.{OldBuild}
 use Rattle.mk_core_since.specs.declared.old_build.OldBuild.TheVariants.{Kept, Unsure}
-use Rattle.mk_core_since.specs.Words.{before, words_name}
+use Rattle.mk_core_since.specs.Before.{before}
+use Rattle.mk_core_since.specs.Options.{options_name}
+use Rattle.mk_core_since.specs.Words.{words_name}
 
 -- `check` says yes of the build: nothing is found, and it has a certificate.
 abbrev pub HasYes : Subject → Type 0
@@ -28,14 +30,16 @@ IsOld x (Unsure found) = (¬ (found ≡ [])) × AreFindings x found
 abbrev pub GivesOld : Subject → Result OldBuild Fault → Type 0
 GivesOld x answer = (old : OldBuild) × IsOld x old × (answer ≡ Ok old)
 
--- The answer for the request that the words give, or the fault of the words.
+-- The answer for the request for the old build, or the fault of its words or options.
 abbrev pub AnswersBefore : Told → Result Request Fault → Result OldBuild Fault → Type 0
 AnswersBefore was (Ok request) answer = Answers was request (AnswersJudged GivesOld) answer
 AnswersBefore was (Err fault) answer = answer ≡ Err fault
 
 -- The answers for the old build when its folder has these contents: what is known of it, or the
--- first fault, which may be the failed read of its words. Out of memory is always allowed.
+-- first fault, which may be the failed read of its words or of its options. Out of memory is always
+-- allowed.
 abbrev pub AnswersOld : Told → Request → Result OldBuild Fault → Type 0
 AnswersOld was request answer =
     (answer ≡ Err Memory) ⊎ (answer ≡ Err (FileReadFailed words_name)) ⊎
+    (answer ≡ Err (FileReadFailed options_name)) ⊎
     AnswersBefore was (before was request) answer

@@ -1,11 +1,10 @@
--- The request for the old build.
-use Rattle.std.specs.Prelude.{◌≡◌, ◌⊎◌, ℕ, ◌+◌, ◌==◌, Bool, true, false, not, List, [], ◌∷◌, codes, filter, Option, None, Some, Result, Ok, Err, if◌then◌else◌}
+-- The words of the old build.
+use Rattle.std.specs.Prelude.{ℕ, ◌+◌, ◌==◌, Bool, true, false, List, [], ◌∷◌, codes, Option, None, Some, Result, Ok, Err, if◌then◌else◌}
 use Rattle.std.specs.List.{slice_split}
 use Rattle.std.specs.Str.{is_utf8}
 use Rattle.mk_infer.specs.declared.fault.InferFault.TheVariants.{BadGoal}
-use Rattle.mk_read.specs.Files.{Told, text_at}
 use Rattle.mk_core_text.specs.declared.fault.Fault.{Fault}
-use Rattle.mk_core_text.specs.declared.fault.Fault.TheVariants.{FileReadFailed, Infer, Memory}
+use Rattle.mk_core_text.specs.declared.fault.Fault.TheVariants.{Infer}
 use Rattle.mk_core.specs.declared.request.Request.{Request}
 use Rattle.mk_core.specs.Words.{goals_of, operands_of}
 use Rattle.mk_core.specs.Steps.{◌>>=◌}
@@ -13,10 +12,6 @@ use Rattle.mk_core.specs.Steps.{◌>>=◌}
 -- The name of the old build's words in its folder.
 abbrev pub words_name : List ℕ
 words_name = codes "words"
-
--- The name of the old build's footprint file in its folder.
-abbrev pub book_name : List ℕ
-book_name = codes "footprint.json"
 
 -- The text isn't empty.
 abbrev pub is_some_text : List ℕ → Bool
@@ -33,9 +28,13 @@ words_from n (line ∷ lines) =
       Ok (if is_some_text line then line ∷ rest else rest))
     else Err (Infer (BadGoal (record { file = words_name; line = n })))
 
+-- The lines of a text; if it ends in a newline, the last one is empty.
+abbrev pub lines_of : List ℕ → List (List ℕ)
+lines_of text = slice_split (λ b. b == 10) text
+
 -- The words of a text.
 abbrev pub words_of : List ℕ → Result (List (List ℕ)) Fault
-words_of text = words_from 1 (slice_split (λ b. b == 10) text)
+words_of text = words_from 1 (lines_of text)
 
 -- The operands and the goals in a text.
 abbrev pub given_in : List ℕ → Result (List (List ℕ) × List (List ℕ)) Fault
@@ -47,25 +46,3 @@ given_in text = do
 abbrev pub given_by : Option (List ℕ) → Request → Result (List (List ℕ) × List (List ℕ)) Fault
 given_by None request = Ok (request.operands, request.goals)
 given_by (Some text) request = given_in text
-
--- The request for the old build with these operands and goals, and its footprint file.
-abbrev pub old_request : Request → List (List ℕ) × List (List ℕ) → Request
-old_request request given =
-    record request {
-      operands = given.0;
-      goals = given.1;
-      book = Some book_name;
-      commands = false;
-    }
-
--- The request for the old build when its folder has these contents: with its footprint file and its
--- operands and goals; or the fault of its words.
-abbrev pub before : Told → Request → Result Request Fault
-before was request = do
-  given ← given_by (text_at was words_name) request
-  Ok (old_request request given)
-
--- An answer that is out of memory, or the failed read of the words, or this one.
-abbrev pub IsUnlessFailed : {A : Type 0} → Result A Fault → Result A Fault → Type 0
-IsUnlessFailed answer given =
-    (given ≡ Err Memory) ⊎ (given ≡ Err (FileReadFailed words_name)) ⊎ (given ≡ answer)

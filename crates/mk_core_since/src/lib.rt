@@ -8,6 +8,8 @@ mod in_folder;
 pub mod laws;
 mod naming;
 mod old_build;
+mod old_request;
+mod options;
 mod outcome;
 mod words;
 

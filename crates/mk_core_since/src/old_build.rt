@@ -8,7 +8,7 @@ ghost use Rattle.mk_core_text.specs.declared.fault.Fault.TheVariants.{Memory};
 ghost use Rattle.mk_core_since.specs.OldAnswer.{AnswersOld, GivesOld, IsOld};
 ghost use Rattle.mk_core_since.specs.NotRead.{old_not_read};
 
-use crate::words::before;
+use crate::old_request::before;
 use mk_core::{Fault, Files, Findings, Judge, Request, Verdict, answer_judged, verdict_of};
 use mk_since::{Past, past_of};
 use mk_subject::Subject;
@@ -60,7 +60,7 @@ impl Judge for KeepOld {
 }
 
 /// What is known of the old build that these files hold. The error is the first fault in this
-/// order: the words (35, 27), then as `check` lists them.
+/// order: the words (35, 27), the options (35, 27), then as `check` lists them.
 pub fn old_build<F: Files>(
     alloc: Global,
     files: &mut F,

@@ -9,7 +9,8 @@ ghost use Rattle.mk_core.specs.Answer.{NotesFailure, NotesFault};
 ghost use Rattle.mk_core.specs.Steps.{is_out_of_memory};
 ghost use Rattle.mk_infer.specs.declared.fault.InferFault.TheVariants.{BadGoal};
 ghost use Rattle.mk_core_text.specs.declared.fault.Fault.TheVariants.{Infer, Memory};
-ghost use Rattle.mk_core_since.specs.Words.{IsUnlessFailed, before, given_by, given_in, old_request, words_from, words_name, words_of};
+ghost use Rattle.mk_core_since.specs.Before.{IsUnlessFailed};
+ghost use Rattle.mk_core_since.specs.Words.{given_by, given_in, words_from, words_name};
 
 use mk_core::{Fault, Files, FilesError, Name, Names, Operands, Request, split_words};
 use mk_infer::InferFault;
@@ -20,11 +21,9 @@ use std::str;
 /// The name of the old build's words in its folder.
 const WORDS: &str = "words";
 
-/// The name of the old build's footprint file in its folder.
-const BOOK: &str = "footprint.json";
-
-/// The lines of a text. The only error is out of memory.
-fn lines_of(alloc: Global, text: &[u8]) -> Result<Vec<&[u8]>, AllocError>
+/// The lines of a text; if it ends in a newline, the last one is empty. The only error is out of
+/// memory.
+pub fn lines_of(alloc: Global, text: &[u8]) -> Result<Vec<&[u8]>, AllocError>
     ensures { IfOk result (λ lines. map (λ line. line.now) lines.items
         ≡ slice_split (λ b. b == 10) text.now) }
 {
@@ -32,7 +31,7 @@ fn lines_of(alloc: Global, text: &[u8]) -> Result<Vec<&[u8]>, AllocError>
 }
 
 /// The bytes as text, if they are UTF-8.
-fn utf8(bytes: &[u8]) -> Option<&str>
+pub fn utf8(bytes: &[u8]) -> Option<&str>
     ensures { MatchOption result (is_utf8 bytes.now ≡ false) (λ text. (text.now ≡ bytes.now) ×
         (is_utf8 bytes.now ≡ true)) }
 {
@@ -121,7 +120,7 @@ fn copied_names(alloc: Global, names: &[Name]) -> Result<Names, AllocError>
 /// The operands and the goals of the old build: those in the file `words`, else those of the
 /// request. The errors are `FileReadFailed` (35), `BadGoal` (27) for a line that isn't UTF-8, and
 /// out of memory.
-fn old_words<F: Files>(
+pub fn old_words<F: Files>(
     alloc: Global,
     files: &mut F,
     request: &Request,
@@ -138,50 +137,5 @@ fn old_words<F: Files>(
         Ok(None) => Ok(words_of(alloc, request)?),
         Err(FilesError::ReadFailed) => Err(Fault::FileReadFailed(name)),
         Err(FilesError::Memory) => Err(Fault::Memory),
-    }
-}
-
-/// A copy of the name, if there is one.
-fn copied(name: &Option<Name>) -> Result<Option<Name>, AllocError>
-    ensures { IfOk result (λ copy. copy ≡ name.now) }
-{
-    match name {
-        Some(name) => Ok(Some(name.clone()?)),
-        None => Ok(None),
-    }
-}
-
-/// The request for the old build, with these operands and goals.
-fn request_with(
-    alloc: Global,
-    request: &Request,
-    operands: Operands,
-    goals: Names,
-) -> Result<Request, AllocError>
-    ensures { IfOk result (λ old. old ≡ old_request request.now (operands, goals)) }
-{
-    Ok(Request {
-        makefile: copied(&request.makefile)?,
-        defaults: request.defaults,
-        operands,
-        goals,
-        book: Some(Name::new(alloc, BOOK)?),
-        commands: false,
-        leaves_memory: request.leaves_memory,
-    })
-}
-
-/// The request for the old build, whose words are read here. The errors are `FileReadFailed` (35)
-/// and `BadGoal` (27) for the words, and out of memory.
-pub fn before<F: Files>(alloc: Global, files: &mut F, request: &Request) -> Result<Request, Fault>
-    ensures keeps { Keeps (F.fits files.old) (F.fits files.new) }
-    ensures request { IfFits (F.fits files.new)
-        (λ was. IsUnlessFailed (before was request.now) result) }
-    ensures memory { IfErr result (λ fault. is_out_of_memory fault ≡ true → fault ≡ Memory) }
-    ensures noted { NotesFailure (F.failed files.old) (F.failed files.new) result }
-{
-    match old_words(alloc, files, request) {
-        Ok((operands, goals)) => Ok(request_with(alloc, request, operands, goals)?),
-        Err(fault) => Err(fault),
     }
 }

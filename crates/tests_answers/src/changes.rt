@@ -30,21 +30,26 @@ fn shown(alloc: Global, found: &Since) -> Result<Vec<u8>, AllocError> {
     Ok(text)
 }
 
-/// Checks what is printed after a change from the first program, with these footprints, to the
-/// second.
-fn expect(alloc: Global, footprints: &str, want: &str) -> Result<(), Fail> {
-    let mut old = files_of(alloc, MAKEFILE, "footprint.json", footprints)?;
+/// Checks what is printed after a change from the build in this folder to the second program.
+fn expect_from(alloc: Global, old: &mut MemFiles, want: &str) -> Result<(), Fail> {
     let mut new = files_of(alloc, OTHER, "B", OTHER_RIGHT)?;
     let asked = request(alloc, &[])?;
     let change = Change {
         request: &asked,
         folder: "old",
     };
-    let text = match since(alloc, &mut old, &mut new, &change) {
+    let text = match since(alloc, old, &mut new, &change) {
         Ok(found) => shown(alloc, &found)?,
         Err(fault) => fault_text(alloc, &fault)?,
     };
     same(str::from_utf8(&text).unwrap_or(""), want)
+}
+
+/// Checks what is printed after a change from the first program, with these footprints, to the
+/// second.
+fn expect(alloc: Global, footprints: &str, want: &str) -> Result<(), Fail> {
+    let mut old = files_of(alloc, MAKEFILE, "footprint.json", footprints)?;
+    expect_from(alloc, &mut old, want)
 }
 
 #[test]
@@ -62,6 +67,15 @@ fn tells_of_an_old_build_with_findings(rt: HostRuntime) -> Result<(), Fail> {
 fn refuses_an_old_build_without_footprints(rt: HostRuntime) -> Result<(), Fail> {
     let want = "refused 51\nthis is the old build, in old: begin with a clean build\n";
     expect(rt.alloc(), "", want)
+}
+
+#[test]
+fn reads_the_makefile_that_the_options_name(rt: HostRuntime) -> Result<(), Fail> {
+    let alloc = rt.alloc();
+    let mut old = files_of(alloc, "p: none\n", "footprint.json", RIGHT)?;
+    old.add("old.mk", MAKEFILE.as_bytes())?;
+    old.add("options", "-f\nold.mk\n".as_bytes())?;
+    expect_from(alloc, &mut old, "a.o\n")
 }
 
 #[test]

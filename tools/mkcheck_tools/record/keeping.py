@@ -36,7 +36,7 @@ class Made:
             **self.texts,
             BOOK: self.book.encode("utf-8"),
             WORDS: text_of_words(self.words),
-            OPTIONS: text_of_words(self.options),
+            OPTIONS: text_of_words(option.removeprefix("./") for option in self.options),
             CONDITIONS: self.conditions.encode("ascii"),
         }
 
@@ -66,6 +66,7 @@ def text_of_conditions(
     makefile gives other values, `links` lead to these names.
     """
     value = {
+        "default_text": not choice.bare,
         "operands": [word for word in choice.words if "=" in word],
         "shells": sorted(shells),
         "macros": dict(macros),

@@ -1,4 +1,4 @@
-use Rattle.mk_core_since.proofs.BothBuilds.{old_answers, words_refused}
+use Rattle.mk_core_since.proofs.BothBuilds.{old_answers, request_refused}
 use Rattle.mk_core_since.proofs.old_build.old_build.Goals as goal
 
 pub returns-in-Ok-clause-answer : goal.returns-in-Ok-clause-answer
@@ -7,4 +7,4 @@ returns-in-Ok-clause-answer g c =
 
 pub returns-in-Err-clause-answer : goal.returns-in-Err-clause-answer
 returns-in-Err-clause-answer g c =
-    λ was fits. words_refused was c.args.request.now c.in-Err.fault (c.in-Err.ensures.request was fits)
+    λ was fits. request_refused was c.args.request.now c.in-Err.fault (c.in-Err.ensures.request was fits)
