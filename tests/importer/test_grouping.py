@@ -2,6 +2,7 @@
 
 from __future__ import annotations
 
+import json
 import unittest
 
 from importer.make_folder import MakeFolderTest, can_judge
@@ -39,6 +40,19 @@ class GroupingTest(unittest.TestCase):
         self.assertEqual(
             told(one_o="M:3: `cc one.c -o one.o` is new", two_o="M:3: `cc two.c -o two.o` is new"),
             ["M:3: `cc one.c -o one.o` is new; so it is with two.o"],
+        )
+
+    def test_a_name_that_is_a_word_of_the_sentence(self) -> None:
+        self.assertEqual(
+            told(
+                a_o="M:3: make has other commands for a.o: `cc a.c`, which reads a.h",
+                commands_o="M:3: make has other commands for commands.o: `cc commands.c`, which"
+                " reads commands.h",
+            ),
+            [
+                "M:3: make has other commands for a.o: `cc a.c`, which reads a.h; so it is with"
+                " commands.o"
+            ],
         )
 
     def test_other_causes(self) -> None:
@@ -79,3 +93,53 @@ class GroupedAnswerTest(MakeFolderTest):
         self.assertIn("; so it is with y.o and z.o\n", answer.output)
         self.assertEqual(answer.output.count("after a build make has other commands"), 1)
         self.assertIn("no answer: no recipe could be judged, of 3", answer.output)
+
+    def test_files_that_make_reads(self) -> None:
+        """Nothing that was tried shows whether commands depend on one of them."""
+        self.write(
+            {
+                "Makefile": "V := $(shell cat a b c > /dev/null)\nx: s\n\tcp s x\n",
+                **dict.fromkeys("abcs", "1\n"),
+            }
+        )
+        answer = self.imported()
+        self.assertEqual(answer.status, 4, answer.output + answer.errors)
+        self.assertIn("    make reads a beside its makefiles, and whether", answer.output)
+        self.assertIn("; so it is with b and c\n", answer.output)
+        self.assertEqual(answer.output.count("beside its makefiles"), 1)
+
+    def test_makes_of_a_first_build_alone(self) -> None:
+        """Each folder has a make that only the first build starts."""
+        self.write(
+            {
+                "Makefile": "x: s | stamp\n\tcp s x\nstamp:\n"
+                "\t$(MAKE) -C a\n\t$(MAKE) -C b\n\t$(MAKE) -C c\n\ttouch stamp\n",
+                **{f"{name}/Makefile": "y: s\n\tcp s y\n" for name in "abc"},
+                **{f"{name}s": "1\n" for name in ("", "a/", "b/", "c/")},
+            }
+        )
+        answer = self.imported()
+        text = "make in a is started in a first build and not in the next one, so when it runs"
+        self.assertIn(text, answer.output)
+        self.assertIn("; so it is with b and c\n", answer.output)
+        self.assertEqual(answer.output.count("started in a first build"), 1)
+
+    def test_files_that_clean_removes(self) -> None:
+        """The recipes of many lines write what that of one line removes: one sentence."""
+        names = [f"y{number}" for number in range(5)]
+        self.write(
+            {
+                "Makefile": f"all: {' '.join(names)}\n.PHONY: all clean\n"
+                + "".join(f"{name}: s clean\n\tcp s {name}\n" for name in names)
+                + "clean:\n\trm -f y?\n",
+                "s": "1\n",
+            }
+        )
+        answer = self.imported()
+        self.assertEqual(answer.status, 1, answer.output + answer.errors)
+        self.assertIn("no: 5 findings in 1 sentence ", answer.output)
+        text = "; so it is with 4 more pairs of clean, y0, y1, y2, y3 and y4\n"
+        self.assertIn(text, answer.output)
+        told = json.loads((self.folder / ".mkcheck/answer.json").read_text())
+        (finding,) = told["findings"]
+        self.assertEqual((finding["targets"], finding["files"]), (["clean", *names], names))

@@ -2,9 +2,9 @@
 
 from __future__ import annotations
 
-from importer.make_folder import MakeFolderTest, can_judge
+from importer.make_folder import Answer, MakeFolderTest, can_judge
 
-# What another folder makes is needed, so `make -n` fails, and the commands are those of a build.
+# What another folder makes is needed, for which `make -n` would fail.
 MAKEFILE = (
     "all:\n"
     "\t$(MAKE) all-recursive\n"
@@ -22,7 +22,8 @@ MAKEFILE = (
 class AgainTest(MakeFolderTest):
     """Makes of one folder know the same rules, and each runs some."""
 
-    def test_real_build(self) -> None:
+    def setUp(self) -> None:
+        super().setUp()
         self.write(
             {
                 "Makefile": MAKEFILE,
@@ -32,8 +33,17 @@ class AgainTest(MakeFolderTest):
                 "high/Makefile": "all: d\nd: ../a ../low/b\n\tcat ../a ../low/b > d\n.PHONY: all\n",
             }
         )
-        answer = self.imported("--no-replay")
+
+    def imported_right(self, *words: str) -> Answer:
+        """The import, whose answer is a yes for each recipe."""
+        answer = self.imported("--no-replay", *words)
         self.assertEqual(answer.status, 0, answer.output + answer.errors)
-        self.assertIn("make -n` fails", answer.log)
         self.assertEqual(sorted(answer.records), ["a", "all-recursive@commands", "high/d", "low/b"])
         self.try_answer(answer)
+        return answer
+
+    def test_real_build(self) -> None:
+        self.assertIn("--build was given", self.imported_right("--build").log)
+
+    def test_what_make_would_do(self) -> None:
+        self.assertNotIn("real build", self.imported_right().log)

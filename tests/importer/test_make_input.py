@@ -2,12 +2,15 @@
 
 from __future__ import annotations
 
+import contextlib
 import os
 import resource
+import shutil
 import signal
 import subprocess
 import sys
 import time
+from pathlib import Path
 
 from importer.make_folder import ENVIRONMENT, IMPORTER, MKCHECK, MakeFolderTest, can_judge, has_make
 
@@ -179,6 +182,54 @@ class CostTest(MakeFolderTest):
             self.assertIn("stopped by SIGTERM", process.stderr.read())
             self.assertEqual(process.wait(), 128 + signal.SIGTERM)
         self.assertEqual(list(temporary.iterdir()), [])
+
+    def ended_at(self, number: int, makefile: str, command: str) -> None:
+        """Begins an import, and ends it where this command runs: it ends at once, and the command
+        too."""
+        self.write({"Makefile": makefile, "a": "1\n"})
+        with subprocess.Popen(
+            [sys.executable, str(IMPORTER), "-C", str(self.folder)],
+            env=ENVIRONMENT,
+            stderr=subprocess.PIPE,
+            text=True,
+            preexec_fn=lambda: signal.signal(number, signal.SIG_DFL),
+        ) as process:
+            while process.poll() is None and not running(command):
+                time.sleep(0.02)
+            begun = time.monotonic()
+            process.send_signal(number)
+            _, errors = process.communicate()
+        self.assertIn(f"stopped by {signal.Signals(number).name}", errors)
+        self.assertEqual(process.returncode, 128 + number)
+        # Within a second or two; the machine may have much else to do.
+        self.assertLess(time.monotonic() - begun, 15)
+        self.assertFalse(running(command))
+
+    def test_ended_in_each_phase(self) -> None:
+        """Make reads, builds, is asked with other contents of a file, and recipes are recorded."""
+        recipe = 'x: a\n\ttest {} "$$MAKELEVEL" && sleep {}; cp a x\n'
+        reading = "V := $(shell {} sleep {})\nx: a\n\techo $(V) > x\n"
+        other = "test $$(cat a) = 1 ||"
+        for number, front in ((signal.SIGTERM, "62"), (signal.SIGINT, "63")):
+            for name, makefile in (
+                ("1", reading.format("", f"{front}.1")),
+                ("2", recipe.format("-n", f"{front}.2")),
+                ("3", reading.format(other, f"{front}.3")),
+                ("4", recipe.format("-z", f"{front}.4")),
+            ):
+                with self.subTest(makefile):
+                    shutil.rmtree(self.folder)
+                    self.folder.mkdir()
+                    self.ended_at(number, makefile, f"sleep\0{front}.{name}\0")
+
+
+def running(command: str) -> bool:
+    """Whether a process of this machine has these words, each with a zero behind it."""
+    for path in Path("/proc").glob("[0-9]*/cmdline"):
+        with contextlib.suppress(OSError):
+            if path.read_text(errors="replace") == command:
+                return True
+    return False
 
 
 @can_judge

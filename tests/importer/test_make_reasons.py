@@ -6,6 +6,7 @@ Each stands beside one that differs a little, in which the sentence is right.
 from __future__ import annotations
 
 import re
+import subprocess
 import unittest
 
 from importer.make_folder import can_judge
@@ -299,7 +300,7 @@ class LookTest(UnseenTestCase):
     def test_a_make_that_only_a_build_can_show(self) -> None:
         self.write(
             {
-                "Makefile": "all: gen.h\n\t$(MAKE) -f below.mk\ngen.h:\n\techo 1 > gen.h\n",
+                "Makefile": "all: gen\n\t$(MAKE) -f below.mk\ngen:\n\techo 1 > gen.h\n",
                 "below.mk": "x: gen.h\n\tcp gen.h x\n",
             }
         )
@@ -321,8 +322,50 @@ class LookTest(UnseenTestCase):
         front = "    make failed in the project's folder with status 2: "
         self.assertTrue(failed.startswith(front), failed)
         self.assertTrue(failed.endswith("No rule to make target 'gen.h', needed by 'x'."), failed)
-        front = "    below.mk:2: make didn't run the recipe of x, "
+        front = "    below.mk:2: make didn't run the recipe of x"
         self.assertTrue(unrun.startswith(front), unrun)
+
+    def test_a_file_that_another_make_makes(self) -> None:
+        """As in Automake's builds: `make -n` alone fails, since nothing has made it."""
+        self.write(
+            {
+                "Makefile": "all:\n\t$(MAKE) -C lib\n\t$(MAKE) p\n"
+                "p: s lib/l lib/m\n\tcat $^ > p\n",
+                "s": "s\n",
+                "lib/Makefile": "all: l m\nl: a\n\tcp a l\nm:\n\techo > m\n",
+                "lib/a": "a\n",
+            }
+        )
+        asked = subprocess.run(
+            ["make", "-n"], cwd=self.folder, capture_output=True, text=True, check=False
+        )
+        self.assertIn("No rule to make target 'lib/l', needed by 'p'", asked.stderr)
+        answer = self.imported("--look")
+        self.assertIn("3 of 3 recipes will be judged, for all, by GNU Make", answer.output)
+        answer = self.imported()
+        self.assertEqual(answer.status, 0, answer.output + answer.errors)
+        self.assertEqual(sorted(answer.records), ["lib/l", "lib/m", "p"])
+        self.assertFalse((self.folder / "lib" / "l").exists())
+        built = self.built()
+        self.assertTrue(self.rebuilds(built, ["s"], ["p"]))
+        self.assertTrue(self.rebuilds(built, ["lib/a"], ["p"]))
+
+    def test_a_file_of_a_make_that_the_same_make_starts(self) -> None:
+        """It stands there for the one, and not for the other, which would take it for done."""
+        self.write(
+            {
+                "Makefile": "all: sub p\nsub:\n\t$(MAKE) -C lib\n"
+                "p: s lib/m | sub\n\tcat s lib/m > p\n.PHONY: all sub\n",
+                "s": "s\n",
+                "lib/Makefile": "m:\n\techo > m\n",
+            }
+        )
+        answer = self.imported("--look")
+        self.assertIn("2 of 2 recipes will be judged, for all, by GNU Make", answer.output)
+        answer = self.imported()
+        self.assertEqual(answer.status, 0, answer.output + answer.errors)
+        self.assertEqual(sorted(answer.records), ["lib/m", "p"])
+        self.assertTrue(self.rebuilds(self.built(), ["s"], ["p"]))
 
     def test_a_command_that_fails_where_nothing_is_built(self) -> None:
         """It enters a folder that a recipe makes."""

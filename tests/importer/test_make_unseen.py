@@ -818,6 +818,28 @@ class ChangedCommandsTest(UnseenTestCase):
         )
         self.accepted()
 
+    def many_sources(self, makefile: str) -> None:
+        """A makefile that a command makes from more sources than are tried one by one."""
+        names = [f"{name}{digit}" for name in "abc" for digit in range(10)]
+        self.write(
+            {
+                "Makefile": f"-include all.mk\nx: {' '.join(names)}\n\tcat $^ $(F) > x\n"
+                f"all.mk:\n\t{makefile} > all.mk\n",
+                "h": "h\n",
+                **dict.fromkeys(names, "h\n"),
+            }
+        )
+
+    def test_a_dependency_file_of_many_sources(self) -> None:
+        """As `cc -MM *.c` makes it: no other contents of the sources are tried."""
+        self.many_sources("cat [abc]? | uniq | sed 's/^/x: /'")
+        self.assertEqual(self.left({"h": "2\n"}, "x"), ["h\n" * 30 + "2\n"] * 2)
+        self.assertNotIn("beside its makefiles", self.accepted().log)
+
+    def test_a_makefile_of_many_sources_with_a_macro(self) -> None:
+        self.many_sources("cat [abc]? | uniq | sed 's/^h/F = /'")
+        self.refused("make reads 30 files beside its makefiles (a0, a1, a2, a3, a4, ..), and")
+
 
 @can_judge
 class RemovedFileTest(UnseenTestCase):
@@ -944,7 +966,8 @@ class FolderTest(UnseenTestCase):
         self.imported("--only", "translate", "--build")
         self.imported("--only", "record", keep=True)
         answer = self.imported("--only", "check", keep=True)
-        self.assertIn("whether what the recipe of b writes depends on the folder d", answer.output)
+        text = "whether what the recipe of a writes depends on the folder d isn't known"
+        self.assertRegex(answer.output, rf"{text} .*; so it is with b \(Makefile:6\)\n")
 
     def test_not_ordered(self) -> None:
         self.looks("", "[ -d d ] && cat b.in > b || echo without > b")
@@ -1025,4 +1048,5 @@ class FolderTest(UnseenTestCase):
         self.imported("--only", "record", keep=True)
         answer = self.imported("--only", "check", keep=True)
         self.assertEqual(answer.status, 2)
-        self.assertIn("whether what the recipe of b writes depends on the folder d", answer.output)
+        text = "whether what the recipe of a writes depends on the folder d isn't known"
+        self.assertRegex(answer.output, rf"{text} .*; so it is with b \(Makefile:6\)\n")

@@ -81,6 +81,36 @@ class SecondImportTestCase(MakeFolderTest):
 
 
 @can_judge
+class OtherMakesTest(SecondImportTestCase):
+    """A make needs what another one makes, so `make -n` alone fails before a build, as in a build
+    of Automake whose program needs a library of another folder."""
+
+    def setUp(self) -> None:
+        super().setUp()
+        self.write(
+            {
+                "Makefile": "all:\n\t$(MAKE) -C lib\n\t$(MAKE) p\n"
+                "p: a.c lib/l\n\tcat a.c lib/l > p\n",
+                "lib/Makefile": "l: in\n\tcp in l\n",
+                "lib/in": "in\n",
+            }
+        )
+
+    def test_an_edit_keeps_the_translation(self) -> None:
+        self.assertEqual(self.first().status, 0)
+        self.write({"a.c": "2\n"})
+        self.assertEqual(self.taken(), "1 of 2")
+        self.write({"lib/in": "2\n"})
+        self.assertEqual(self.taken(), "2 of 2")
+
+    def test_another_command_is_seen(self) -> None:
+        """It is one of the make behind the file that was missing."""
+        self.first()
+        self.write({"Makefile": (self.folder / "Makefile").read_text().replace("cat a.c", "cat")})
+        self.anew("Makefile has changed")
+
+
+@can_judge
 class NothingChangedTest(SecondImportTestCase):
     """The answer is given again."""
 

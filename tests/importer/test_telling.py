@@ -6,7 +6,8 @@ import io
 import threading
 import unittest
 
-from mkcheck_tools.imports.telling import ASKED, Far, Telling
+from mkcheck_tools.imports.questions import Questions
+from mkcheck_tools.imports.telling import Far, Telling
 
 
 class TellingTest(unittest.TestCase):
@@ -49,9 +50,15 @@ class TellingTest(unittest.TestCase):
         self.assertEqual(self.told("build", "[9/0]", 10.0), line)
         self.assertEqual(self.told("build", "[0/0]", 10.0), "mkcheck-import: building, 0:10\n")
 
-    def test_no_count_where_make_is_asked(self) -> None:
-        line = "mkcheck-import: asking make what it would do, 1:30\n"
-        self.assertEqual(self.told("build", ASKED, 90.0), line)
+    def test_questions_that_make_is_asked(self) -> None:
+        front = "mkcheck-import: asking make what it would do, 0:30"
+        questions = Questions()
+        self.assertEqual(self.told("build", questions.text(), 30.0), f"{front}\n")
+        questions.known, questions.asked = 8, 2
+        line = f"{front}, 2 of 8, 1:30 left\n"
+        self.assertEqual(self.told("build", questions.text(), 30.0), line)
+        questions.asked = 9
+        self.assertEqual(self.told("build", questions.text(), 30.0), f"{front}, 9 so far\n")
 
     def test_replays_where_writes_fail(self) -> None:
         text = "[replay 8/8] a.o\n[failing 1/2] a.o\n"

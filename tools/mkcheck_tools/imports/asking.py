@@ -11,6 +11,7 @@ from dataclasses import dataclass, field, replace
 
 from mkcheck_tools.imports.gnumake import Make, Start, option_words, own_environment
 from mkcheck_tools.imports.inherited import Inherited, inherited_in
+from mkcheck_tools.imports.questions import TOO_LONG, Questions
 from mkcheck_tools.imports.rereading import changed, difference, place_of
 
 # At most this many goals, and this many targets with macros of their own, are asked for, each by
@@ -24,7 +25,7 @@ class Asking:
 
     `start` is how make is started, and `shown` are the makes for all goals. `wrapper` stands for
     make in commands. `exported` has, for each folder, the macros that single targets export. `run`
-    asks make.
+    asks make, and `questions` counts that.
     """
 
     start: Start
@@ -33,28 +34,27 @@ class Asking:
     wrapper: str
     exported: dict[str, set[str]]
     run: Callable[[Start], list[Make]]
+    questions: Questions
     sentences: list[str] = field(default_factory=list)
     """What isn't the same for all goals."""
 
     def ask(self) -> None:
         """Asks for all that may differ."""
-        self.ask_goals()
-        for make in self.shown:
-            self.ask_owners(make)
-
-    def ask_goals(self) -> None:
-        """Asks for each of several goals alone."""
         goals = list(dict.fromkeys(self.shown[0].base.values.get("MAKECMDGOALS", "").split()))
-        if len(goals) < 2:
-            return
-        if len(goals) > ASKED_AT_MOST:
-            self.sentences.append(
-                f"there are {len(goals)} goals, and whether make has the same commands for each of"
-                f" them alone was asked for {ASKED_AT_MOST}: import fewer at a time"
-            )
+        goals = goals if len(goals) > 1 else []
+        own = [inherited_in(make, self.exported.get(make.folder, set())) for make in self.shown]
+        counts = [len(owners_of(found)[:ASKED_AT_MOST]) + bool(free_of(found)) for found in own]
+        self.questions.known += len(goals[:ASKED_AT_MOST]) + sum(counts)
+        self.ask_goals(goals)
+        for make, found in zip(self.shown, own):
+            self.ask_owners(make, found)
+
+    def ask_goals(self, goals: list[str]) -> None:
+        """Asks for each of several goals alone."""
         together = " ".join(["make", *goals])
         options = [word for option in option_words(list(self.start.words)) for word in option]
-        for goal in goals[:ASKED_AT_MOST]:
+        done = 0
+        for done, goal in enumerate(self.questions.each(goals[:ASKED_AT_MOST]), 1):
             asked = self.run(replace(self.start, words=(*options, goal)))
             for make, rule, what in changed(self.shown, asked):
                 where, name = place_of(self.root, make, rule)
@@ -63,22 +63,29 @@ class Asking:
                     f" {self.plain(what)}; import each goal by itself, and let no two goals make"
                     " one file in two ways"
                 )
+        if done < len(goals):
+            why = TOO_LONG if done < ASKED_AT_MOST else ""
+            self.sentences.append(
+                f"there are {len(goals)} goals, and whether make has the same commands for each of"
+                f" them alone was asked for {done}{why}: import fewer at a time"
+            )
 
-    def ask_owners(self, make: Make) -> None:
+    def ask_owners(self, make: Make, found: list[Inherited]) -> None:
         """Asks for the targets whose macros may change the commands of what they need."""
-        found = inherited_in(make, self.exported.get(make.folder, set()))
-        free = [one.name for one in found if one.is_free]
-        owners = list(dict.fromkeys(name for one in found for name in one.owners))
-        if len(owners) > ASKED_AT_MOST:
+        free, owners = free_of(found), owners_of(found)
+        if free:
+            self.compare(make, found, free)
+        done = 0
+        for done, owner in enumerate(self.questions.each(owners[:ASKED_AT_MOST]), 1):
+            self.compare(make, found, [owner])
+        if done < len(owners):
+            why = TOO_LONG if done < ASKED_AT_MOST else ""
             some = ", ".join(one.name for one in found[:5])
             self.sentences.append(
                 f"{len(owners)} targets have macros of their own, which may change the commands of"
-                f" what they need ({some}), and {ASKED_AT_MOST} of them were asked for; make these"
+                f" what they need ({some}), and {done} of them were asked for{why}; make these"
                 " macros private"
             )
-        for goals in [free, *([owner] for owner in owners[:ASKED_AT_MOST])]:
-            if goals:
-                self.compare(make, found, goals)
 
     def name_unseen(self, make: Make, exported: set[str]) -> None:
         """Names files of a make that `make -n` doesn't start, where such macros may change their
@@ -114,6 +121,16 @@ class Asking:
     def plain(self, text: str) -> str:
         """A text in which make goes by its own name."""
         return text.replace(self.wrapper, "make")
+
+
+def free_of(found: list[Inherited]) -> list[str]:
+    """The files that are made without such a target too."""
+    return [one.name for one in found if one.is_free]
+
+
+def owners_of(found: list[Inherited]) -> list[str]:
+    """The targets whose macros files may get."""
+    return list(dict.fromkeys(name for one in found for name in one.owners))
 
 
 def is_of_folder(option: str) -> bool:

@@ -258,6 +258,12 @@ class Build:
             self.subjects[text] = recipes[0]
         self.unjudged.update(recipes)
 
+    def question(self, text: str, subject: str) -> None:
+        """Adds a problem that is about one file or folder, and keeps no recipe from being
+        judged."""
+        self.problem(text)
+        self.subjects[text] = subject
+
     def note(self, text: str, subject: str = "") -> None:
         """Adds a note, once; `subject` is the only target that it is about, or the only folder, if
         there is one."""

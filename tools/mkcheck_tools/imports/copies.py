@@ -13,7 +13,7 @@ from dataclasses import dataclass, field, replace
 from mkcheck_tools.faults import Fault
 from mkcheck_tools.run.folders import Copier
 from mkcheck_tools.run.paths import RealPath, SeenPath
-from mkcheck_tools.run.places import Place, kill_group, namespace
+from mkcheck_tools.run.places import Place, kill_group, namespace, waited
 
 # How long a program may take to clear up, when it is asked to end.
 SECONDS_TO_END = 20
@@ -227,7 +227,7 @@ def run_here(
             start_new_session=True,
         )
         try:
-            status = process.wait()
+            status = waited(process)
         finally:
             if tail is not None:
                 tail.files = []

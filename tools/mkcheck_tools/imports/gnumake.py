@@ -13,6 +13,7 @@ Three handles, none of which changes a makefile:
 from __future__ import annotations
 
 import functools
+import hashlib
 import os
 import re
 import shlex
@@ -59,9 +60,18 @@ $(info {BEGINNING})
 {ENVIRONMENT}: ; +@env -0 > "$$MKIMPORT_ENV"
 .DEFAULT_GOAL :="""
 
+# The time, in seconds, of a file that stands for one that another make makes.
+OLD = 1
 WRAPPER = r"""#!/bin/sh
 # One line of arguments a make; each has files of its own.
 D=@SCRATCH@
+# What only other makes make stands there while a make is asked, and not while makes below it are.
+show() {
+    [ ! -f "$1" ] || while read -r f; do [ -e "$f" ] || touch -d @1 "$f" 2>/dev/null; done < "$1"
+}
+hide() {
+    [ ! -f "$1" ] || while read -r f; do [ ! "$f" -ot "$D/lacks/old" ] || rm -f "$f"; done < "$1"
+}
 while ! mkdir "$D/lock" 2>/dev/null; do
     if [ ! -w "$D" ]; then
         echo "mkcheck-import: a recipe starts make where $D can't be written" >&2
@@ -76,8 +86,18 @@ up=$MKIMPORT_OUT
 MKIMPORT_OUT=$D/$n.out MKIMPORT_ERR=$D/$n.err MKIMPORT_ENV=$D/$n.env
 export MKIMPORT_OUT MKIMPORT_ERR MKIMPORT_ENV
 printf '%s\0' "$PWD" "$up" "$at" "$@" > "$D/$n.args"
+if [ -d "$D/lacks" ]; then
+    above=$MKIMPORT_LACKS MKIMPORT_LACKS=$D/$n.lacks
+    export MKIMPORT_LACKS
+    own=$D/lacks/$(printf '%s\0' "$PWD" "$@" | sha256sum | cut -c 1-64)
+    [ ! -f "$own" ] || cp "$own" "$MKIMPORT_LACKS"
+    hide "$above"; show "$MKIMPORT_LACKS"
+fi
 @MAKE@ --no-print-directory "$@" > "$D/$n.out" 2>> "$MKIMPORT_ERR"
 s=$?
+if [ -d "$D/lacks" ]; then
+    hide "$MKIMPORT_LACKS"; show "$above"
+fi
 echo $s > "$D/$n.status"
 sed -z 's/@MARK@//g' "$D/$n.err" >&2
 exit $s
@@ -121,6 +141,9 @@ class Question:
     seconds: float | None = None
     """How long it may take."""
 
+    lacks: Mapping[str, Sequence[str]] = field(default_factory=dict)
+    """By calls of make the paths of files that stand there while that make runs, empty and old."""
+
 
 @dataclass
 class Make:
@@ -139,6 +162,9 @@ class Make:
 
     last_errors: str = ""
     """What stands in `errors` behind the output of all but the last command."""
+
+    call: str = ""
+    """What tells its call from those of others, in each question the same."""
 
     @property
     def base(self) -> Database:
@@ -256,6 +282,13 @@ def run_make(start: Start, place: Place, scratch: str, asked: Question) -> list[
     os.chmod(wrapper, 0o755)
     os.symlink(wrapper, os.path.join(os.path.dirname(wrapper), "gmake"))
     Path(scratch, "count").write_text("0")
+    if asked.lacks:
+        lists = Path(scratch, "lacks")
+        lists.mkdir()
+        (lists / "old").touch()
+        os.utime(lists / "old", (OLD + 1, OLD + 1))
+        for call, paths in asked.lacks.items():
+            (lists / call).write_text("".join(f"{path}\n" for path in paths))
     Path(scratch, "top.out").touch()
     outer = start.environment
     search = f"{os.path.dirname(wrapper)}:{outer.get('PATH', os.defpath)}"
@@ -315,7 +348,14 @@ def read_make(scratch: str, number: int, own: set[str], watched: list[str]) -> M
         int(status) if status else 2,
         "".join(errors),
         last_errors=errors[-1],
+        call=digest_of_call([folder, *words]),
     )
+
+
+def digest_of_call(words: Sequence[str]) -> str:
+    """What tells a call of make from others: a digest of its folder and its words."""
+    text = "".join(f"{word}\0" for word in words)
+    return hashlib.sha256(text.encode("utf-8", "surrogateescape")).hexdigest()
 
 
 def attach(makes: list[Make], scratch: str) -> None:

@@ -18,11 +18,21 @@ def grouped(texts: Iterable[str], subjects: Mapping[str, str]) -> list[str]:
     `subjects` has the target for those that are about one. Of several the first one stands there,
     with its details, and the other targets.
     """
-    groups: dict[str, list[str]] = {}
+    groups: list[list[str]] = []
+    known: dict[int, list[tuple[tuple[list[str], str], list[str]]]] = {}
     for text in texts:
-        target = subjects.get(text)
-        groups.setdefault(template(text, target) if target else text, []).append(text)
-    return [joined(group, subjects) for group in groups.values()]
+        target = subjects.get(text, "")
+        own = words_of(text), target
+        of_length = known.setdefault(len(own[0]), [])
+        same = (group for first, group in of_length if target and is_alike(first, own))
+        group = next(same, None)
+        if group is not None:
+            group.append(text)
+            continue
+        groups.append([text])
+        if target:
+            of_length.append((own, groups[-1]))
+    return [joined(group, subjects) for group in groups]
 
 
 def joined(texts: list[str], subjects: Mapping[str, str]) -> str:
@@ -49,12 +59,24 @@ def place_of(text: str) -> str:
     return found.group(1) if found is not None else ""
 
 
-def template(text: str, target: str) -> str:
-    """The sentence for any target: without its name, the names made from that, the line of its rule
-    and the details."""
-    found = PLACE.sub("", text.split("\n", 1)[0], count=1)
+def words_of(text: str) -> list[str]:
+    """The words of a sentence, without the line of the rule and the details."""
+    return PLACE.sub("", text.split("\n", 1)[0], count=1).split(" ")
+
+
+def is_alike(one: tuple[list[str], str], other: tuple[list[str], str]) -> bool:
+    """Whether two sentences, each with its target, differ only in that: word by word, since the
+    name of a target may be another word too, as in `make in a is started in a first build`."""
+    pairs = zip(one[0], other[0], strict=True)
+    return all(
+        mine == its or template(mine, one[1]) == template(its, other[1]) for mine, its in pairs
+    )
+
+
+def template(word: str, target: str) -> str:
+    """A word without the name of a target, and the names made from that."""
     base = os.path.basename(target)
-    words = [target, os.path.splitext(target)[0], base, os.path.splitext(base)[0]]
-    for number, word in enumerate(words):
-        found = re.sub(rf"(?<![\w./-]){re.escape(word)}(?![\w-])", f"\0{number}", found)
-    return found
+    names = [target, os.path.splitext(target)[0], base, os.path.splitext(base)[0]]
+    for number, name in enumerate(names):
+        word = re.sub(rf"(?<![\w./-]){re.escape(name)}(?![\w-])", f"\0{number}", word)
+    return word

@@ -32,9 +32,11 @@ def add_later(translation: Translation, makes: list[Make], written: set[str]) ->
                 rules[name] = found
     for view in translation.views.values():
         if view.make.key not in after:
-            translation.build.problem(
-                f"make in {translation.short(view.make.folder)} is started in a first build and not"
-                " in the next one, so when it runs isn't judged; let the recipe start it always"
+            folder = translation.short(view.make.folder)
+            translation.build.question(
+                f"make in {folder} is started in a first build and not in the next one, so when it"
+                " runs isn't judged; let the recipe start it always",
+                folder,
             )
     count = 0
     views = {view.number: view for view in translation.views.values()}

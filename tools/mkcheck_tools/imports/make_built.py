@@ -16,9 +16,11 @@ from mkcheck_tools.imports.failing import build_fault, failed_rule, failure_of_m
 from mkcheck_tools.imports.gnumake import Make, Start, content, outer_environment
 from mkcheck_tools.imports.leaving import times_in
 from mkcheck_tools.imports.make_folder import MakeFolder, MakeShown, exported_by, shown_with
+from mkcheck_tools.imports.questions import processor_time
 from mkcheck_tools.imports.readers import Started
 from mkcheck_tools.imports.readings import Readings
 from mkcheck_tools.imports.rereading import for_makefiles, is_dependency_file, touch_sources
+from mkcheck_tools.imports.telling import ASKED
 from mkcheck_tools.imports.unchanged import left_unchanged
 from mkcheck_tools.run.places import run
 
@@ -85,7 +87,9 @@ def built_by(asked: MakeShown) -> MakeBuilt:
 
     The second make has to be a real one: only that lets CMake join its dependency files.
     """
+    begun = processor_time()
     shown, built = first_build(asked)
+    seconds = processor_time() - begun
     front, copies = shown.front, shown.front.copies
     place = copies.place("built")
     times = times_in(place.folder)
@@ -102,7 +106,8 @@ def built_by(asked: MakeShown) -> MakeBuilt:
     front.builds.append("third")
     # A make that a recipe starts by its name isn't started by `make -n`.
     later = front.run("built", is_real=len(built) > len(shown.makes))
-    front.builds.append("asked")
+    front.builds.append(ASKED)
+    front.questions.begin(seconds)
     asking = Asking(
         front.start,
         copies.seen,
@@ -110,6 +115,7 @@ def built_by(asked: MakeShown) -> MakeBuilt:
         front.wrapper,
         dict(shown.exported),
         functools.partial(ask_for, front),
+        front.questions,
     )
     asking.ask()
     all_makes = [*shown.makes, *built, *after, *later]
@@ -119,7 +125,9 @@ def built_by(asked: MakeShown) -> MakeBuilt:
         shown.read_made,
         functools.partial(ask, front, "asked"),
         functools.partial(printed, front),
+        front.questions,
         recipes_of_goals(front, copies.place("built").folder, all_makes),
+        folders_of_dependencies(copies.seen, makefiles.dependencies, all_makes),
     )
     if read_again and readings.outputs_used(copies.shut("built"), front.start, made):
         # A file that is made from an output may be the same this time and not the next.
@@ -225,6 +233,18 @@ def recipes_of_goals(front: MakeFolder, folder: str, makes: list[Make]) -> set[s
             texts = of_makefiles if is_left else found
             texts.update(front.own_words(command.text) for one in rules for command in one.commands)
     return found - of_makefiles
+
+
+def folders_of_dependencies(root: str, dependencies: set[str], makes: list[Make]) -> set[str]:
+    """The folders of makes that make no makefile anew but for these dependency files."""
+    others = {
+        make.folder
+        for make in makes
+        for text in make.makefiles
+        if path_name(root, make.folder, text) not in dependencies
+        and any(rule.has_recipe for rule in make.base.rules.get(text, []))
+    }
+    return {make.folder for make in makes} - others
 
 
 def ask(front: MakeFolder, word: str, is_confined: bool) -> list[Make]:

@@ -3,11 +3,14 @@
 from __future__ import annotations
 
 import os
+import re
 from collections.abc import Mapping, Sequence
 from dataclasses import dataclass, field, replace
 from functools import partial
+from types import MappingProxyType
 
 from mkcheck_tools.faults import Fault
+from mkcheck_tools.imports.builds import path_name
 from mkcheck_tools.imports.commands import is_export
 from mkcheck_tools.imports.confining import OWN, Confined
 from mkcheck_tools.imports.copies import Copies, links_in, listing
@@ -25,9 +28,14 @@ from mkcheck_tools.imports.gnumake import (
 from mkcheck_tools.imports.inherited import all_macros
 from mkcheck_tools.imports.leaving import times_in
 from mkcheck_tools.imports.leftovers import Leftovers
+from mkcheck_tools.imports.questions import Questions
+from mkcheck_tools.imports.telling import ASKED
 from mkcheck_tools.imports.transcripts import MARK
+from mkcheck_tools.run.paths import SeenPath
 
 ENOUGH = (4, 0)
+# What make says of a file for which it has no rule.
+NO_RULE = re.compile(r"No rule to make target '(.+?)', needed by '")
 # What stands in the output of a make before each command.
 COMMAND_MARK = f"{MARK}\t".encode()
 
@@ -63,6 +71,9 @@ class MakeFolder:
     builds: list[str] = field(default_factory=list, compare=False)
     """The words for the builds after the first one, up to the present one."""
 
+    questions: Questions = field(default_factory=Questions, compare=False)
+    """How many questions make is asked after them."""
+
     @property
     def wrapper(self) -> str:
         """The path of the script that stands for make in commands."""
@@ -78,18 +89,51 @@ class MakeFolder:
         """How make is started."""
         return Start(self.program, self.top, self.words, self.more)
 
-    def run(self, word: str, is_real: bool, seconds: float | None = None) -> list[Make]:
+    def run(
+        self,
+        word: str,
+        is_real: bool,
+        seconds: float | None = None,
+        lacks: Mapping[str, Sequence[str]] = MappingProxyType({}),
+    ) -> list[Make]:
         """Runs make in a copy. With `seconds`, a limit of its time, make can change nothing but the
-        copy."""
+        copy. By calls `lacks` has files that stand there while that make is asked."""
         place, start = self.copies.shut(word), self.start
         if seconds is not None:
             place = Confined(place.folder, place.seen, own=(self.scratch,))
             start = replace(start, more=OWN)
-        makes = run_make(start, place, self.scratch, Question(is_real, self.watched, seconds))
+        question = Question(is_real, self.watched, seconds, lacks)
+        makes = run_make(start, place, self.scratch, question)
+        self.questions.asked += self.is_asked
         if not makes[0].transcript.is_whole:
             said = last_words(makes[0].errors)
             raise Fault(f"GNU make could not read its makefile: {said}{self.hint}")
         return makes
+
+    def asked_before(self) -> list[Make]:
+        """What makes would do before a build.
+
+        `make -n` fails where a make needs a file that another one makes, as a library of another
+        folder: nothing has made it. So such a file stands there while that make is asked, empty and
+        older than all.
+        """
+        place, lacks = self.copies.place("read"), dict[str, list[str]]()
+        while True:
+            makes = self.run("read", is_real=False, lacks=lacks)
+            found = [
+                (call, path)
+                for call, path in made_by_others(self.copies.seen, makes)
+                if path not in lacks.get(call, ()) and not os.path.lexists(place.real(path))
+            ]
+            if not found:
+                return makes
+            for call, path in found:
+                lacks.setdefault(call, []).append(path)
+
+    @property
+    def is_asked(self) -> bool:
+        """Whether all builds were made, and make is only asked what it would do."""
+        return ASKED in self.builds
 
     def begun(self) -> int:
         """How many commands the present make has begun."""
@@ -127,6 +171,23 @@ class MakeShown:
         return sum(len(make.transcript.spots) for make in self.makes)
 
 
+def made_by_others(root: str, makes: list[Make]) -> list[tuple[str, SeenPath]]:
+    """The calls of makes that failed, each with the path of a file for which that make has no rule,
+    and that another one makes."""
+    makers: dict[str, Make] = {}
+    for make in makes:
+        for name, rules in make.base.rules.items():
+            if any(rule.has_recipe and not rule.is_phony for rule in rules):
+                makers.setdefault(path_name(root, make.folder, name), make)
+    found = []
+    for make in makes:
+        for name in NO_RULE.findall(make.errors) if make.status != 0 else ():
+            path = path_name(root, make.folder, name)
+            if not path.startswith("/") and makers.get(path, make) is not make:
+                found.append((make.call, SeenPath(os.path.join(root, path))))
+    return found
+
+
 def make_folder(copies: Copies, folder: str, words: tuple[str, ...], scratch: str) -> MakeFolder:
     """The folder of a build, with the program of GNU make; raises `Fault` where there is none that
     is new enough."""
@@ -142,13 +203,13 @@ def shown_by(front: MakeFolder) -> MakeShown:
     place = front.copies.place("read")
     times = times_in(place.folder)
     leftovers = Leftovers(front.copies, frozenset(listing(place.folder)), times)
-    makes = front.run("read", is_real=False)
+    makes = front.asked_before()
     if not front.keep:
         leftovers = leftovers.found(makes, front.words, partial(cleaned, front))
         front.copies.hide(set(leftovers.hidden))
         front = replace(front, hint=leftovers.sentence())
         if leftovers.hidden:
-            makes = front.run("read", is_real=False)
+            makes = front.asked_before()
     return learned(front, makes, leftovers, times)
 
 
@@ -163,7 +224,7 @@ def shown_with(shown: MakeShown, names: set[str]) -> MakeShown:
     front = replace(shown.front, hint=leftovers.sentence())
     front.copies.show(names)
     times = times_in(front.copies.place("read").folder)
-    found = learned(front, front.run("read", is_real=False), leftovers, times)
+    found = learned(front, front.asked_before(), leftovers, times)
     return replace(found, exported={**shown.exported, **found.exported})
 
 
@@ -181,7 +242,7 @@ def learned(
         watched.update(dict.fromkeys(watched_in(make, own)))
     if len(watched) > len(front.watched):
         front = replace(front, watched=tuple(watched))
-        makes = front.run("read", is_real=False)
+        makes = front.asked_before()
     after = times_in(place.folder)
     return MakeShown(
         front,

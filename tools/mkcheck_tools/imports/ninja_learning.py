@@ -80,9 +80,10 @@ def learn_depfile(translation: NinjaBuild, edge: Edge, built: Place) -> None:
             f"{where} doesn't write its depfile {depfile}, so ninja runs it in each build"
         )
     except OSError as error:
-        translation.build.problem(f"{depfile}, a depfile of {where}: {error.strerror}")
+        translation.build.question(f"{depfile}, a depfile of {where}: {error.strerror}", depfile)
     except DepfileFault as fault:
-        translation.build.problem(f"{depfile}, a depfile of {where}, is refused by ninja: {fault}")
+        text = f"{depfile}, a depfile of {where}, is refused by ninja: {fault}"
+        translation.build.question(text, depfile)
 
 
 def add_late(translation: NinjaBuild, edge: Edge, paths: list[str]) -> None:
@@ -138,11 +139,12 @@ def test_phony(translation: NinjaBuild, edge: Edge, built: Place) -> None:
     for path in translation.through.get(id(edge), []):
         if os.path.exists(translation.real(path, built)):
             maker = translation.manifest.maker[path]
-            translation.build.problem(
+            translation.build.question(
                 f"{path} is a phony name of {maker.file}:{maker.line}, and a file or a folder of"
                 f" this name is there after a build. Then ninja compares its own time, and"
                 f" {edge.outputs[0]} isn't made again when the inputs of {path} change: give it"
-                " another name"
+                " another name",
+                edge.outputs[0],
             )
 
 
@@ -160,19 +162,21 @@ def try_restat(
     done = run(words, built, environment)
     left = [path for path in paths if os.path.isfile(path) and os.stat(path).st_mtime == OLD]
     if done.status:
-        build.problem(
+        build.question(
             f"{where} has `restat`, and its command fails when it runs a second time, with status"
-            f" {done.status}: so it can't be tried whether it always writes its outputs"
+            f" {done.status}: so it can't be tried whether it always writes its outputs",
+            edge.outputs[0],
         )
     elif left:
         translation.leader(edge).left_alike = True
         kept = [path for path in left if not is_mended(path, words, built, environment)]
         if kept:
-            build.problem(
+            build.question(
                 f"{where} has `restat`, and its command leaves {os.path.basename(kept[0])} as it is"
                 " also where that is old and holds other bytes: so when what it reads changes, it"
                 " may stay old, which isn't judged; let the command compare what it would write"
-                " with what is there (cmp -s)"
+                " with what is there (cmp -s)",
+                os.path.basename(kept[0]),
             )
         build.note(
             f"{where} has `restat`, and its command leaves {os.path.basename(left[0])} as it was"

@@ -65,6 +65,9 @@ class Reader(Follower):
     commands: dict[int, Started] = field(default_factory=dict)
     """The command of each process that is a part of one."""
 
+    answering: set[Started] = field(default_factory=set)
+    """The commands whose output a make takes; the others are of recipes."""
+
     starting: set[Started] = field(default_factory=set)
     """The commands that start makes: `make -n` runs them, and they are recipes."""
 
@@ -105,6 +108,8 @@ class Reader(Follower):
             self.children.discard(call.process)
             folder, words = self.standing(call).path, texts_of(call.arguments[1])
             command = Started(folder, tuple(words or ()))
+            if call.process in self.taken:
+                self.answering.add(command)
             if call.process not in self.taken and self.is_of_recipe(command):
                 self.recipes.add(call.process)
                 self.accesses.is_recipe = True

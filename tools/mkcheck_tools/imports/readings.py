@@ -7,7 +7,7 @@ so a target whose commands change has to need such a file.
 from __future__ import annotations
 
 import os
-from collections.abc import Callable
+from collections.abc import Callable, Iterable
 from dataclasses import dataclass, field
 
 from mkcheck_tools.faults import Fault
@@ -15,6 +15,7 @@ from mkcheck_tools.imports.builds import Build, Kind, Node, in_folder, is_foreig
 from mkcheck_tools.imports.copies import Copies
 from mkcheck_tools.imports.database import Rule
 from mkcheck_tools.imports.gnumake import Make, Start, own_environment
+from mkcheck_tools.imports.questions import TOO_LONG, Questions
 from mkcheck_tools.imports.readers import ByCommand, Reader, Started
 from mkcheck_tools.imports.rereading import changed, other_needs, place_of, short
 from mkcheck_tools.imports.trying import Trial
@@ -63,9 +64,15 @@ class Readings:
     printed: Callable[[Started, bool], str]
     """What a command prints in the copy that make starts when it reads its makefiles."""
 
+    questions: Questions
+
     recipes: set[str] = field(default_factory=set)
     """The commands of recipes, but for those that make makefiles: what they read isn't read by
     make."""
+
+    of_dependencies: set[str] = field(default_factory=set)
+    """The folders of makes whose recipes make no makefiles but dependency files: these hold
+    prerequisites alone, so no commands depend on what such a recipe reads."""
 
     readers: dict[str, list[Started | None]] = field(default_factory=dict)
     """The commands that read each file; none stands for a make itself."""
@@ -120,6 +127,14 @@ class Readings:
         """Whether a command is one of a recipe."""
         return command.text in self.recipes or " ".join(command.words) in self.recipes
 
+    def is_read(self, reader: Reader, commands: Iterable[Started | None]) -> bool:
+        """Whether a make is among those that read a file, or a command on which others may
+        depend."""
+        return any(
+            one is None or one in reader.answering or one.folder not in self.of_dependencies
+            for one in commands
+        )
+
     def read_in(self, place: Place, start: Start) -> list[str]:
         """The files and links of the project that a make reads in a place and that are no
         makefiles."""
@@ -127,6 +142,7 @@ class Readings:
         programs = {path_name(place.seen, place.seen, path) for path in reader.programs}
         self.programs |= {name for name in programs if self.is_own(place, name)}
         paths = [path for path in reader.accesses.reads if path not in reader.programs]
+        paths = [path for path in paths if self.is_read(reader, reader.accesses.readers[path])]
         looked = reader.looked - set(reader.accesses.reads)
         seen = {path_name(place.seen, place.seen, path) for path in looked} - self.makefiles
         self.looked |= {name for name in seen if self.is_own(place, name)}
@@ -160,7 +176,8 @@ class Readings:
             return
         for path, commands in reader.accesses.readers.items():
             name = path_name(place.seen, place.seen, path)
-            if name in made - self.makefiles and not reader.starting.issuperset(commands):
+            is_started = reader.starting.issuperset(commands)
+            if name in made - self.makefiles and not is_started and self.is_read(reader, commands):
                 self.outputs.setdefault(name)
 
     def try_all(self, place: Place, start: Start) -> None:
@@ -177,23 +194,30 @@ class Readings:
                     " wasn't tried, since it is a link or has over 1 MiB; let a recipe read it"
                 )
         names = [name for name in names if is_plain(os.path.join(place.folder, name))]
-        if len(names) > TRIED_AT_MOST:
-            self.sentences.append(
-                f"make reads {len(names)} files beside its makefiles ({', '.join(names[:5])}, ..),"
-                f" and whether commands depend on them was tried for {TRIED_AT_MOST}; let fewer be"
-                " read"
-            )
+        tried = 0
         if names:
             trial = Trial(place.folder, self.makefiles, self.written, self.run, self.printed)
-            for name in names[:TRIED_AT_MOST]:
+            counts = [trial.count(name) for name in names[:TRIED_AT_MOST]]
+            self.questions.known += trial.COUNT_BEFORE + sum(counts)
+            for tried, name in enumerate(self.questions.each(names[:TRIED_AT_MOST]), 1):
                 self.try_one(trial, name)
+            self.questions.known -= sum(counts[tried:])
+        if tried < len(names):
+            why = "" if tried == TRIED_AT_MOST else TOO_LONG
+            self.sentences.append(
+                f"make reads {len(names)} files beside its makefiles ({', '.join(names[:5])}, ..),"
+                f" and whether commands depend on them was tried for {tried}{why}; let fewer be"
+                " read"
+            )
 
     def confirm(self, folder: str, run: Callable[[bool], list[Make]]) -> None:
         """Asks make by `run`, in a folder in which all is up to date, whether it runs the recipes
         whose commands are others when such a file is edited. Those that it runs are all right."""
         trial = Trial(folder, self.makefiles, self.written, run, self.printed)
         ran: dict[tuple[str, int], set[tuple[str, str]]] = {}
-        for file in dict.fromkeys(one.file for one in self.found):
+        files = dict.fromkeys(one.file for one in self.found)
+        self.questions.known += sum(map(trial.count, files))
+        for file in files:
             for number, makes in trial.edits(file):
                 ran[file, number] = {
                     (make.folder, name)
@@ -312,20 +336,22 @@ class Readings:
             where, name = place_of(self.copies.seen, make, rule)
             if file not in {*met, *told}:
                 met[file] = {}
-                build.problem(
+                build.question(
                     f"{where}: what {name} needs depends on {file}, which make reads beside its"
                     f" makefiles ({words}), and its commands don't, so they may read what it"
-                    f" doesn't need when {file} changes; write out what it needs"
+                    f" doesn't need when {file} changes; write out what it needs",
+                    file,
                 )
         for file, text in self.hidden.items():
             if file not in {*met, *told} and not all_need(build, file):
-                build.problem(text)
+                build.question(text, file)
         for name in self.outputs:
-            build.problem(
+            build.question(
                 f"make reads {name} beside its makefiles (by $(shell ..) or $(file ..)), which a"
                 " recipe makes, so commands may depend on what an earlier build left, and make"
                 " doesn't run them again when it changes; let a recipe read it, as by"
-                f" $$(cat {name})"
+                f" $$(cat {name})",
+                name,
             )
         if self.outside:
             build.problem(

@@ -4,6 +4,7 @@ from __future__ import annotations
 
 import os
 import re
+from collections.abc import Iterable
 from dataclasses import dataclass, field
 
 from mkcheck_tools.book.footprint_files import Footprints
@@ -142,6 +143,11 @@ class Sentences:
             return self.build.tool or "the build"
         return str(node.origin)
 
+    def makefile(self, name: str) -> str:
+        """The makefile in which a node's recipe stands."""
+        node = self.build.nodes.get(name)
+        return node.origin.makefile if node is not None and node.origin else self.place(name)
+
     def spelled(self, node: Node, file: str) -> str:
         """A file as the makefile of a node names it."""
         other = self.build.nodes.get(file)
@@ -214,14 +220,15 @@ class Sentences:
         return found
 
     def sharing(self, shared: dict[tuple[str, str], list[str]]) -> list[str]:
-        """Files with two writers: a sentence for the recipes of two lines."""
+        """Files with two writers: a sentence for the recipes of two lines; where one line has many
+        others of a makefile beside it, as that of `clean` has, one for all of these."""
         groups: dict[tuple[str, str], dict[tuple[str, str], list[str]]] = {}
-        for (recipe, other), files in shared.items():
-            lines = self.place(recipe), self.place(other)
-            groups.setdefault(lines, {})[recipe, other] = files
+        for pair, places in self.places_of_pairs(shared).items():
+            groups.setdefault(places, {})[pair] = shared[pair]
         found = []
-        for (place, its), pairs in groups.items():
+        for (place, _), pairs in groups.items():
             (recipe, other), files = next(iter(pairs.items()))
+            its = self.place(other)
             text = (
                 f"{place}: the recipes of {self.called(recipe)} and {self.called(other)} ({its})"
                 f" both write {listed(files, 'and')}; let only one of them do so"
@@ -232,6 +239,24 @@ class Sentences:
                 names = [name for name in dict.fromkeys(more)]
                 text += f"; so it is with {len(pairs) - 1} more pairs of {listed(names, 'and')}"
             found.append(text)
+        return found
+
+    def places_of_pairs(
+        self, pairs: Iterable[tuple[str, str]]
+    ) -> dict[tuple[str, str], tuple[str, str]]:
+        """For each pair of recipes that write the same file where the two stand; of the second one
+        the makefile alone, where the first one's line has many others of it beside it. One sentence
+        tells of pairs of the same places."""
+        lines: dict[tuple[str, str], set[str]] = {}
+        pairs = list(pairs)
+        for recipe, other in pairs:
+            at = self.place(recipe), self.makefile(other)
+            lines.setdefault(at, set()).add(self.place(other))
+        found = {}
+        for recipe, other in pairs:
+            line, makefile = self.place(recipe), self.makefile(other)
+            are_many = len(lines[line, makefile]) > OF_ONE_LINE
+            found[recipe, other] = line, makefile if are_many else self.place(other)
         return found
 
     def staying(self, stale: dict[str, list[str]]) -> list[str]:

@@ -60,20 +60,22 @@ class Settling:
         """Names files that change beside the recipes that are judged: makefiles that a recipe
         writes, files that make makes when it reads, and files that are gone after a build."""
         for name in sorted(self.build.makefiles & set(self.writers)):
-            self.build.problem(
+            self.build.question(
                 f"{name}: the recipe of {self.writers[name][0]} writes it, and a make reads it as"
                 " its makefile: it is judged as this build left it, and what changes with it isn't;"
-                " let the make that reads it have the rule for it too"
+                " let the make that reads it have the rule for it too",
+                name,
             )
         used = {name for record in self.footprints.records.values() for name in record.reads}
         used.update(self.build.reached(later=True))
         # A makefile that is made anew is new before any recipe runs, so it is as a source.
         known = {*self.writers, *self.build.configured, *self.build.remade}
         for name in sorted((self.build.read_made & used) - known):
-            self.build.problem(
+            self.build.question(
                 f"{name}: it is made when make reads its makefiles (by $(shell ..), $(file ..)"
                 " or a rule for a makefile), and when it is made anew isn't judged; let the"
-                " commands of a recipe make it"
+                " commands of a recipe make it",
+                name,
             )
         for name in sorted((self.build.read_again & used) - set(self.writers)):
             self.build.note(
@@ -106,10 +108,11 @@ class Settling:
             if name in self.build.configured or all_need(self.build, name):
                 continue
             if not all(all_need(self.build, one) for one in needs):
-                self.build.problem(
+                self.build.question(
                     f"{name}: make makes this makefile anew {self.when_remade(needs)}, commands may"
                     " be others then, and make doesn't run those again; let all that is made need"
-                    f" {name}"
+                    f" {name}",
+                    name,
                 )
 
     def when_remade(self, needs: list[str]) -> str:

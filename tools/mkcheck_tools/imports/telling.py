@@ -21,14 +21,14 @@ SECONDS_ELSEWHERE = 60.0
 # where the whole isn't known; and what such a line says of a recipe that goes on.
 COUNT = re.compile(r"\[(?:(\w+) )?(\d+)/(\d+)(?: ([\d:]+) left)?\]")
 GOES_ON = re.compile(r"\] (.+? goes on)(?:, ([\d:]+))?$", re.MULTILINE)
-# In place of a count, where make is asked what it would do: it begins no commands then.
-ASKED = "[asked 0/0]"
+# The word of a count of what make is asked.
+ASKED = "asked"
 DOING = {
     "read": "reading",
     "build": "building",
     "second": "building a second time",
     "third": "building a third time",
-    "asked": "asking make what it would do",
+    ASKED: "asking make what it would do",
     "translate": "translating",
     "record": "recording",
     "replay": "replaying",

@@ -58,8 +58,10 @@ class Teller:
         """Findings that one sentence tells of."""
         found: dict[object, list[BuildFinding]] = {}
         stale: dict[object, dict[str, list[BuildFinding]]] = {}
+        findings, names = list(findings), self.names
+        pairs = [(one.words[0], one.words[1]) for one in findings if one.kind == "writers"]
+        places = names.places_of_pairs(pairs)
         for finding in findings:
-            names = self.names
             if finding.kind == "stale" and not names.is_unseen(*finding.words[:2]):
                 recipe = finding.words[0]
                 at = ("stale", names.place(recipe))
@@ -68,8 +70,8 @@ class Teller:
             elif finding.kind == UNAWARE:
                 found.setdefault((UNAWARE, finding.words[1]), []).append(finding)
             elif finding.kind == "writers":
-                places = [names.place(name) for name in finding.words[:2]]
-                found.setdefault(("writers", *places), []).append(finding)
+                pair = finding.words[0], finding.words[1]
+                found.setdefault(("writers", *places[pair]), []).append(finding)
             else:
                 found.setdefault(id(finding), []).append(finding)
         groups = []

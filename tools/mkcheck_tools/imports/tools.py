@@ -30,7 +30,7 @@ from mkcheck_tools.imports.ninja_folder import (
 )
 from mkcheck_tools.imports.real_commands import to_build
 from mkcheck_tools.imports.request import Request
-from mkcheck_tools.imports.telling import ASKED, Far
+from mkcheck_tools.imports.telling import Far
 from mkcheck_tools.run.paths import SeenPath
 
 Shown = TypeVar("Shown")
@@ -145,11 +145,11 @@ class MakeTool:
 
     def how_far(self, shown: MakeShown) -> str:
         """How many commands the present make has begun, of those that `make -n` showed, unless it
-        begins more, and which build it is after the first one; no count where make is only
-        asked."""
+        begins more, and which build it is after the first one; where make is only asked, how
+        often."""
         front, total = shown.front, shown.commands
-        if "asked" in front.builds:
-            return ASKED
+        if front.is_asked:
+            return front.questions.text()
         which = f"{front.builds[-1]} " if front.builds else ""
         begun = front.begun()
         return f"[{which}{begun}/{total if begun < total else 0}]"

@@ -9,6 +9,7 @@ import re
 from collections.abc import Callable, Iterator
 from dataclasses import dataclass
 from pathlib import Path
+from typing import ClassVar
 
 from mkcheck_tools.faults import Fault
 from mkcheck_tools.imports.database import COMPUTED_NAME, WORD
@@ -52,6 +53,14 @@ class Trial:
     run: Callable[[bool], list[Make]]
     printed: Callable[[Started, bool], str]
     is_confined: bool = True
+
+    COUNT_BEFORE: ClassVar[int] = 2
+    """How often make is asked before a file has other contents."""
+
+    def count(self, name: str) -> int:
+        """How many other contents of a file there are."""
+        text = content(os.path.join(self.folder, name))
+        return sum(1 for _ in others(text, self.words, self.is_confined))
 
     def ask(self, name: str) -> dict[int, Said]:
         """What make says for each of the other contents of a file with which it can be asked, by
