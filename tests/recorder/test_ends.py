@@ -12,8 +12,12 @@ import sys
 import time
 import unittest
 from pathlib import Path
+from unittest import mock
 
-from mkcheck_tools.run import places
+from mkcheck_tools.faults import Fault
+from mkcheck_tools.replay.versions import CHUNK, copy_bytes
+from mkcheck_tools.run import places, stopping
+from mkcheck_tools.run.paths import RealPath
 from recorder.project import MKCHECK, OF_MAKE, RECORDER, ROOT, ProjectTest, traced
 
 namespaces = unittest.skipUnless(places.namespace(), "no mount namespace is allowed")
@@ -156,6 +160,7 @@ class SignalTest(EndTest):
             run.send_signal(number)
             _, errors = run.communicate(timeout=60)
             self.assertLess(time.monotonic() - sent, allowed, errors)
+        self.assertTrue(self.mark.exists(), errors)
         self.mark.unlink()
         self.assertEqual(run.returncode, 128 + number, errors)
         self.assertEqual([path.name for path in self.scratch.glob("mkcheck-record-*")], [])
@@ -224,10 +229,39 @@ class SignalTest(EndTest):
         self.kept_after("replay.runs:Runner.run_commands", condition, waits=waits)
 
     @namespaces
+    def test_while_a_replay_reads_what_is_very_large(self) -> None:
+        """The recipe makes a file as large as one at which it only looks."""
+        sized = "rm -f c; truncate -s `stat -c %s c.in || echo 2` c"
+        self.write({"makefile": MAKEFILE.replace("c: a\n\tcp a c", f"c: a\n\t{sized}")})
+        self.write({"c.in": "1\n"})
+        patch = WAITING.format(
+            module="replay.versions",
+            name="digest_of_bytes",
+            condition=f"os.stat(words[0]).st_size > {1 << 30}",
+            mark=str(self.mark),
+            waits="pass",
+        )
+        patch += "import os, mkcheck_tools.replay.glances\n"
+        patch += f"mkcheck_tools.replay.glances.LARGE = {1 << 42}\n"
+        for number in (signal.SIGINT, signal.SIGTERM):
+            errors = self.stopped(patch, number)
+            self.assertIn(f"stopped by {number.name}, what was recorded is kept", errors)
+            self.assertEqual(self.kept(), {"a", "b", "c"})
+
+    def test_while_a_large_file_is_copied(self) -> None:
+        """It is copied in pieces, and no further one where the program ends."""
+        old, new = RealPath(str(self.scratch / "old")), RealPath(str(self.scratch / "new"))
+        with open(old, "xb") as file:
+            file.truncate(4 * CHUNK)
+        with mock.patch.object(stopping, "is_ending", side_effect=[False, True]):
+            self.assertRaises(Fault, copy_bytes, old, new)
+        self.assertEqual(os.path.getsize(new), 2 * CHUNK)
+
+    @namespaces
     def test_while_a_replay_waits_for_later_stamps(self) -> None:
         patch = WAITING.format(
             module="replay.stamps",
-            name="places.pause",
+            name="stopping.pause",
             condition="words[0] > 60",
             mark=str(self.mark),
             waits="pass",

@@ -126,6 +126,25 @@ class ScratchFolderTest(ProjectTest):
             (Path(scratch) / "d").chmod(0o500)
         self.assertFalse(os.path.exists(scratch))
 
+    def test_a_signal_does_not_wait_for_all_that_is_there(self) -> None:
+        """A folder that takes long to remove goes on being removed, and isn't waited for."""
+        remove = folders.remove
+
+        def slowly(folder: str) -> None:
+            time.sleep(4)
+            remove(folder)
+
+        begun = time.monotonic()
+        with mock.patch.object(folders, "remove", slowly), self.assertRaises(stopping.Stopped):
+            with folders.temporary_folder(str(self.scratch)) as scratch:
+                (Path(scratch) / "a").touch()
+                raise stopping.Stopped(signal.SIGTERM)
+        self.assertLess(time.monotonic() - begun, 3)
+        self.assertTrue(os.path.exists(scratch))
+        while os.path.exists(scratch) and time.monotonic() - begun < 60:
+            time.sleep(0.1)
+        self.assertFalse(os.path.exists(scratch))
+
     def left_after_signals(self, name: str, early: bool) -> list[str]:
         """What is left of a folder where a function gets a signal each time, at its begin if
         `early`, else at its end.

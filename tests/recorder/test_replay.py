@@ -107,6 +107,12 @@ class BareTest(ReplayTest):
         was, now = (int(line.split('"')[1]) for line in said.splitlines()[1:3])
         self.assertLess(was, now)
 
+    def test_an_output_that_is_one_file_with_a_source(self) -> None:
+        makefile = "out: a\n\tln a out; echo 2 >> out\n"
+        what = "changes a, which it wasn't recorded to write"
+        said = self.refused(makefile, what, BARE, {"a": "1\n"})
+        self.assertIn("what the recipe writes to out it writes to a, too. Let it make a copy", said)
+
     def test_a_process_number(self) -> None:
         self.refused("out:\n\techo $$$$ > out\n", "writes out with other contents", BARE)
 

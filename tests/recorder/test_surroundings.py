@@ -170,6 +170,9 @@ class AmidTest(SurroundingsTest):
         self.assertEqual(self.made(), "3\n2\n")
         each = "for f in *.in; do cp $$f $${f%.in}.o; done; cat *.o > out"
         self.doubt(f"out: a.in b.in\n\t{each}\n", left, files={"a.in": "1", "b.in": "2"})
+        each = "i=0; while test -f p.$$i; do cat p.$$i; i=$$((i + 1)); done"
+        for command in ("split a part.; cat part.??", f"split -d -a 1 a p.; {each}"):
+            self.doubt(f"out: a\n\t{command} > out\n", left, files=MANY)
 
     def test_files_that_no_edit_leaves_behind(self) -> None:
         """The recipe takes away what it wrote before, or doesn't use it."""
@@ -179,6 +182,25 @@ class AmidTest(SurroundingsTest):
             "cp a x.h; cat *.in > out",
         ):
             self.passes(f"out: a b.in\n\t{command}\n", {"a": "1\n2\n", "b.in": "3\n"})
+
+    def test_processes_that_write_one_file_side_by_side(self) -> None:
+        told = "processes of the recipe of out write out side by side: which of them comes first"
+        for command in (
+            "ls a b | xargs -P2 -I{} sh -c 'test {} = b || sleep 1; cat {} >> out'",
+            "(sleep 1; cat a >> out) & cat b >> out; wait",
+            "(sleep 1; cat a >> out) & (cat b >> out) & wait",
+        ):
+            self.doubt(f"out: a b\n\trm -f out; {command}\n", told, files=MANY)
+
+    def test_processes_that_write_one_file_one_after_the_other(self) -> None:
+        for command in (
+            "cat a >> out; cat b >> out; (cat a; cat b) >> out",
+            "cat a | tee -a out | sort > c; (cat b >> out) & wait; cat c >> out",
+            "ls a b | xargs -P1 -I{} sh -c 'cat {} >> out'",
+            "(cat a > c) & (cat b > d) & wait; cat c d > out; rm c d",
+            "exec >> out; cat a; cat b >> out",
+        ):
+            self.passes(f"out: a b\n\trm -f out; {command}\n", MANY)
 
     def test_two_doubts_of_one_recipe(self) -> None:
         self.write({"makefile": "out: a\n\tcat - > out; stat -c %h a >> out; cat a\n", "a": ""})

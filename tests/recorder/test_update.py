@@ -417,6 +417,12 @@ class StateTest(UpdateTest):
         self.assertTrue(line.endswith(f": {ALL}"), line)
         return line[len(front) : -len(f": {ALL}")]
 
+    def test_none_after_a_recording_that_keeps_none(self) -> None:
+        """What was recorded by `-o` alone has no state."""
+        self.state.unlink()
+        shutil.rmtree(self.store)
+        self.assertEqual(self.all_again(), "isn't there, as after a recording by -o")
+
     def test_torn(self) -> None:
         whole = self.state.read_text()
         for text in (
@@ -425,13 +431,13 @@ class StateTest(UpdateTest):
             "",
             "[]",
             "{}",
-            '{"format":5,"digest":"","state":{}}',
+            '{"format":6,"digest":"","state":{}}',
         ):
             self.state.write_text(text)
             self.assertEqual(self.all_again(), "isn't whole")
         self.state.write_bytes(b"\xff")
         self.assertEqual(self.all_again(), "can't be read")
-        self.state.write_text(whole.replace('"format":5', '"format":4', 1))
+        self.state.write_text(whole.replace('"format":6', '"format":4', 1))
         self.assertEqual(self.all_again(), "is of another version of mkcheck-record")
 
     def test_changed_by_hand(self) -> None:

@@ -23,7 +23,7 @@ from mkcheck_tools.replay.worlds import Effects, Trial
 from mkcheck_tools.run.folders import is_own, is_plain_path
 from mkcheck_tools.run.paths import Name
 
-FORMAT = 5
+FORMAT = 6
 DIGEST = re.compile(r"[0-9a-f]{64}")
 VERSIONS = (FILE, LINK, FOLDER, THERE, "pipe", "socket", "device")
 
@@ -196,6 +196,8 @@ class Writer:
             "processes": own.processes,
             "locked": sorted(own.locked),
             "tried": sorted(own.tried),
+            "clears": sorted(own.clears),
+            "stale": sorted(own.stale),
             "notes": [[note.kind.word, note.text] for note in entry.notes],
             "order": entry.order,
             "waiting": values_of(entry.waiting),
@@ -272,6 +274,8 @@ class Reader:
             processes=entry["processes"] is True,
             locked=frozenset(names(entry["locked"])),
             tried=frozenset(names(entry["tried"])),
+            clears=frozenset(names(entry["clears"])),
+            stale=frozenset(texts(entry["stale"])),
         )
         after = self.versions(entry["after"])
         made = names(entry["made"])

@@ -92,6 +92,12 @@ class Footprint:
     tried: frozenset[Name] = frozenset()
     """Those of them for whose lock it wouldn't have waited, or only for a while."""
 
+    clears: frozenset[Name] = frozenset()
+    """Files that it writes, and before which it takes away others that are like them."""
+
+    stale: frozenset[str] = frozenset()
+    """The targets of other recipes that it would use more files of, had these left some before."""
+
 
 def kind_of(tree: Tree, path: SeenPath) -> int:
     """The kind of what stands at a path itself; 0 where nothing does."""

@@ -29,12 +29,15 @@ class Met:
     """What the replay shows that a recipe needs besides its reads.
 
     `read` are the late files that it reads, and `taken` those that it writes or takes away. `seen`
-    are files of recipes before, at which it looked or whose folder it listed.
+    are files of recipes before, at which it looked or whose folder it listed. `clears` and `stale`
+    are as `Footprint` has them.
     """
 
     read: frozenset[Name] = frozenset()
     taken: frozenset[Name] = frozenset()
     seen: frozenset[Name] = frozenset()
+    clears: frozenset[Name] = frozenset()
+    stale: frozenset[str] = frozenset()
 
 
 def folders_of(name: Name) -> Iterator[Name]:
@@ -140,6 +143,14 @@ def with_met(
         one = met.get(target)
         if one is not None:
             key = key_of(late.get(target, ()))
-            footprint = replace(footprint, late=key, met=one.read, taken=one.taken, seen=one.seen)
+            footprint = replace(
+                footprint,
+                late=key,
+                met=one.read,
+                taken=one.taken,
+                seen=one.seen,
+                clears=one.clears,
+                stale=one.stale,
+            )
         found.append(footprint)
     return found

@@ -17,13 +17,14 @@ class Kind(Enum):
     """The kinds of notes: a word for each, whether it is a doubt or a hint, and what it tells."""
 
     AGAIN = ("again", DOUBT, "a recipe left other contents in a second run (`--again`)")
+    BESIDE = ("beside", DOUBT, "processes of a recipe write one file side by side")
     BUILT_IN_RULE = ("built-in-rule", DOUBT, "GNU make has a rule of its own that differs")
     CHANNEL = ("channel", DOUBT, "a recipe hands something on, or gets it, that is in no file")
     CLOCK = ("clock", DOUBT, "a recipe writes other contents at another time of another day")
     COUNTED = ("counted", DOUBT, "a recipe reads what the kernel counts, as its load is")
     CONFIGURATION = ("configuration", HINT, "a recipe reads a program's configuration")
     DATE = ("date", DOUBT, "a recipe writes today's date into a file")
-    EARLIER = ("earlier", DOUBT, "a recipe uses files that it may have left before an edit")
+    EARLIER = ("earlier", DOUBT, "a recipe uses files that were left before an edit")
     ENDS_EARLY = ("ends-early", HINT, "a recipe fails where the shell is started by `-e`")
     ENVIRONMENT = ("environment", DOUBT, "make takes a macro or an option from the environment")
     FLAGS = ("flags", DOUBT, "the makefile gives make options, or makes it read otherwise")

@@ -1,5 +1,6 @@
 """What a recipe asks for that no file holds and that is another one another time: servers, what
-processes hand to each other without files, what the kernel counts, and random numbers."""
+processes hand to each other without files, what the kernel counts, random numbers, and the order
+in which processes of one recipe go on."""
 
 from __future__ import annotations
 
@@ -51,6 +52,15 @@ def unsteady(recipe: Recipe, accesses: Accesses) -> Iterator[Note]:
             " that, it is another one each time; let the recipe do without it"
         )
         yield Note(target, Kind.COUNTED, text)
+    root = accesses.tree.root
+    beside = [path[len(root) + 1 :] for path in accesses.beside if accesses.tree.has(path)]
+    if beside:
+        text = (
+            f"processes of the recipe of {target} write {listed(beside)} side by side: which of"
+            " them comes first may be another one each time, which two runs needn't show; let each"
+            " write a file of its own, and join these in a fixed order"
+        )
+        yield Note(target, Kind.BESIDE, text)
     drawn = drawing(recipe)
     if drawn:
         text = (

@@ -28,6 +28,7 @@ from mkcheck_tools.judge.late import Late, with_met
 from mkcheck_tools.judge.leftovers import warn_of_left_over
 from mkcheck_tools.judge.modules import warn_of_modules
 from mkcheck_tools.judge.notes import Kind, Note, Notes, Warn, ignore
+from mkcheck_tools.judge.remains import warn_of_remains
 from mkcheck_tools.replay.verdicts import ReplayVerdict, judge
 from mkcheck_tools.record.answering import status_of, tell, tell_of_update, write_answer
 from mkcheck_tools.record.building import Build, build_of, makefile_of, removes_on_error
@@ -184,7 +185,8 @@ def updating_of(
             if not os.path.exists(request.book) and not os.path.exists(path_of_state(request.book)):
                 tell(f"{request.output} {FIRST_TIME}")
             else:
-                tell(f"{state} {reason}: all recipes are recorded")
+                kept = "" if os.path.exists(state) else ", as after a recording by -o"
+                tell(f"{state} {reason}{kept}: all recipes are recorded")
     return updating
 
 
@@ -361,6 +363,7 @@ def result_of(build: Build, recorded: Recorded, verdict: ReplayVerdict, warn: Wa
     while footprints := [one for one in found if one.recipe.target not in failed]:
         try:
             text = formats.text_of(book_of(build, recorded, footprints, warn))
+            warn_of_remains(footprints, build.graph, warn)
             return Result(footprints, text, failures)
         except RecipeFault as fault:
             if not fault.targets:

@@ -387,7 +387,7 @@ def run(
             own.written.update(accesses.touched)
         done = tracer.run(command.words, Watch(links, looking=True), own)
         output += done.output
-        Follower(accesses, shop.place.seen).follow(done.calls)
+        Follower(accesses, shop.place.seen, ended=done.ended).follow(done.calls)
         with showing("" if accesses.makes else output):
             refuse_unseen(recipe, accesses, done.left, shop)
             refuse_forbidden(recipe, accesses, naming)

@@ -28,6 +28,9 @@ class Difference:
     kept: bool = False
     """Whether the replay left a file as it was that the recording wrote."""
 
+    twin: Name = Name("")
+    """An output of the recipe that is one file with it, if it is one that the recipe only reads."""
+
 
 @dataclass(frozen=True)
 class Comparison:
@@ -45,9 +48,8 @@ class Comparison:
             path = real_in(folder, name)
             if name in trial.before and trial.before[name] is version:
                 if laid[name] != stamp_of(path):
-                    yield Difference(
-                        name, f"{changed(path)} {name}, which it wasn't recorded to write"
-                    )
+                    what = f"{changed(path)} {name}, which it wasn't recorded to write"
+                    yield Difference(name, what, twin=twin_of(name, trial, folder))
                 continue
             found = version_of(path)
             if version is None and found is not None and found.kind == FOLDER:
@@ -97,6 +99,22 @@ class Comparison:
                 yield Difference(
                     name, f"doesn't make the folder {name}, as it did when it was recorded"
                 )
+
+
+def twin_of(name: Name, trial: Trial, folder: RealPath) -> Name:
+    """The output of a recipe that is one file with another one, by a hard link; empty if none."""
+    file = file_at(real_in(folder, name))
+    outputs = (one for one in trial.writes if one not in trial.before and file is not None)
+    return next((one for one in outputs if file_at(real_in(folder, one)) == file), Name(""))
+
+
+def file_at(path: RealPath) -> tuple[int, int] | None:
+    """Which file stands at a path itself, where something does."""
+    try:
+        status = os.lstat(path)
+    except OSError:
+        return None
+    return status.st_dev, status.st_ino
 
 
 def is_file(version: Version | None) -> bool:

@@ -16,7 +16,7 @@ from mkcheck_tools.replay.meetings import Turns
 from mkcheck_tools.replay.runs import BARE, Ahead, Outcome, Runner
 from mkcheck_tools.replay.stamps import with_other_stamps
 from mkcheck_tools.replay.worlds import Trial, World
-from mkcheck_tools.run import places
+from mkcheck_tools.run import stopping
 from mkcheck_tools.run.folders import remove
 from mkcheck_tools.run.memory import is_full
 from mkcheck_tools.run.paths import Name
@@ -107,7 +107,7 @@ class Halves:
         with self.slots, self.turns.turn(trial.recipe.target):
             for place in self.places_of(trial, number):
                 # Where the program ends, no more folders are laid.
-                places.pause(0)
+                stopping.go_on()
                 found = self.leaves_half(with_other_stamps(world, trial), place, folders)
                 if found is not None:
                     return found

@@ -39,6 +39,7 @@ from mkcheck_tools.replay.halves import Halves, size_of_target, watch
 from mkcheck_tools.replay.layouts import Layout
 from mkcheck_tools.replay.listings import Age, age_of, is_listed
 from mkcheck_tools.replay.meetings import Meetings, Turns
+from mkcheck_tools.replay.remains import others_remains
 from mkcheck_tools.replay.runs import (
     BARE,
     HANDED,
@@ -59,13 +60,14 @@ from mkcheck_tools.replay.surroundings import (
     FLAGS,
     FOLDERS,
     JOBS,
+    STALE,
     LISTING,
     Surroundings,
     all_others,
 )
 from mkcheck_tools.replay.versions import Version
 from mkcheck_tools.replay.worlds import GIVEN, Trial, World, stamps_of
-from mkcheck_tools.run import places
+from mkcheck_tools.run import places, stopping
 from mkcheck_tools.run.folders import remove
 from mkcheck_tools.run.memory import LACKS, NO_ROOM, Memory, is_full, memory
 from mkcheck_tools.run.paths import Name, RealPath, SeenPath, real_in, seen_in, unbound
@@ -75,9 +77,11 @@ from mkcheck_tools.trace.accesses import Accesses, Follower
 from mkcheck_tools.trace.trees import Tree
 
 # What most recipes go by that do something else amid other surroundings.
-LIKELY = (FLAGS, CLOCK, FOLDERS, EARLIER)
+LIKELY = (FLAGS, CLOCK, FOLDERS, EARLIER, STALE)
 # How many replays there are for each processor. Most wait for the clock, which takes none.
 WAITING = 4
+# Of at most this many other recipes each is tried alone, which left what a recipe uses.
+MOST_MAKERS = 8
 
 
 @dataclass(frozen=True)
@@ -305,7 +309,8 @@ class Replay:
             with self.turns.turn(trial.recipe.target):
                 tried = self.stamped(trial)
                 self.layout.furnish(tried, place.folder, frozenset())
-                return replace(outcome, met=self.beside(tried, place, late))
+                met = self.beside(tried, place, late)
+                return replace(outcome, met=replace(outcome.met, read=met.read, taken=met.taken))
         except Exception:
             # The whole replay tells what is wrong.
             return None
@@ -341,7 +346,7 @@ class Replay:
         """The same, where an error that nobody thought of costs this recipe alone."""
         try:
             # Where the program ends, no more folders are laid.
-            places.pause(0)
+            stopping.go_on()
             with self.turns.turn(trial.recipe.target):
                 return self.replay(trial, number, folders)
         except Exception as error:
@@ -358,7 +363,7 @@ class Replay:
             return found
         with contextlib.suppress(Exception), self.in_memory(trial, f"{number}.ahead") as place:
             # Where the program ends, no more folders are laid.
-            places.pause(0)
+            stopping.go_on()
             if place is not None:
                 try:
                     tried = self.stamped(trial)
@@ -516,12 +521,15 @@ class Replay:
                         outcome, more = self.glancing(trial, seen, place, folders, outcome)
                         seen = {**seen, **more}
                     tried = self.stamped(trial.with_reads(seen))
-                    met = Met(seen=frozenset(seen))
+                    met = Met(
+                        seen=frozenset(seen), clears=outcome.clears, stale=outcome.stale
+                    )
                     if outcome.passed and self.is_by_age(tried, place):
                         outcome = self.listed(tried, place, folders, outcome)
                     if late:
                         self.layout.furnish(tried, folder, folders)
-                        met = replace(self.beside(tried, place, late), seen=met.seen)
+                        beside = self.beside(tried, place, late)
+                        met = replace(met, read=beside.read, taken=beside.taken)
                         remove(folder)
                     outcome = replace(outcome, trial=trial, met=met)
                     if not outcome.passed or not self.failing:
@@ -572,23 +580,41 @@ class Replay:
         found = bench.tried(orders.OLD)
         if not found.passed:
             return found
+        found = replace(found, clears=outcome.clears)
         kind = next((one for one in LIKELY if bench.without(one, others).passed), None)
         if kind is not None:
-            return found_amid(found, {kind: self.with_missing(bench, outcome, others)})
+            return self.found_amid(bench, found, {kind: (outcome, others)})
         stamped = bench.tried(orders.OTHER)
         if not stamped.passed:
             ordered = stamped if bench.tried(orders.EARLIER).passed else bench.ordered()
             if not ordered.passed:
                 return replace(ordered, run=ORDERED)
-        shown: dict[str, Outcome] = {}
+        shown: dict[str, tuple[Outcome, Surroundings]] = {}
         for one in others:
             amid = Surroundings(frozenset({one}))
             outcome_amid = bench.tried(orders.OLD, amid)
             if not outcome_amid.passed:
-                shown[one] = self.with_missing(bench, outcome_amid, amid)
+                shown[one] = (outcome_amid, amid)
         if shown or not stamped.passed:
-            return found_amid(found, shown)
+            return self.found_amid(bench, found, shown)
         return replace(outcome, run=VARIED)
+
+    def found_amid(
+        self, bench: Bench, found: Outcome, shown: Mapping[str, tuple[Outcome, Surroundings]]
+    ) -> Outcome:
+        """The outcome of a recipe that passed, with what it does amid other surroundings. What make
+        hands down is no matter of the machine, so to go by that is a fault; and what other recipes
+        may have left is a matter of the two."""
+        own = {
+            kind: self.with_missing(bench, outcome, amid)
+            for kind, (outcome, amid) in shown.items()
+            if kind != STALE
+        }
+        if JOBS in own:
+            return replace(own[JOBS], run=HANDED)
+        if STALE in shown and not shown[STALE][0].failed:
+            found = replace(found, stale=bench.stale())
+        return replace(found, amid=own)
 
     def with_missing(self, bench: Bench, outcome: Outcome, amid: Surroundings) -> Outcome:
         """What a recipe did amid others; where it failed, with what it then looked for in vain and
@@ -831,18 +857,27 @@ class Bench:
             return Outcome(self.trial, VARIED, "it isn't amid these")
         return self.tried(orders.OTHER, Surroundings(others.others - {kind}))
 
+    def stale(self) -> frozenset[str]:
+        """The targets of the recipes that may have left what it would use; all of these, where they
+        are many, or no single one shows that."""
+        writers = self.runner.layout.writers
+        names = {*others_remains(self.trial, writers, None).values()}
+        makers = frozenset(target for name in names for target in writers[name])
+        if len(makers) > MOST_MAKERS:
+            return makers
+        found = frozenset(
+            maker
+            for maker in makers
+            if not self.tried(
+                orders.OLD, Surroundings(frozenset({STALE}), frozenset({maker}))
+            ).passed
+        )
+        return found or makers
+
     def ordered(self) -> Outcome:
         """Its runs with the stamps of made files alone in another order, since a recipe may store
         those of sources."""
         return self.tried(orders.OTHER_OF_MADE)
-
-
-def found_amid(outcome: Outcome, shown: Mapping[str, Outcome]) -> Outcome:
-    """The outcome of a recipe that passed, with what it does amid other surroundings. What make
-    hands down is no matter of the machine, so to go by that is a fault."""
-    if JOBS in shown:
-        return replace(shown[JOBS], run=HANDED)
-    return replace(outcome, amid=shown)
 
 
 def processors() -> int:

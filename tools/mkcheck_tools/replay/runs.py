@@ -4,7 +4,6 @@ from __future__ import annotations
 
 import contextlib
 import os
-import shutil
 import threading
 import time
 from collections.abc import Mapping, Sequence
@@ -15,17 +14,19 @@ from mkcheck_tools.faults import Fault
 from mkcheck_tools.judge.late import Met
 from mkcheck_tools.replay.differences import Comparison, Difference, is_file, only_touched
 from mkcheck_tools.replay.layouts import Layout, aged, damage
+from mkcheck_tools.replay.remains import others_remains, own_remains, with_alike
 from mkcheck_tools.replay.surroundings import (
     AS_RECORDED,
     CLOCK,
     EARLIER,
+    STALE,
     Surroundings,
     beside,
     clear,
 )
-from mkcheck_tools.replay.versions import Version, version_of
-from mkcheck_tools.replay.worlds import Trial, above, entries, stamp_of, stamps_of
-from mkcheck_tools.run import places
+from mkcheck_tools.replay.versions import Version, copy_bytes, version_of
+from mkcheck_tools.replay.worlds import Trial, entries, stamp_of, stamps_of
+from mkcheck_tools.run import places, stopping
 from mkcheck_tools.run.folders import remove
 from mkcheck_tools.run.memory import LACKS
 from mkcheck_tools.run.paths import Name, RealPath, real_in, seen_in
@@ -96,6 +97,12 @@ class Outcome:
 
     amid: Mapping[str, Outcome] = field(default_factory=dict)
     """By the kind of other surroundings what it did amid these, where that is something else."""
+
+    clears: frozenset[Name] = frozenset()
+    """The files that it writes and before which it takes away others that are like them."""
+
+    stale: frozenset[str] = frozenset()
+    """The targets of other recipes whose files it uses that these may have left before an edit."""
 
     broken: str = ""
     """Why it couldn't be replayed."""
@@ -183,6 +190,7 @@ class Runner:
         found = self.again(trial, place, laid, outputs, amid)
         if not found.passed:
             return found
+        outcome = replace(outcome, clears=found.clears)
         damaged = [name for name in outputs if is_file(trial.after[name])]
         if not damaged:
             return outcome
@@ -300,10 +308,11 @@ class Runner:
         amid: Surroundings,
     ) -> Outcome:
         """A run where outputs were laid, amid other surroundings."""
-        if EARLIER in amid:
-            for name, other in left_earlier(trial).items():
-                with contextlib.suppress(OSError):
-                    shutil.copy(real_in(place.folder, name), real_in(place.folder, other))
+        for name, like in self.remains(trial, amid).items():
+            path = real_in(place.folder, name)
+            with contextlib.suppress(OSError):
+                copy_bytes(real_in(place.folder, like), path)
+                os.chmod(path, os.lstat(real_in(place.folder, like)).st_mode & 0o7777)
         self.layout.close(trial, place.folder)
         amid.name_again(place.folder, [name for name in laid if laid[name]])
         amid.touch_folders(place.folder)
@@ -322,14 +331,29 @@ class Runner:
     ) -> Outcome:
         """One run of a recipe in a folder that is ready for it."""
         failed = self.run_commands(trial, place, amid=amid)
-        for name in left_earlier(trial).values() if EARLIER in amid else ():
-            with contextlib.suppress(OSError):
+        cleared = set()
+        for name, like in self.remains(trial, amid).items():
+            try:
                 os.unlink(real_in(place.folder, name))
+            except FileNotFoundError:
+                cleared.add(like)
+            except OSError:
+                continue
+        clears = with_alike(cleared, trial.writes)
         if failed:
-            return Outcome(trial, run, failed)
-        return Outcome(
-            trial, run, "", tuple(self.comparison.differences(trial, place.folder, laid))
-        )
+            return Outcome(trial, run, failed, clears=clears)
+        found = tuple(self.comparison.differences(trial, place.folder, laid))
+        return Outcome(trial, run, "", found, clears=clears)
+
+    def remains(self, trial: Trial, amid: Surroundings) -> dict[Name, Name]:
+        """What it and other recipes may have left before an edit, where that is laid amid others,
+        each with the file of which it is a copy."""
+        found: dict[Name, Name] = {}
+        if STALE in amid:
+            found.update(others_remains(trial, self.layout.writers, amid.makers))
+        if EARLIER in amid:
+            found.update(own_remains(trial))
+        return found
 
     def leaves_half(self, trial: Trial, place: Place) -> bool | None:
         """Whether a recipe leaves its target, which wasn't there, with other contents than whole
@@ -388,25 +412,10 @@ class Runner:
         return ""
 
 
-def left_earlier(trial: Trial) -> dict[Name, Name]:
-    """The files that a recipe writes besides its target in folders whose names it reads, each with
-    the name of one more that it may have left there before an edit. Patterns that match the begin
-    or the end of the one name match that of the other."""
-    listed = {Name("" if folder == "." else folder) for folder in trial.listed}
-    found: dict[Name, Name] = {}
-    for name in trial.writes:
-        is_other = name != trial.recipe.target and name not in trial.caches
-        if is_other and is_file(trial.after.get(name)) and above(name) in listed:
-            other = Name(f"{name}.left{os.path.splitext(name)[1]}")
-            if other not in trial.known and other not in trial.after:
-                found[name] = other
-    return found
-
-
 def wait_for_clock(trial: Trial) -> None:
     """Waits until the clock shows another second than when the recipe ended."""
     while (left := seconds_left(trial)) > 0:
-        places.pause(left)
+        stopping.pause(left)
 
 
 def seconds_left(trial: Trial) -> float:

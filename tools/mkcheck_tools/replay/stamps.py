@@ -17,7 +17,7 @@ from dataclasses import replace
 
 from mkcheck_tools.replay.versions import FILE, Version
 from mkcheck_tools.replay.worlds import GIVEN, Trial, World
-from mkcheck_tools.run import places
+from mkcheck_tools.run import stopping
 from mkcheck_tools.run.folders import is_own
 from mkcheck_tools.run.paths import Name, real_in
 
@@ -63,7 +63,7 @@ def with_other_stamps(world: World, trial: Trial, later_ones: bool = False) -> T
         if not any(first - LEAST <= stamp <= last for stamp in around):
             return moved(trial, made, -LEAST)
     while (later := latest() - last) < LEAST:
-        places.pause((LEAST - later) / SECOND)
+        stopping.pause((LEAST - later) / SECOND)
     if any(first <= stamp <= last + later for stamp in others):
         return trial
     return moved(trial, made, later)

@@ -1,6 +1,6 @@
 """What a recipe finds besides its files when it runs again: shell options, variables that make
 sets, the time, standard input, a terminal, stamps of folders, second names of the files that it
-reads, and files that it may have left before an edit.
+reads, and files that it or another one may have left before an edit.
 
 The recording has one of each. Where the outputs are there already, the recipe runs amid all others
 at once, which takes no run of its own. Where that run shows something, each is tried alone.
@@ -24,8 +24,8 @@ from mkcheck_tools.run.terminals import Terminal, has_terminals, terminal
 
 FLAGS, JOBS, CLOCK, INPUT = "flags", "jobs", "clock", "input"
 NAMES, FOLDERS, TERMINAL = "names", "folders", "terminal"
-# A file that the recipe may have left before an edit of what it is made from.
-EARLIER = "earlier"
+# A file that the recipe, or another one, may have left before an edit of what it is made from.
+EARLIER, STALE = "earlier", "stale"
 # A run of its own: folders list their names the other way round.
 LISTING = "listing"
 # What GNU make 4 gives to recipes where it has two jobs.
@@ -49,9 +49,11 @@ CLOSE = 3600
 
 @dataclass(frozen=True)
 class Surroundings:
-    """What a run has other than the recording: kinds of those above."""
+    """What a run has other than the recording: kinds of those above. `makers` are the targets whose
+    recipes left something before an edit; None for all."""
 
     others: frozenset[str] = frozenset()
+    makers: frozenset[str] | None = None
 
     def __contains__(self, kind: str) -> bool:
         return kind in self.others
@@ -157,7 +159,7 @@ def clear(process: int) -> None:
 def all_others(strict: bool, bound: bool) -> Surroundings:
     """All other surroundings that there can be. Under `.POSIX` make starts shells by `-e` in any
     case. Where the folder of a run isn't `bound`, nothing may be beside it."""
-    found = {JOBS, INPUT, FOLDERS, EARLIER}
+    found = {JOBS, INPUT, FOLDERS, EARLIER, STALE}
     if not strict:
         found.add(FLAGS)
     if bound:

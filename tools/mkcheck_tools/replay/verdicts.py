@@ -128,6 +128,11 @@ KEPT = (
     " test -nt do. A recipe that reads what it is made from, and learns of a change by it alone,"
     " then isn't run, so that change is lost"
 )
+TWIN = (
+    "the two are one file there, by a hard link (ln), so what the recipe writes to {} it writes to"
+    " {}, too"
+)
+TWIN_CURE = "Let it make a copy in place of the link (cp)"
 KEPT_CURE = "Let the recipe write all its outputs each time, or split it as shown here"
 MODULES = "and then only looks at their texts"
 LOCKED = "it locks that file, and makes it only where there is none"
@@ -212,19 +217,21 @@ def judge(
             elif outcome.warning:
                 verdict.notes.append(note_of_stop(outcome, DAMAGED, outcome.warning))
             if outcome.passed:
-                verdict.notes += notes_amid(outcome)
+                verdict.notes += notes_amid(outcome, once)
         except Exception as error:
             verdict.failures.append(failure_of(error, target))
     return verdict
 
 
-def notes_amid(outcome: Outcome) -> Iterator[Note]:
+def notes_amid(outcome: Outcome, once: frozenset[str]) -> Iterator[Note]:
     """What is to be known of a recipe that passed, and does something else amid other surroundings.
     A failure is seen, so that counts where another make has these alone, or where it may be for a
-    file that the recipe isn't recorded to read."""
+    file that the recipe isn't recorded to read. One that no make makes again left nothing."""
     target = outcome.trial.recipe.target
     for kind, other in outcome.amid.items():
         if other.failed and kind != FLAGS and not other.missing:
+            continue
+        if kind == EARLIER and target in once:
             continue
         noted, where, cure = AMID[kind]
         noted = Kind.ENDS_EARLY if other.failed and not other.missing else noted
@@ -250,7 +257,10 @@ def complaint(outcome: Outcome, makers: Mapping[Name, list[str]]) -> str:
         return f"the recipe of {target} can't be replayed: {outcome.broken}"
     meaning, cure = MEANINGS[outcome.run], CURES[outcome.run]
     kept = outcome.differences[0].name if is_kept(outcome) else ""
-    if outcome.stamps:
+    twin = next((one for one in outcome.differences if one.twin), None)
+    if twin is not None:
+        meaning, cure = TWIN.format(twin.twin, twin.name), TWIN_CURE
+    elif outcome.stamps:
         meaning, cure = STAMPS, STAMPS_CURE
     elif outcome.missing:
         verb = "was" if len(outcome.missing) == 1 else "were"

@@ -10,6 +10,7 @@ import time
 from dataclasses import dataclass, field
 
 from mkcheck_tools.faults import Fault
+from mkcheck_tools.run import stopping
 from mkcheck_tools.run.paths import RealPath, real_in
 
 FILE = "file"
@@ -113,6 +114,7 @@ def digest_of_bytes(path: RealPath) -> str:
     with open(path, "rb", buffering=0) as file:
         while chunk := file.read(CHUNK):
             digest.update(chunk)
+            stopping.go_on()
     return digest.hexdigest()
 
 
@@ -121,12 +123,13 @@ def copy_bytes(source: RealPath, goal: RealPath) -> None:
     with open(source, "rb", buffering=0) as old, open(goal, "xb", buffering=0) as new:
         try:
             while os.copy_file_range(old.fileno(), new.fileno(), CHUNK):
-                pass
+                stopping.go_on()
         except (AttributeError, OSError):
             new.seek(0)
             new.truncate()
             old.seek(0)
             while chunk := old.read(CHUNK):
+                stopping.go_on()
                 written = 0
                 while written < len(chunk):
                     written += new.write(chunk[written:])

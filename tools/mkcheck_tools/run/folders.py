@@ -45,6 +45,8 @@ CLONE = 0x40049409
 # How often a scratch folder is removed that comes again, and how long to wait between.
 TRIES = 20
 MOMENT = 0.05
+# How long a program that a signal ends waits for that.
+SECONDS_TO_REMOVE = 1.0
 PIECE = 1 << 20
 
 
@@ -346,18 +348,46 @@ def scratch_folder(project: RealPath) -> Iterator[RealPath]:
 
 @contextlib.contextmanager
 def temporary_folder(above: str | None = None) -> Iterator[str]:
-    """A new folder, gone at the end, also where a signal comes while it is made or removed."""
+    """A new folder, gone at the end, also where a signal comes while it is made or removed. Where
+    there is much in it, a program that a signal ends doesn't wait until it is gone."""
     made: list[str] = []
+    removing = remove_all
     try:
         with stopping.held():
             made.append(tempfile.mkdtemp(prefix="mkcheck-record-", dir=above))
         yield made[0]
+    except stopping.Stopped:
+        removing = remove_behind
+        raise
     finally:
         try:
-            remove_all(made)
+            removing(made)
+        except stopping.Stopped:
+            # A signal has cut that short, and a second one does nothing.
+            remove_behind(made)
+            raise
+
+
+def remove_behind(folders: list[str]) -> None:
+    """Takes folders away in a process of its own, and waits for that no longer than a moment."""
+    try:
+        child = os.fork()
+    except OSError:
+        remove_all(folders)
+        return
+    if child == 0:
+        try:
+            os.setsid()
+            nothing = os.open(os.devnull, os.O_RDWR)
+            for number in range(3):
+                os.dup2(nothing, number)
+            os.closerange(3, os.sysconf("SC_OPEN_MAX"))
+            remove_all(folders)
         finally:
-            # A signal may have cut that short, and a second one does nothing.
-            remove_all(made)
+            os._exit(0)
+    until = time.monotonic() + SECONDS_TO_REMOVE
+    while os.waitpid(child, os.WNOHANG)[0] == 0 and time.monotonic() < until:
+        time.sleep(MOMENT)
 
 
 def remove_all(folders: list[str]) -> None:

@@ -53,8 +53,6 @@ WAKING = 200
 
 _running: dict[int, None] = {}
 _lock = threading.Lock()
-# Set when the program ends.
-_ending = threading.Event()
 
 
 def mounter() -> str:
@@ -315,7 +313,7 @@ def started(
     process = None
     try:
         with stopping.held(), _lock:
-            if _ending.is_set():
+            if stopping.is_ending():
                 raise Fault("the program ends, so no command is started")
             process = subprocess.Popen(
                 words,
@@ -368,13 +366,7 @@ def kill_group(leader: int) -> None:
 def end_all() -> None:
     """Kills the groups of all commands that run, for a program that ends before they do. From then
     on none is started."""
-    _ending.set()
+    stopping.end_threads()
     with _lock:
         for leader in _running:
             kill_group(leader)
-
-
-def pause(seconds: float) -> None:
-    """Waits for a time, unless the program ends, which is a fault."""
-    if _ending.wait(seconds):
-        raise Fault("the program ends, so nothing is waited for")

@@ -8,11 +8,15 @@ import threading
 from collections.abc import Iterator
 from types import FrameType
 
+from mkcheck_tools.faults import Fault
+
 SIGNALS = (signal.SIGINT, signal.SIGTERM, signal.SIGHUP)
 
 # How often the end is put off now, and the signals that came meanwhile.
 _held: list[None] = []
 _came: list[int] = []
+# Set when the program ends before its work is done: threads have to end then.
+_ending = threading.Event()
 
 
 class Stopped(BaseException):
@@ -47,6 +51,29 @@ def stop(number: int, _frame: FrameType | None) -> None:
     if not _held:
         raise Stopped(number)
     _came.append(number)
+
+
+def end_threads() -> None:
+    """From now on `pause` and `go_on` are faults."""
+    _ending.set()
+
+
+def is_ending() -> bool:
+    """Whether the program ends before its work is done."""
+    return _ending.is_set()
+
+
+def go_on() -> None:
+    """A fault where the program ends: to be asked in long work, since a signal raises in the main
+    thread alone."""
+    if is_ending():
+        raise Fault("the program ends, so nothing goes on")
+
+
+def pause(seconds: float) -> None:
+    """Waits for a time, unless the program ends, which is a fault."""
+    if _ending.wait(seconds):
+        raise Fault("the program ends, so nothing is waited for")
 
 
 @contextlib.contextmanager

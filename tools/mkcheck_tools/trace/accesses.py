@@ -4,9 +4,10 @@ from __future__ import annotations
 
 import os
 import re
-from collections.abc import Iterable
+from collections.abc import Iterable, Mapping
 from dataclasses import dataclass, field
 
+from mkcheck_tools.run import stopping
 from mkcheck_tools.run.paths import SeenPath, seen_in
 from mkcheck_tools.trace.calls import (
     CONNECTIONS,
@@ -152,6 +153,9 @@ class Accesses:
 
     assemblers: dict[SeenPath, int] = field(default_factory=dict)
     """The process of that assembler, by the file."""
+
+    beside: dict[SeenPath, None] = field(default_factory=dict)
+    """Files that two processes opened to write them of which neither waited for the other's end."""
 
     asking: dict[SeenPath, set[int]] = field(default_factory=dict)
     """By the path of a file of the project the processes that opened it or looked at it, but for
@@ -344,9 +348,22 @@ class Follower:
     writers: dict[SeenPath, int | None] = field(default_factory=dict)
     """The process that opened a file to write it; None where others may write to it, too."""
 
+    ended: Mapping[int, int] = field(default_factory=dict)
+    """For each process its end, among the orders of the calls."""
+
+    begun: dict[int, int] = field(default_factory=dict)
+    """The same of their beginnings."""
+
+    leaders: dict[int, int] = field(default_factory=dict)
+    """The process of each of its further threads."""
+
+    opening: dict[SeenPath, dict[int, int]] = field(default_factory=dict)
+    """The processes that opened a file to write it, each with its last call that did so."""
+
     def follow(self, calls: Iterable[Call]) -> None:
         """Takes the calls, in their order."""
         for call in calls:
+            stopping.go_on()
             if call.name in FORKS:
                 self.fork(call)
                 continue
@@ -363,6 +380,7 @@ class Follower:
             if taken is not None:
                 taken(call)
         self.note_assembled()
+        self.note_beside()
         for process, maker in self.makers.items():
             read = self.makefiles.get(process, ())
             works = bool(read) or process in self.starters
@@ -382,6 +400,36 @@ class Follower:
                     above = self.parents.get(above)
                 self.accesses.assembled[path] = (program, *found)
                 self.accesses.assemblers[path] = process or 0
+
+    def note_beside(self) -> None:
+        """Notes the files that processes wrote side by side."""
+        for path, processes in self.opening.items():
+            pairs = zip(processes.items(), [*processes.items()][1:])
+            if path in self.accesses.writes and any(self.are_beside(*pair) for pair in pairs):
+                self.accesses.beside.setdefault(path)
+
+    def are_beside(self, one: tuple[int, int], other: tuple[int, int]) -> bool:
+        """Whether two processes wrote side by side. Of those that started them and have a parent in
+        common, each began before the other ended; or the one started the other, and opened the file
+        while that went on."""
+        first, second = self.line_of(one[0]), self.line_of(other[0])
+        front, behind = (
+            next((process for process in reversed(line) if process not in others), 0)
+            for line, others in ((first, second), (second, first))
+        )
+        if not front or not behind:
+            opened, child = (other[1], front) if front else (one[1], behind)
+            return self.begun.get(child, 0) < opened < self.ended.get(child, 0)
+        is_later = self.begun.get(behind, 0) > self.ended.get(front, 0)
+        return not is_later and self.begun.get(front, 0) <= self.ended.get(behind, 0)
+
+    def line_of(self, process: int) -> list[int]:
+        """A process, the one by which it was started, and so on."""
+        found = [process]
+        while found[-1] in self.parents and len(found) <= len(self.parents):
+            parent = self.parents[found[-1]]
+            found.append(self.leaders.get(parent, parent))
+        return found
 
     def opened_to_write(self, path: SeenPath, process: int) -> None:
         """A process opens a file to write it."""
@@ -453,6 +501,9 @@ class Follower:
         if call.process in self.makers:
             self.starters.add(call.process)
         self.parents[call.number] = call.process
+        self.begun[call.number] = call.order
+        if any("CLONE_THREAD" in argument for argument in call.arguments):
+            self.leaders[call.number] = self.leaders.get(call.process, call.process)
         self.hand_on(call.process)
         if call.process in self.running:
             self.running.setdefault(call.number, self.running[call.process])
@@ -558,6 +609,8 @@ class Follower:
             self.accesses.read(real)
         if written or new:
             self.opened_to_write(real, call.process)
+            leader = self.leaders.get(call.process, call.process)
+            self.opening.setdefault(real, {})[leader] = call.order
             self.accesses.write(real)
 
     def on_getdents(self, call: Call) -> None:

@@ -17,7 +17,7 @@ from dataclasses import dataclass, field
 from pathlib import Path
 
 from mkcheck_tools.faults import Fault
-from mkcheck_tools.run import places
+from mkcheck_tools.run import places, stopping
 from mkcheck_tools.run.paths import SeenPath
 from mkcheck_tools.run.places import Place
 from mkcheck_tools.trace.calls import (
@@ -76,6 +76,8 @@ class Done:
     output: str
     status: int
     left: tuple[str, ...] = ()
+    ended: Mapping[int, int] = field(default_factory=dict)
+    """For each process its end, among the orders of the calls."""
 
 
 @dataclass(frozen=True)
@@ -299,7 +301,7 @@ def ended(listener: Listener, output: str, status: int) -> Done:
     names = dict.fromkeys(
         trace.programs.get(process, "a process") for process in sorted(listener.left)
     )
-    return Done(trace.calls(), output, status, tuple(names))
+    return Done(trace.calls(), output, status, tuple(names), trace.ended)
 
 
 def read_trace(path: Path, looking: bool = False) -> list[Call]:
@@ -307,6 +309,7 @@ def read_trace(path: Path, looking: bool = False) -> list[Call]:
     trace = Trace(looking)
     with path.open(encoding="utf-8", errors="surrogateescape", newline="\n") as lines:
         for line in lines:
+            stopping.go_on()
             trace.feed(line.rstrip("\n"))
     if not trace.is_whole():
         raise Fault(
