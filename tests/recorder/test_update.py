@@ -446,7 +446,7 @@ class StateTest(UpdateTest):
 
     def test_gone(self) -> None:
         self.state.unlink()
-        self.assertEqual(self.all_again(), "isn't there")
+        self.assertEqual(self.all_again(), "isn't there, as after a recording by -o")
 
     def test_footprints_that_were_changed_or_are_gone(self) -> None:
         """The state has all that stands in them."""
