@@ -12,8 +12,8 @@ from mkcheck_tools.imports.telling import ASKED
 Item = TypeVar("Item")
 # Why some weren't asked.
 TOO_LONG = ", since that took as long as some builds"
-# How many times as long as the build itself all of them may take together, and so many seconds of
-# the processor they may take in any case.
+# All of them together may take this many times the processor time of the build, and these seconds
+# in any case.
 BUILDS_AT_MOST = 3
 SECONDS_IN_ANY_CASE = 60.0
 
@@ -34,7 +34,7 @@ class Questions:
         return f"[{ASKED} {self.asked}/{self.known if self.asked <= self.known else 0}]"
 
     def begin(self, seconds: float) -> None:
-        """From now on questions are asked, after a build that took so many seconds of the
+        """From now on questions are asked, after a build that took these seconds of the
         processor."""
         self.limit = processor_time() + max(SECONDS_IN_ANY_CASE, BUILDS_AT_MOST * seconds)
 
