@@ -158,6 +158,21 @@ class ProjectTest(unittest.TestCase):
         self.assertEqual((outcome.status, outcome.output), (0, ""), outcome.errors)
         return outcome
 
+    def made_in(self, folder: Path, make: str, *words: str) -> dict[str, bytes]:
+        """What stands in a folder after a make of it, which has to succeed."""
+        given = {**os.environ, **OF_MAKE}
+        done = subprocess.run(
+            [make, *words],
+            cwd=folder,
+            env={name: value for name, value in given.items() if value is not None},
+            stdout=subprocess.PIPE,
+            stderr=subprocess.STDOUT,
+            text=True,
+            check=False,
+        )
+        self.assertEqual(done.returncode, 0, done.stdout)
+        return {path.name: path.read_bytes() for path in folder.iterdir()}
+
     def check(self, *words: str) -> list[str]:
         """The lines of `mkcheck check` over what was recorded."""
         done = subprocess.run(

@@ -8,7 +8,7 @@ import subprocess
 import unittest
 from pathlib import Path
 
-from recorder.project import MKCHECK, OF_MAKE, ProjectTest, compiled, traced
+from recorder.project import MKCHECK, ProjectTest, compiled, traced
 
 makes = [name for name in ("make", "bmake") if shutil.which(name)]
 
@@ -47,21 +47,6 @@ class AddedTest(ProjectTest):
         for name, text in files.items():
             (folder / name).write_text(text)
 
-    def made(self, make: str, folder: Path, *words: str) -> dict[str, bytes]:
-        """What a make leaves in a folder."""
-        given = {**os.environ, **OF_MAKE}
-        done = subprocess.run(
-            [make, *words],
-            cwd=folder,
-            env={key: value for key, value in given.items() if value is not None},
-            stdout=subprocess.PIPE,
-            stderr=subprocess.STDOUT,
-            text=True,
-            check=False,
-        )
-        self.assertEqual(done.returncode, 0, done.stdout)
-        return {path.name: path.read_bytes() for path in folder.iterdir()}
-
     def lines(self) -> str:
         """The lines that `mkcheck repair` prints."""
         done = subprocess.run(
@@ -87,18 +72,18 @@ class AddedTest(ProjectTest):
                 folder.mkdir()
                 texts = {"makefile": MAKEFILE, **SOURCES}
                 self.edited(folder, texts)
-                left = self.made(make, folder)
+                left = self.made_in(folder, make)
                 for edit in EDITS:
                     texts.update(edit)
                     self.edited(folder, edit)
-                    left = self.made(make, folder)
+                    left = self.made_in(folder, make)
                 texts["makefile"] = MAKEFILE + lines
                 clean = self.scratch / f"clean-{make}"
                 clean.mkdir()
                 self.edited(clean, texts)
-                right = self.made(make, clean)
+                right = self.made_in(clean, make)
                 # The makefile as it was left stale files.
                 self.assertNotEqual(left["main.o"], right["main.o"])
                 self.assertNotEqual(left["util.o"], right["util.o"])
                 self.edited(folder, {"makefile": MAKEFILE + lines})
-                self.assertEqual(self.made(make, folder, "-j4"), right)
+                self.assertEqual(self.made_in(folder, make, "-j4"), right)

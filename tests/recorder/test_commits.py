@@ -11,7 +11,7 @@ from collections.abc import Sequence
 from dataclasses import dataclass
 from pathlib import Path
 
-from recorder.project import MKCHECK, OF_MAKE, ProjectTest, compiled, traced
+from recorder.project import MKCHECK, ProjectTest, compiled, traced
 
 makes = [name for name in ("make", "bmake") if shutil.which(name)]
 
@@ -164,18 +164,7 @@ class CommitsTest(ProjectTest):
 
     def made(self, folder: Path, make: str, *words: str) -> dict[str, bytes]:
         """The outputs that a make leaves in a folder."""
-        given = {**os.environ, **OF_MAKE}
-        done = subprocess.run(
-            [make, *words],
-            cwd=folder,
-            env={key: value for key, value in given.items() if value is not None},
-            stdout=subprocess.PIPE,
-            stderr=subprocess.STDOUT,
-            text=True,
-            check=False,
-        )
-        self.assertEqual(done.returncode, 0, done.stdout)
-        outputs = {path.name: path.read_bytes() for path in folder.iterdir()}
+        outputs = self.made_in(folder, make, *words)
         return {name: text for name, text in outputs.items() if name not in self.texts}
 
     def clean(self, commit: int) -> dict[str, bytes]:
