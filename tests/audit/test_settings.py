@@ -11,6 +11,7 @@ from audit.project import POSIX, SOURCES, Project, can_record
 from mkcheck_tools.audit.accepting import Accepted, fitted
 from mkcheck_tools.audit.asking import words_over
 from mkcheck_tools.audit.baselines import read_baseline, write_baseline
+from mkcheck_tools.audit.environments import environments_in
 from mkcheck_tools.audit.settings import Settings, settings_in
 from mkcheck_tools.audit.verdicts import Finding, Mend, Spot, number_accepted, number_of
 from mkcheck_tools.faults import Fault
@@ -167,3 +168,63 @@ def test_a_baseline_is_written_once_and_never_in_a_job(project: Project) -> None
     assert "    accepted: part.o part.h\n" in outcome.output
     assert "    add: part.o: other.h\n" in outcome.output
     assert "no: 1 finding, 2 accepted, with 1 doubt" in outcome.output
+
+
+@can_record
+def test_options_add_to_the_settings(
+    project: Project, tmp_path_factory: pytest.TempPathFactory
+) -> None:
+    other = tmp_path_factory.mktemp("other")
+    (other / "part.h").write_text("int part(void);\n")
+    main = f'#include "{other}/part.h"\nint main(void) {{ return part(); }}\n'
+    project.write({"makefile": "main.o: main.c\n\tcc -c main.c\n", "main.c": main})
+    refused = project.audit()
+    assert refused.status != 0
+    assert "give --fixed" in refused.output + refused.errors
+    outcome = project.audit("--fixed", f"{other}/")
+    assert outcome.status == 0
+    assert outcome.output.splitlines()[-2].startswith("yes")
+
+
+MARKED = {".venv/pyvenv.cfg": "home = /usr/bin\n", ".venv/lib/table": "1\n", "a": "a\n"}
+PRESUMED = "    .venv/ is an environment of Python: it counts as files that never change"
+
+
+@can_record
+def test_an_environment_of_python_is_fixed(project: Project) -> None:
+    project.write({"makefile": "out: a\n\tcat a .venv/lib/table > out\n", **MARKED})
+    outcome = project.audit()
+    assert outcome.status == 0
+    lines = outcome.output.splitlines()
+    assert lines[lines.index("To know:") + 1] == PRESUMED
+    assert lines[-2].startswith("yes") and lines[-2].endswith("(1 of 1 recipe judged)")
+
+
+@can_record
+def test_an_environment_that_the_makefile_makes_is_not(project: Project) -> None:
+    makefile = "out: a\n\tcat a .venv/lib/table > out\nsetup:\n\tpython3 -m venv .venv\n"
+    project.write({"makefile": makefile, **MARKED})
+    outcome = project.audit()
+    assert outcome.status == 1
+    assert PRESUMED not in outcome.output
+    assert "    add: out: .venv/lib/table\n" in outcome.output
+
+
+def test_folders_of_package_managers_are_found(tmp_path: Path) -> None:
+    for name in (
+        "node_modules/.package-lock.json",
+        "web/node_modules/.yarn-integrity",
+        "tools/env/pyvenv.cfg",
+        "tools/env/inner/pyvenv.cfg",
+        "one/two/three/pyvenv.cfg",
+        "a b/pyvenv.cfg",
+        "conda/conda-meta/history",
+    ):
+        (tmp_path / name).parent.mkdir(parents=True, exist_ok=True)
+        (tmp_path / name).write_text("")
+    found = ["conda/", "node_modules/", "tools/env/", "web/node_modules/"]
+    assert [one.prefix for one in environments_in(str(tmp_path))] == found
+    (tmp_path / "Makefile").write_text("node_modules: package.json\n\tnpm ci\n")
+    assert [one.prefix for one in environments_in(str(tmp_path))] == [found[0], *found[2:]]
+    (tmp_path / "web" / "rules.mk").write_text("all:\n\tyarn install\n")
+    assert [one.prefix for one in environments_in(str(tmp_path))] == [found[0], found[2]]

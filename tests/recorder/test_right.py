@@ -357,6 +357,59 @@ class KeptTest(RightTest):
 
 @traced
 @namespaces
+class InstalledTest(RightTest):
+    """Recipes that run programs which a user installed for himself."""
+
+    def setUp(self) -> None:
+        super().setUp()
+        self.home = self.scratch / "home"
+        program = self.home / ".nvm" / "bin" / "upper"
+        program.parent.mkdir(parents=True)
+        program.write_text("#!/bin/sh\ntr a-z A-Z\ncat ${0%/*}/../table\n")
+        program.chmod(0o755)
+        (self.home / ".nvm" / "table").write_text("table\n")
+        self.write({"makefile": "out: a\n\tupper < a > out\n", "a": "one\n"})
+        path = f"{program.parent}:{os.environ['PATH']}"
+        self.environment = {"HOME": str(self.home), "PATH": path}
+
+    def fixed_of(self, outcome: Outcome) -> list[str]:
+        """The fixed prefixes of what was recorded."""
+        assert outcome.book is not None
+        fixed: list[str] = outcome.book["fixed"]
+        return fixed
+
+    def test_a_manager_of_the_user_is_fixed(self) -> None:
+        outcome = self.recorded(environment=self.environment)
+        self.assertEqual(outcome.warnings(), [])
+        self.assertIn(f"{self.home}/.nvm/", self.fixed_of(outcome))
+        self.assertIn(f"{self.home}/.nvm/table", outcome.reads("out"))
+
+    def test_what_else_is_at_home_is_not(self) -> None:
+        os.rename(self.home / ".nvm", self.home / "own")
+        path = f"{self.home}/own/bin:{os.environ['PATH']}"
+        outcome = self.record(environment={**self.environment, "PATH": path})
+        self.assertEqual(outcome.status, 1)
+        self.assertIn("give --fixed ../home/own/ where they never change", outcome.errors)
+
+    def test_a_variable_names_an_environment(self) -> None:
+        os.rename(self.home / ".nvm", self.home / "own")
+        path = f"{self.home}/own/bin:{os.environ['PATH']}"
+        named = {"PATH": path, "VIRTUAL_ENV": f"{self.home}/own"}
+        outcome = self.recorded(environment={**self.environment, **named})
+        self.assertIn(f"{self.home}/own/", self.fixed_of(outcome))
+
+    def test_a_folder_that_holds_the_project_is_not(self) -> None:
+        """A variable that names a folder above the project makes nothing fixed."""
+        named = {**self.environment, "VIRTUAL_ENV": str(self.scratch), "PATH": os.environ["PATH"]}
+        self.write({"makefile": "out: a\n\tcat a ../other > out\n"})
+        (self.folder.parent / "other").write_text("other\n")
+        outcome = self.record(environment=named)
+        self.assertEqual(outcome.status, 1)
+        self.assertIn("reads files above the folder", outcome.errors)
+
+
+@traced
+@namespaces
 @unittest.skipUnless(shutil.which("git"), "no git")
 class GitTest(RightTest):
     """Recipes that ask git, with the configuration of the user's home."""

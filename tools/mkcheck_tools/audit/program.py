@@ -24,6 +24,7 @@ from mkcheck_tools.audit.asking import (
     words_over,
 )
 from mkcheck_tools.audit.baselines import read_baseline, write_baseline
+from mkcheck_tools.audit.environments import environments_in
 from mkcheck_tools.audit.freshness import Unknown, changed_since, sentence_of
 from mkcheck_tools.audit.importing import answer_before, audit_of_build
 from mkcheck_tools.audit.makefile_lines import Sources
@@ -72,6 +73,20 @@ def words_of(arguments: list[str]) -> argparse.Namespace:
         metavar="FILE",
         help="take the findings in FILE as accepted; where it isn't there, write those of today",
     )
+    add(
+        "--fixed",
+        metavar="PREFIX",
+        action="append",
+        default=[],
+        help="what lies under PREFIX never changes, as a compiler's files",
+    )
+    add(
+        "--trust",
+        metavar="TARGET",
+        action="append",
+        default=[],
+        help="take the recipe of TARGET as it is, whatever running it again shows",
+    )
     add("--allow-unjudged", action="store_true", help="status 0 also where not all was judged")
     add(
         "--format",
@@ -110,8 +125,8 @@ def asked_by(words: argparse.Namespace) -> Asked:
         words.f,
         words.reader,
         words_over(words.words, settings),
-        settings.fixed,
-        settings.trust,
+        (*settings.fixed, *words.fixed, *(one.prefix for one in environments_in(root))),
+        (*settings.trust, *words.trust),
         settings.jobs,
         not words.no_replay,
         not words.no_record,
@@ -216,9 +231,13 @@ def fix(asked: Asked, judgement: Judgement, begun: int) -> None:
 def audited_by(asked: Asked, reader: Reader) -> Audited:
     """The audit by the reader that was picked."""
     if not asked.record:
-        return audited_before(asked, reader)
-    audit = audit_of_makefile if reader.kind == POSIX else audit_of_build
-    return audit(asked, reader)
+        audited = audited_before(asked, reader)
+    elif reader.kind == POSIX:
+        audited = audit_of_makefile(asked, reader)
+    else:
+        audited = audit_of_build(asked, reader)
+    presumed = (one.sentence for one in environments_in(asked.root))
+    return replace(audited, remarks=(*audited.remarks, *presumed))
 
 
 def audited_before(asked: Asked, reader: Reader) -> Audited:

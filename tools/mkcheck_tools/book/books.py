@@ -12,7 +12,8 @@ from mkcheck_tools.judge.footprints import Footprint
 from mkcheck_tools.judge.late import Late
 from mkcheck_tools.judge.notes import Warn
 from mkcheck_tools.judge.sharing import with_shared
-from mkcheck_tools.run.folders import SYSTEM, is_of_versions
+from mkcheck_tools.run.folders import is_of_versions
+from mkcheck_tools.run.toolchains import fixed_prefixes
 
 BUILT_BEFORE = (
     "the folder holds files that recipes write, and without them the makefile means something else."
@@ -26,8 +27,8 @@ EDITED = (
 
 
 def used(asked: list[str], names: set[str]) -> list[str]:
-    """The prefixes that were asked for, and those of the system under which a name is."""
-    own = [prefix for prefix in SYSTEM if any(name.startswith(prefix) for name in names)]
+    """The prefixes that were asked for, and of the others those under which a name is."""
+    own = [prefix for prefix in fixed_prefixes() if any(name.startswith(prefix) for name in names)]
     return list(dict.fromkeys([*own, *asked]))
 
 

@@ -4,7 +4,7 @@ from __future__ import annotations
 
 from dataclasses import dataclass
 
-from mkcheck_tools.run.folders import SYSTEM
+from mkcheck_tools.run.toolchains import fixed_prefixes
 
 
 @dataclass(frozen=True)
@@ -45,8 +45,8 @@ class Choice:
 
     @property
     def fixed(self) -> tuple[str, ...]:
-        """All fixed prefixes, with those of the system."""
-        return tuple(dict.fromkeys([*SYSTEM, *self.prefixes]))
+        """All fixed prefixes, with those that needn't be asked for."""
+        return tuple(dict.fromkeys([*fixed_prefixes(), *self.prefixes]))
 
     def over(self, before: Choice) -> Choice:
         """This choice, with what it leaves open as it was before."""

@@ -11,7 +11,7 @@ from mkcheck_tools.book.paths import path_of_notes, path_of_state
 from mkcheck_tools.book.states import choice_of, read_choice, texts
 from mkcheck_tools.faults import Fault
 from mkcheck_tools.judge.notes import Kind
-from mkcheck_tools.run.folders import SYSTEM
+from mkcheck_tools.run.toolchains import fixed_prefixes
 
 TRUSTS = (Kind.TRUSTED, Kind.TRUSTED_NEEDLESSLY)
 
@@ -23,7 +23,7 @@ def choice_before(book: str) -> Choice:
         return known
     try:
         value = json.loads(Path(book).read_text(encoding="utf-8"))
-        prefixes = [prefix for prefix in texts(value["fixed"]) if prefix not in SYSTEM]
+        prefixes = [prefix for prefix in texts(value["fixed"]) if prefix not in fixed_prefixes()]
         goals = texts(value["groups"][0]["goals"]) if value["format"] == 2 else []
     except (OSError, ValueError, KeyError, TypeError, IndexError, RecursionError):
         return Choice()

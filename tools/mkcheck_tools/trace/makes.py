@@ -7,7 +7,8 @@ import re
 from collections.abc import Iterable
 from dataclasses import dataclass, field
 
-from mkcheck_tools.run.folders import SYSTEM, UNWRITTEN
+from mkcheck_tools.run.folders import UNWRITTEN
+from mkcheck_tools.run.toolchains import fixed_prefixes
 from mkcheck_tools.trace.calls import FORKS, Call, path_of, text_of
 
 # The programs that count as a make: each reads a makefile or a ninja file whose recipes aren't
@@ -23,8 +24,8 @@ def is_make(path: str) -> bool:
 
 
 def is_system(path: str) -> bool:
-    """Whether a file is the system's, or none that lasts."""
-    return path.startswith((*SYSTEM, *UNWRITTEN, "/dev/"))
+    """Whether a file lies among installed programs, or is none that lasts."""
+    return path.startswith((*fixed_prefixes(), *UNWRITTEN, "/dev/"))
 
 
 @dataclass
