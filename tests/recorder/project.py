@@ -80,20 +80,22 @@ class Outcome:
         """Whether a recipe has no record, or all of them together can't be written."""
         return (self.status, self.output) == (1, "") and (bool(self.counts) or not self.book)
 
+    @property
+    def written(self) -> dict[str, Any]:
+        """The footprints, which have to be there."""
+        assert self.book is not None, self.errors
+        return self.book
+
     def own(self, target: str) -> tuple[set[str], set[str]]:
         """What the recipe of a target reads and writes beside what is the system's."""
-        assert self.book is not None, self.errors
-        record = next(record for record in self.book["records"] if record["target"] == target)
+        record = next(one for one in self.written["records"] if one["target"] == target)
         reads, writes = set(record["reads"]), set(record["writes"])
         assert len(reads) == len(record["reads"]) and len(writes) == len(record["writes"]), record
         return {name for name in reads if not name.startswith(SYSTEM)}, writes
 
     def reads(self, target: str) -> list[str]:
         """All that the recipe of a target reads."""
-        assert self.book is not None, self.errors
-        return next(
-            record["reads"] for record in self.book["records"] if record["target"] == target
-        )
+        return next(one["reads"] for one in self.written["records"] if one["target"] == target)
 
     def warnings(self) -> list[str]:
         """The warnings, without what stands before each."""
@@ -136,7 +138,12 @@ class ProjectTest(unittest.TestCase):
         that are set besides, and None for those that aren't.
         """
         unplayed = () if self.replays or "--no-replay" in words else ("--no-replay",)
-        given = {**os.environ, **OF_MAKE, "MKCHECK": MKCHECK, **(environment or {})}
+        given: Environment = {
+            **os.environ,
+            **OF_MAKE,
+            "MKCHECK": MKCHECK,
+            **(environment or {}),
+        }
         done = subprocess.run(
             [sys.executable, str(RECORDER), "-C", str(self.folder), *unplayed, *words],
             env={name: value for name, value in given.items() if value is not None},
@@ -160,7 +167,7 @@ class ProjectTest(unittest.TestCase):
 
     def made_in(self, folder: Path, make: str, *words: str) -> dict[str, bytes]:
         """What stands in a folder after a make of it, which has to succeed."""
-        given = {**os.environ, **OF_MAKE}
+        given: Environment = {**os.environ, **OF_MAKE}
         done = subprocess.run(
             [make, *words],
             cwd=folder,

@@ -14,6 +14,7 @@ import sys
 import tempfile
 from dataclasses import dataclass
 from pathlib import Path
+from typing import Any
 
 from recorder.project import MKCHECK, RECORDER, ROOT, SYSTEM
 
@@ -35,7 +36,7 @@ EXAMPLES = (
 )
 
 
-def essence(book: dict) -> dict:
+def essence(book: dict[str, Any]) -> dict[str, Any]:
     """Footprints without what is the system's, and without order where processes settle it."""
     records = [
         {

@@ -9,6 +9,7 @@ from pathlib import Path
 
 from mkcheck_tools.answers.checkers import Checker
 from mkcheck_tools.faults import Fault
+from mkcheck_tools.run.paths import resolved
 from mkcheck_tools.run.places import Place
 
 
@@ -25,7 +26,7 @@ class CheckerTest(unittest.TestCase):
         path = Path(self.folder, "stand-in")
         path.write_text(f"#!/bin/sh\n{script}\n")
         path.chmod(0o755)
-        place = Place(self.folder, self.folder)
+        place = Place.of(resolved(self.folder))
         return Checker(str(path), place, ("-f", "m"), ("A=b", "all"), "B", seconds=seconds)
 
     def fault(self, script: str, seconds: float | None = None) -> str:

@@ -159,7 +159,7 @@ class CommitsTest(ProjectTest):
                     (folder / name).unlink()
                 else:
                     (folder / name).write_text(text)
-        changed = {**self.texts, **commit.files}
+        changed: dict[str, str | None] = {**self.texts, **commit.files}
         self.texts = {name: text for name, text in changed.items() if text is not None}
 
     def made(self, folder: Path, make: str, *words: str) -> dict[str, bytes]:

@@ -135,6 +135,37 @@ class MistakeTest(EndTest):
             self.mistake("record.pipeline", "dated", "words[1].recipe.target")
 
 
+class LoadingTest(unittest.TestCase):
+    """A signal that comes while a tool is loaded."""
+
+    def test_it_ends_without_a_word(self) -> None:
+        for tool in ("record", "import", "report", "audit"):
+            for number in (signal.SIGINT, signal.SIGTERM, signal.SIGHUP):
+                self.assertEqual(self.stopped(tool, number), (-number, ""), tool)
+
+    def stopped(self, tool: str, number: signal.Signals) -> tuple[int, str]:
+        """How a tool ends whose program module sends this signal as it is loaded, and what it
+        says."""
+        patch = (
+            "import importlib.abc, os, sys\n"
+            "class Finder(importlib.abc.MetaPathFinder):\n"
+            "    def find_spec(self, name, path, target=None):\n"
+            f"        if name.endswith('.program'): os.kill(os.getpid(), {int(number)})\n"
+            "sys.meta_path.insert(0, Finder())\n"
+            f"sys.path.insert(0, {str(ROOT / 'tools')!r})\n"
+            "import mkcheck_tools.starts as starts\n"
+            f"starts.{'translate' if tool == 'import' else tool}()\n"
+        )
+        done = subprocess.run(
+            [sys.executable, "-c", patch],
+            preexec_fn=take_signals,
+            capture_output=True,
+            text=True,
+            check=False,
+        )
+        return done.returncode, done.stderr
+
+
 @traced
 class SignalTest(EndTest):
     """Signals in each phase."""

@@ -139,10 +139,11 @@ class FaultTest(ProjectTest):
         """`graph -c` prints the next name as if the command went on."""
         front = "mkcheck-record: the last command of b ends in a backslash, and no line comes"
         behind = " behind it: end that file with a newline, without the backslash\n"
-        for makefile, files in (
+        cases: tuple[tuple[str, dict[str, str]], ...] = (
             ("all: b c\nc:\n\techo > c\nb:\n\techo > b; : \\", {}),
             ("all: b\na:\n\techo > a\ninclude m\n", {"m": "b: a\n\techo \\\n1 > b; : \\"}),
-        ):
+        )
+        for makefile, files in cases:
             self.write({"makefile": makefile, **files})
             outcome = self.record()
             self.assertEqual((outcome.status, outcome.book), (2, None))
@@ -267,7 +268,7 @@ class FaultTest(ProjectTest):
             ],
         )
         outcome = self.recorded("--fixed", "d", "--fixed", str(self.scratch), "--fixed", "..")
-        self.assertEqual((outcome.warnings(), outcome.book["sources"]), ([], []))
+        self.assertEqual((outcome.warnings(), outcome.written["sources"]), ([], []))
 
     def test_a_name_that_nothing_makes(self) -> None:
         self.write({"makefile": "a: b\n\tcp b a\n"})

@@ -34,8 +34,8 @@ class CompilerTest(ProjectTest):
         outcome = self.recorded()
         self.assertEqual(outcome.own("m.o"), ({"m.c", "a.h", "b.h"}, {"m.o"}))
         self.assertEqual(outcome.own("p"), ({"m.o"}, {"p"}))
-        self.assertEqual(outcome.book["sources"], ["a.h", "b.h", "m.c"])
-        self.assertIn("/usr/", outcome.book["fixed"])
+        self.assertEqual(outcome.written["sources"], ["a.h", "b.h", "m.c"])
+        self.assertIn("/usr/", outcome.written["fixed"])
         self.assertEqual(self.check(), ["no stale m.o b.h"])
         there = sorted(path.name for path in self.folder.iterdir())
         self.assertEqual(there, ["a.h", "b.h", "m.c", "makefile", "x.h"])
@@ -65,7 +65,7 @@ class CompilerTest(ProjectTest):
         outcome = self.recorded()
         self.assertEqual(outcome.own("a.h"), ({"make-header"}, {"a.h"}))
         self.assertEqual(outcome.own("m.o"), ({"m.c", "a.h"}, {"m.o"}))
-        self.assertEqual(outcome.book["sources"], ["m.c", "make-header"])
+        self.assertEqual(outcome.written["sources"], ["m.c", "make-header"])
         self.assertEqual(self.check()[0].split()[0], "yes")
 
     def test_a_library_of_objects(self) -> None:
@@ -89,7 +89,7 @@ class CompilerTest(ProjectTest):
         self.write({"makefile": "p: m.o\n\t$(CC) -o p m.o\n", "m.c": EMPTY})
         outcome = self.recorded("CC=cc")
         self.assertEqual(outcome.own("m.o"), ({"m.c"}, {"m.o"}))
-        commands = [record["commands"] for record in outcome.book["records"]]
+        commands = [record["commands"] for record in outcome.written["records"]]
         self.assertEqual(commands, [["cc -O1 -c m.c"], ["cc -o p m.o"]])
 
 
@@ -101,7 +101,7 @@ class ShellTest(ProjectTest):
         self.write({"makefile": COPY, "a": "1\n", "c": "2\n"})
         outcome = self.recorded()
         self.assertEqual(outcome.own("b"), ({"a"}, {"b"}))
-        self.assertEqual(outcome.book["sources"], ["a"])
+        self.assertEqual(outcome.written["sources"], ["a"])
         self.assertEqual(self.check()[0].split()[0], "yes")
 
     def test_cd_and_processes_in_other_folders(self) -> None:
@@ -339,7 +339,7 @@ class ShellTest(ProjectTest):
         )
         outcome = self.recorded()
         self.assertEqual(outcome.own("b"), ({"a"}, {"b", "c", "d"}))
-        commands = outcome.book["records"][0]["commands"]
+        commands = outcome.written["records"][0]["commands"]
         self.assertEqual(
             commands, ["@cp \\\n  a b", "-@false; cat a > c", "@", "- false", "+ touch d"]
         )
@@ -359,7 +359,7 @@ class FolderTest(ProjectTest):
     def test_what_was_built_before_is_no_source(self) -> None:
         self.write({"makefile": COPY, "a": "new\n", "b": "old\n"})
         outcome = self.recorded()
-        self.assertEqual(outcome.book["sources"], ["a"])
+        self.assertEqual(outcome.written["sources"], ["a"])
         self.assertEqual((self.folder / "b").read_text(), "old\n")
         self.assertEqual(outcome.warnings(), [])
 
@@ -372,14 +372,14 @@ class FolderTest(ProjectTest):
     def test_a_file_beside_a_target_that_was_there(self) -> None:
         self.write({"makefile": "b: a\n\tcp a b; cp a log\n", "a": "", "log": ""})
         outcome = self.recorded()
-        self.assertEqual(outcome.book["sources"], ["a"])
+        self.assertEqual(outcome.written["sources"], ["a"])
         self.assertEqual(outcome.warnings(), [])
 
     def test_a_copy_inside_the_folder(self) -> None:
         self.write({"makefile": COPY, "a": "", "tmp/kept": ""})
         outcome = self.record(environment={"TMPDIR": str(self.folder / "tmp")})
         self.assertEqual(outcome.own("b"), ({"a"}, {"b"}))
-        self.assertEqual(outcome.book["sources"], ["a"])
+        self.assertEqual(outcome.written["sources"], ["a"])
 
     def test_a_file_that_decides_a_rule_is_a_source(self) -> None:
         self.write(
@@ -392,7 +392,7 @@ class FolderTest(ProjectTest):
                 "other": "",
             }
         )
-        self.assertEqual(self.recorded("-r").book["sources"], ["x.s"])
+        self.assertEqual(self.recorded("-r").written["sources"], ["x.s"])
 
     def test_a_built_file_that_decides_a_rule_is_refused(self) -> None:
         self.write(
@@ -443,7 +443,7 @@ class FolderTest(ProjectTest):
         self.assertIn(f"\tb reads {self.scratch}/x/y\n", outcome.errors)
         outcome = self.recorded("--fixed", f"{self.scratch}/x")
         self.assertIn(f"{self.scratch}/x/y", outcome.reads("b"))
-        self.assertIn(f"{self.scratch}/x/", outcome.book["fixed"])
+        self.assertIn(f"{self.scratch}/x/", outcome.written["fixed"])
 
     def test_a_writing_outside_is_named(self) -> None:
         self.write({"makefile": f"b:\n\techo > b; echo > {self.scratch}/z\n"})
@@ -455,8 +455,8 @@ class FolderTest(ProjectTest):
         self.write({"makefile": "b: v/a\n\tcp v/a b\n", "v/a": ""})
         outcome = self.recorded("--fixed", "v")
         self.assertEqual(outcome.own("b"), ({"v/a"}, {"b"}))
-        self.assertEqual(outcome.book["sources"], [])
-        self.assertIn("v/", outcome.book["fixed"])
+        self.assertEqual(outcome.written["sources"], [])
+        self.assertIn("v/", outcome.written["fixed"])
         self.assertEqual(self.check()[0].split()[0], "yes")
 
     def test_a_fixed_prefix_above_the_folder(self) -> None:
@@ -470,7 +470,7 @@ class FolderTest(ProjectTest):
     def test_another_makefile_and_goals(self) -> None:
         self.write({"m.mk": "b:\n\techo > b\nc:\n\techo > c\n"})
         outcome = self.recorded("-f", "m.mk", "-r", "c")
-        self.assertEqual([record["target"] for record in outcome.book["records"]], ["c"])
+        self.assertEqual([record["target"] for record in outcome.written["records"]], ["c"])
         self.assertEqual(
             self.check("-f", "m.mk", "c"),
             ["yes 1 recipes " + str(len(outcome.reads("c"))) + " reads"],

@@ -10,6 +10,7 @@ import tempfile
 import unittest
 from collections.abc import Sequence
 from pathlib import Path
+from typing import Any
 
 from mkcheck_tools.book import formats
 from mkcheck_tools.book.footprint_files import Footprints, Record, read_footprints
@@ -32,7 +33,7 @@ def footprints(
     return Footprints(list(fixed), list(sources), {one.target: one for one in records}, goals)
 
 
-def reads_of(book: dict) -> dict[str, set[str]]:
+def reads_of(book: dict[str, Any]) -> dict[str, set[str]]:
     """What each target reads by a text of format 2, as the format's page says."""
     (group,) = book["groups"]
     found = {}

@@ -185,7 +185,7 @@ class KeepTest(ProjectTest):
         text = f"all: a\na: s\n\tuntil test -e {go}; do sleep 0.1; done; cp s a\n"
         self.write({"makefile": text})
         words = ["-C", str(self.folder), "--no-replay", "-o", str(self.book), "all"]
-        given = {**os.environ, **OF_MAKE, "MKCHECK": MKCHECK}
+        given: Environment = {**os.environ, **OF_MAKE, "MKCHECK": MKCHECK}
         with subprocess.Popen(
             [sys.executable, str(RECORDER), "--keep", str(self.kept), *words],
             env={name: value for name, value in given.items() if value is not None},

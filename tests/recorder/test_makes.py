@@ -8,7 +8,7 @@ import subprocess
 import unittest
 
 from mkcheck_tools.trace.tracing import flags_of
-from recorder.project import OF_MAKE, ProjectTest, compiled, traced
+from recorder.project import OF_MAKE, Environment, ProjectTest, compiled, traced
 
 GNU = "GNU Make" in os.popen("make --version 2>/dev/null").read()
 SUB = {"sub/makefile": "x: y\n\tcp y x\n", "sub/y": ""}
@@ -166,12 +166,13 @@ class MacroTest(ProjectTest):
         )
         words = ("--make",) if shutil.which("make") else ()
         # Without SHELL or HOME bash looks for its user in /etc/passwd at its start.
-        for named in (
+        environments: tuple[Environment, ...] = (
             {"SHELL": "/bin/sh", "HOME": "/"},
             {"SHELL": None, "HOME": "/"},
             {"SHELL": "/bin/sh", "HOME": None},
             {"SHELL": None, "HOME": None},
-        ):
+        )
+        for named in environments:
             outcome = self.recorded(*words, environment=named)
             self.assertEqual(outcome.own("out"), ({"a", "b"}, {"out"}))
             self.assertEqual(outcome.warnings(), [told], named)
@@ -201,7 +202,7 @@ class MacroTest(ProjectTest):
         self.assertEqual(self.recorded("SHELL=/bin/sh").warnings(), [])
 
     def test_options_of_the_makefile(self) -> None:
-        for value, told in (
+        values: tuple[tuple[str, list[str]], ...] = (
             ("-k", ["-k in MAKEFLAGS, by which GNU make goes on with other targets"]),
             ("ik", ["-i in MAKEFLAGS, by which", "-k in MAKEFLAGS, by which"]),
             ("-r", ["-r in MAKEFLAGS, by which GNU make leaves out its default rules; give -r"]),
@@ -211,7 +212,8 @@ class MacroTest(ProjectTest):
             ("-s X=1", ["X=1 in MAKEFLAGS: what make does by that isn't judged here"]),
             ("-j8 -s --no-print-directory --output-sync=target -j 4 -l 2", []),
             ("", []),
-        ):
+        )
+        for value, told in values:
             self.write({"makefile": f"MAKEFLAGS = {value}\nout: a\n\tcp a out\n", "a": ""})
             outcome = self.recorded()
             self.assertEqual(len(outcome.warnings()), len(told), outcome.errors)

@@ -17,6 +17,8 @@ from mkcheck_tools.replay.replays import Replay
 from mkcheck_tools.replay.runs import Outcome
 from mkcheck_tools.replay.versions import Store
 from mkcheck_tools.replay.worlds import Effects, Trial, World
+from mkcheck_tools.run.paths import Name, RealPath
+from mkcheck_tools.run.places import Place
 from recorder.project import ProjectTest, traced
 from recorder.test_right import RightTest, namespaces
 
@@ -25,12 +27,12 @@ PYTHON = "/usr/bin/python3"
 
 def footprint(target: str, *scratch: str, ports: tuple[str, ...] = ()) -> Footprint:
     """The footprint of a recipe that makes these names and takes them away, and serves there."""
-    return Footprint(Recipe(target), [], [], frozenset(scratch), ports=frozenset(ports))
+    return Footprint(Recipe(target), [], [], frozenset(map(Name, scratch)), ports=frozenset(ports))
 
 
 def trial(target: str, *looked: str) -> Trial:
     """A recipe that looked at these names."""
-    effects = Effects((), (), looked=looked)
+    effects = Effects((), (), looked=tuple(map(Name, looked)))
     return Trial(Recipe(target), {}, {}, (), {}, (), frozenset(), 0.0, 0.0, effects=effects)
 
 
@@ -92,12 +94,13 @@ class TurnsTest(ProjectTest):
                     both.wait(60)
                 return Outcome(trial)
 
-        world = World(str(self.folder), str(self.folder), Store(str(self.scratch)), 0.0)
+        own = Place.of(RealPath(str(self.folder)))
+        world = World(own.folder, own.folder, Store(RealPath(str(self.scratch))), 0.0)
         trials = [trial(target) for target in "abcd"]
         replay = Watched(
             world,
-            str(self.folder),
-            str(self.scratch / "replays"),
+            own.seen,
+            RealPath(str(self.scratch / "replays")),
             os.environ,
             Ancestors(),
             meetings={"a": ("/tmp/t",), "b": ("/tmp/t",)},

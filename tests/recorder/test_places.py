@@ -11,12 +11,15 @@ import tempfile
 import time
 import unittest
 from pathlib import Path
+from typing import Any
 from unittest import mock
 
+from mkcheck_tools.faults import Fault
 from mkcheck_tools.replay.versions import Store
 from mkcheck_tools.replay.worlds import World
 from mkcheck_tools.run import folders, places, stopping
 from mkcheck_tools.run.folders import scratch_folder
+from mkcheck_tools.run.paths import Name, RealPath, SeenPath
 from mkcheck_tools.run.places import Place
 from outside import assert_untouched, folder_outside
 from recorder.project import MKCHECK, RECORDER, ProjectTest, traced
@@ -36,7 +39,7 @@ class PlaceTest(ProjectTest):
         self.other.mkdir()
         (self.other / "a").write_text("other\n")
         self.write({"a": "own\n"})
-        self.place = Place(str(self.other), str(self.folder))
+        self.place = Place(RealPath(str(self.other)), SeenPath(str(self.folder)))
 
     def run_here(self, text: str, seconds: float | None = None) -> places.Ended:
         """Runs a shell command in the place."""
@@ -98,15 +101,19 @@ class PlaceTest(ProjectTest):
         self.assertEqual(left_with(mark), [])
 
     def test_where_this_program_finds_a_path(self) -> None:
-        self.assertEqual(self.place.real(f"{self.folder}/b/c"), f"{self.other}/b/c")
-        self.assertEqual(self.place.real(str(self.folder)), str(self.other))
-        self.assertEqual(self.place.real(f"{self.folder}s"), f"{self.folder}s")
+        seen = str(self.folder)
+        for path, found in (
+            (f"{seen}/b/c", f"{self.other}/b/c"),
+            (seen, str(self.other)),
+            (f"{seen}s", f"{seen}s"),
+        ):
+            self.assertEqual(self.place.real(SeenPath(path)), found)
 
     def test_without_namespaces(self) -> None:
         kept = places.namespace
         places.namespace = lambda: None  # type: ignore[assignment]
         try:
-            with self.assertRaisesRegex(places.Fault, "the system allows no mount namespace"):
+            with self.assertRaisesRegex(Fault, "the system allows no mount namespace"):
                 self.run_here("true")
         finally:
             places.namespace = kept
@@ -118,7 +125,7 @@ class ScratchFolderTest(ProjectTest):
     def test_a_folder_outside_of_the_project(self) -> None:
         inner = self.folder / "tmp"
         inner.mkdir()
-        with scratch_folder(str(self.folder)) as scratch:
+        with scratch_folder(RealPath(str(self.folder))) as scratch:
             self.assertTrue(os.path.isdir(scratch))
             self.assertFalse(scratch.startswith(f"{self.folder}/"))
             (Path(scratch) / "d").mkdir()
@@ -388,8 +395,9 @@ class FixedTest(ProjectTest):
         self.assertTrue(outcome.errors.startswith(front), outcome.errors)
 
     def test_the_folders_above_a_name(self) -> None:
-        world = World(str(self.folder), str(self.folder), Store(str(self.scratch)), 0.0)
-        world.appear("/opt/d/x")
+        folder = RealPath(str(self.folder))
+        world = World(folder, folder, Store(RealPath(str(self.scratch))), 0.0)
+        world.appear(Name("/opt/d/x"))
         self.assertEqual(world.inside, {"/opt/d": {"x"}, "/opt": {"d"}, "/": {"opt"}})
 
 
@@ -397,10 +405,10 @@ class BeginTest(unittest.TestCase):
     """Signals that come while a process begins."""
 
     def test_a_signal_while_a_process_begins(self) -> None:
-        begun: list[subprocess.Popen[bytes]] = []
+        begun: list[subprocess.Popen[Any]] = []
         own = subprocess.Popen
 
-        def popen(*words: object, **options: object) -> subprocess.Popen[bytes]:
+        def popen(*words: Any, **options: Any) -> subprocess.Popen[Any]:
             """Starts a process, and gets a signal before it can tell of it."""
             begun.append(own(*words, **options))
             signal.raise_signal(signal.SIGTERM)

@@ -9,6 +9,7 @@ from mkcheck_tools.answers.graphs import Command, read_graph
 from mkcheck_tools.faults import Fault
 from mkcheck_tools.replay.orders import OLD, OTHER, OTHER_OF_MADE, with_order
 from mkcheck_tools.run.folders import Naming, is_plain_path
+from mkcheck_tools.run.paths import Name, RealPath, SeenPath
 from mkcheck_tools.run.places import Place
 from mkcheck_tools.trace.accesses import Accesses, Follower
 from mkcheck_tools.trace.calls import (
@@ -28,9 +29,10 @@ TRACES = Path(__file__).resolve().parent / "traces"
 
 def followed(name: str, there: tuple[str, ...] = ()) -> Accesses:
     """What the calls of a stored trace do, from the folder /nowhere/p on."""
-    accesses = Accesses(Tree(Place("/nowhere/p", "/nowhere/p"), set(there)))
+    place = Place.of(RealPath("/nowhere/p"))
+    accesses = Accesses(Tree(place, {SeenPath(path) for path in there}))
     lines = [line for line in (TRACES / name).read_text().splitlines() if not line.startswith("#")]
-    Follower(accesses, "/nowhere/p").follow(read_calls(lines))
+    Follower(accesses, place.seen).follow(read_calls(lines))
     return accesses
 
 
@@ -136,7 +138,8 @@ class CallsTest(unittest.TestCase):
         self.assertTrue(trace.is_whole())
 
     def test_such_a_call_in_two_lines_is_none(self) -> None:
-        for ends in ([], ["7 <... ??? resumed>) = ?"], ["7 <... ??? resumed>)  = ? <unavailable>"]):
+        for end in ("", "7 <... ??? resumed>) = ?", "7 <... ??? resumed>)  = ? <unavailable>"):
+            ends = [end] if end else []
             trace = Trace()
             trace.feed('7 execve("/bin/true", ["true"], 0x7f /* 1 var */) = 0')
             for line in ("7 ???( <unfinished ...>", *ends, "7 +++ killed by SIGKILL +++"):
@@ -281,14 +284,15 @@ class OrdersTest(unittest.TestCase):
     def ordered(self, order: str, graph: str, files: str) -> str:
         """The files of a recipe, oldest first, where they were made or edited in the given order;
         names in capitals are sources."""
-        names = files.split()
+        names = [Name(name) for name in files.split()]
         ancestors = read_graph(f"goals all\n{graph}").ancestors()
         stamps = {name: number for number, name in enumerate(names)}
         made = {name: (name,) for name in names if name.islower()}
         sources = [name for name in names if name.isupper()]
         found = {**stamps, **with_order(order, stamps, made, sources, ancestors)}
         self.assertEqual(len(set(found.values())), len(names))
-        return " ".join(sorted(names, key=lambda name: found[name]))
+        ordered = sorted(names, key=lambda name: found[name])
+        return " ".join(ordered)
 
     def test_orders(self) -> None:
         graph = "X:\nY:\na recipe: X\nb recipe: Y\nc recipe: a\nall: a b c\n"
@@ -328,12 +332,12 @@ class NamesTest(unittest.TestCase):
             self.assertFalse(is_plain_path(name), name)
 
     def test_names_in_the_folder_and_under_prefixes(self) -> None:
-        naming = Naming("/nowhere/p", ("/usr/", "../c/"))
-        self.assertEqual(naming.name("/nowhere/p/a/b"), "a/b")
-        self.assertEqual(naming.name("/usr/x"), "/usr/x")
-        self.assertEqual(naming.name("/nowhere/c/x"), "../c/x")
-        self.assertIsNone(naming.name("/nowhere/d"))
-        self.assertIsNone(naming.name("/nowhere/pp"))
+        naming = Naming(SeenPath("/nowhere/p"), ("/usr/", "../c/"))
+        self.assertEqual(naming.name(SeenPath("/nowhere/p/a/b")), "a/b")
+        self.assertEqual(naming.name(SeenPath("/usr/x")), "/usr/x")
+        self.assertEqual(naming.name(SeenPath("/nowhere/c/x")), "../c/x")
+        self.assertIsNone(naming.name(SeenPath("/nowhere/d")))
+        self.assertIsNone(naming.name(SeenPath("/nowhere/pp")))
 
 
 if __name__ == "__main__":

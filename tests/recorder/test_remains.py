@@ -10,6 +10,7 @@ import time
 import unittest
 
 from mkcheck_tools.replay.remains import after, counted
+from mkcheck_tools.run.paths import Name
 from recorder.project import OF_MAKE, compiled, traced
 from recorder.test_surroundings import SurroundingsTest, namespaces
 
@@ -200,7 +201,7 @@ class NameTest(unittest.TestCase):
             ("Foo.class", ("F", "oo", ".class")),
             ("_", ("_", "", "")),
         ):
-            self.assertEqual(counted(name), found)
+            self.assertEqual(counted(Name(name)), found)
 
     def test_what_comes_next(self) -> None:
         for run, found in (("09", "10"), ("9", "10"), ("az", "ba"), ("zz", ""), ("Q", "R")):

@@ -23,7 +23,8 @@ from mkcheck_tools.replay.stamps import LEAST, made_since, with_other_stamps
 from mkcheck_tools.replay.versions import Store, Version, version_of
 from mkcheck_tools.replay.worlds import Effects, World
 from mkcheck_tools.run import places
-from mkcheck_tools.run.paths import Name
+from mkcheck_tools.run.paths import Name, RealPath, SeenPath, real_in
+from mkcheck_tools.run.places import Place
 from recorder.project import Environment
 from recorder.project import Outcome as Recording
 from recorder.project import ProjectTest, traced
@@ -239,19 +240,18 @@ class BareTest(ReplayTest):
 class FailingTest(ReplayTest):
     """What a recipe leaves where writes to its target fail."""
 
-    def halves(self, rule: str) -> bool:
+    def halves(self, rule: str) -> bool | None:
         """Whether the recipe of `out` leaves it half-written, where no other run finds anything."""
         self.write({"makefile": f"{rule}\n", "a": "1\n"})
         self.recorded()
-        store = Store(str(self.scratch / "store"))
-        world = World.of(str(self.folder), str(self.copy()), store)
+        store = Store(RealPath(str(self.scratch / "store")))
+        world = World.of(RealPath(str(self.folder)), RealPath(str(self.copy())), store)
         recipe = Recipe("out", [rule.partition("\t")[2]])
         place = Path(world.place)
         subprocess.run(recipe.commands[0].words, cwd=place, check=True)
-        trial = world.took(recipe, Effects(("a",), ("out",)), time.time())
-        replay = Replay(
-            world, str(self.folder), str(self.scratch / "runs"), os.environ, Ancestors()
-        )
+        trial = world.took(recipe, Effects((Name("a"),), (Name("out"),)), time.time())
+        seen, scratch = SeenPath(str(self.folder)), RealPath(str(self.scratch / "runs"))
+        replay = Replay(world, seen, scratch, os.environ, Ancestors())
         (outcome,) = replay.run([trial]).outcomes
         self.assertTrue(outcome.passed, outcome)
         return outcome.half
@@ -435,20 +435,21 @@ class StampsTest(unittest.TestCase):
             os.utime(path, ns=(now - age, now - age))
         for path in (place / "d", place):
             os.utime(path, ns=(now - folder, now - folder))
-        world = World.of(str(project), str(place), Store(str(self.scratch / "store")))
+        store = Store(RealPath(str(self.scratch / "store")))
+        world = World.of(RealPath(str(project)), RealPath(str(place)), store)
+        s, a, out = Name("s"), Name("a"), Name("out")
         (place / "a").write_text("1\n")
-        world.took(Recipe("a", ["cp s a"]), Effects(("s",), ("a",)), time.time())
+        world.took(Recipe("a", ["cp s a"]), Effects((s,), (a,)), time.time())
         (place / "out").write_text("1\n")
-        looked = ("../elsewhere",)
-        effects = Effects(("s", "a"), ("out",), looked=looked)
+        effects = Effects((s, a), (out,), looked=(Name("../elsewhere"),))
         trial = world.took(Recipe("out", ["cp a out"]), effects, time.time())
         found = with_other_stamps(world, trial)
         self.assertIs(with_other_stamps(world, found), found)
         self.assertEqual(set(made_since(world, found, time.time_ns())), {"a"})
-        self.assertEqual(found.after["a"], found.before["a"])
+        self.assertEqual(found.after[a], found.before[a])
         shutil.rmtree(project)
         shutil.rmtree(place)
-        return found.before["a"].stamp - trial.before["a"].stamp
+        return found.before[a].stamp - trial.before[a].stamp
 
     def test_they_are_earlier_where_nothing_is_in_between(self) -> None:
         self.assertEqual(self.moved(DAY), -LEAST)
@@ -752,18 +753,18 @@ class UntracedTest(ReplayTest):
         self, lines: list[str], reads: list[str], writes: list[str], seconds: float = 60.0
     ) -> Outcome:
         """Runs the recipe of `out` in the folder, and replays it by these reads and writes."""
-        world = World.of(str(self.folder), str(self.folder), Store(str(self.scratch / "store")))
+        own = Place.of(RealPath(str(self.folder)))
+        world = World.of(own.folder, own.folder, Store(RealPath(str(self.scratch / "store"))))
         recipe = Recipe("out", lines)
         environment = {"PATH": os.environ["PATH"], "PWD": str(self.folder)}
         for command in recipe.commands:
-            place = places.Place(str(self.folder), str(self.folder))
-            self.assertEqual(places.run(command.words, place, environment).status, 0)
-        world.took(recipe, Effects(tuple(reads), tuple(writes)), world.begun)
+            self.assertEqual(places.run(command.words, own, environment).status, 0)
+        effects = Effects(tuple(map(Name, reads)), tuple(map(Name, writes)))
+        world.took(recipe, effects, world.begun)
         least, runs.LEAST_SECONDS = runs.LEAST_SECONDS, seconds
         try:
-            replay = Replay(
-                world, str(self.folder), str(self.scratch / "replays"), environment, Ancestors()
-            )
+            scratch = RealPath(str(self.scratch / "replays"))
+            replay = Replay(world, own.seen, scratch, environment, Ancestors())
             (outcome,) = replay.run(world.trials).outcomes
         finally:
             runs.LEAST_SECONDS = least
@@ -800,27 +801,25 @@ class UntracedTest(ReplayTest):
 
     def test_lines_that_differ(self) -> None:
         one, two = self.scratch / "one", self.scratch / "two"
+        paths = RealPath(str(one)), RealPath(str(two))
         one.write_bytes(b"a\nb\nc\n")
         two.write_bytes(b"a\nB\nc\n")
-        self.assertEqual(
-            lines_that_differ(str(one), str(two)), ('line 2 was "b"', 'line 2 is  "B"')
-        )
+        self.assertEqual(lines_that_differ(*paths), ('line 2 was "b"', 'line 2 is  "B"'))
         two.write_bytes(b"a\nb")
-        self.assertEqual(
-            lines_that_differ(str(one), str(two)), ('line 3 was "c"', "line 3 is  not there")
-        )
+        self.assertEqual(lines_that_differ(*paths), ('line 3 was "c"', "line 3 is  not there"))
         two.write_bytes(b"a\0")
-        self.assertEqual(lines_that_differ(str(one), str(two)), ())
+        self.assertEqual(lines_that_differ(*paths), ())
 
     def test_versions(self) -> None:
         self.write({"a": "1\n", "b": "1\n"})
-        first, second = (version_of(str(self.folder / name)) for name in "ab")
+        folder = RealPath(str(self.folder))
+        first, second = (version_of(real_in(folder, name)) for name in "ab")
         self.assertEqual(first, second)
         (self.folder / "b").chmod(0o700)
-        self.assertNotEqual(first, version_of(str(self.folder / "b")))
+        self.assertNotEqual(first, version_of(real_in(folder, "b")))
         (self.folder / "l").symlink_to("nowhere")
-        self.assertEqual(version_of(str(self.folder / "l")), Version("link", 0, "nowhere"))
-        self.assertIsNone(version_of(str(self.folder / "none")))
+        self.assertEqual(version_of(real_in(folder, "l")), Version("link", 0, "nowhere"))
+        self.assertIsNone(version_of(real_in(folder, "none")))
 
 
 if __name__ == "__main__":

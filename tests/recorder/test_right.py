@@ -10,7 +10,7 @@ from collections.abc import Mapping
 from pathlib import Path
 
 from mkcheck_tools.run import places
-from recorder.project import OF_MAKE, Outcome, ProjectTest, compiled, traced
+from recorder.project import OF_MAKE, Environment, Outcome, ProjectTest, compiled, traced
 
 namespaces = unittest.skipUnless(places.namespace(), "no mount namespace is allowed")
 C = "int main(void) { return 0; }\n"
@@ -51,7 +51,7 @@ class RightTest(ProjectTest):
             shutil.copytree(self.folder, folder)
         for path, text in files.items():
             (folder / path).write_text(text)
-        given = {**os.environ, **OF_MAKE}
+        given: Environment = {**os.environ, **OF_MAKE}
         done = subprocess.run(
             ["make", *words],
             cwd=folder,
@@ -259,6 +259,30 @@ class LookTest(RightTest):
             }
         )
         self.assertEqual(self.record().status, 1)
+
+
+@traced
+@namespaces
+class IgnoreTest(RightTest):
+    """Recipes that go on after an error, by `.IGNORE`."""
+
+    rule = "x: a\n\tfalse >&2\n\tcp a x; exit 3\n"
+
+    def test_a_recipe_that_goes_on(self) -> None:
+        for front in (".IGNORE: x\n", ".IGNORE:\n", "X = x\n.IGNORE: y $(X)\n"):
+            outcome = self.yes({"makefile": front + self.rule, "a": "1\n"}, edits={"a": "2\n"})
+            self.assertEqual((outcome.own("x"), outcome.errors), (({"a"}, {"x"}), ""), front)
+
+    def test_a_command_that_ends_early_all_the_same(self) -> None:
+        text = ".POSIX:\n.IGNORE: x\nx: a\n\tfalse; cp b c\n\tcat a > x\n"
+        outcome = self.yes({"makefile": text, "a": "1\n", "b": "2\n"})
+        self.assertEqual(outcome.own("x"), ({"a"}, {"x"}))
+
+    def test_a_recipe_of_another_target_fails(self) -> None:
+        self.write({"makefile": ".IGNORE: y\n" + self.rule, "a": "1\n"})
+        outcome = self.record()
+        self.assertTrue(outcome.lacks("x"), outcome.errors)
+        self.assertIn("the recipe of x failed, status 1, at 'false >&2'", outcome.errors)
 
 
 @traced

@@ -12,7 +12,9 @@ from pathlib import Path
 
 from mkcheck_tools.replay.surroundings import library
 from mkcheck_tools.run import places
+from mkcheck_tools.run.machines import has_names, processors_but_one
 from mkcheck_tools.run.memory import memory
+from mkcheck_tools.run.paths import SeenPath
 from mkcheck_tools.run.terminals import has_terminals
 from recorder.project import OF_MAKE, ProjectTest, traced
 
@@ -213,6 +215,126 @@ class AmidTest(SurroundingsTest):
 
 @traced
 @namespaces
+class SourcesTest(SurroundingsTest):
+    """Stamps of sources, which are others in another copy of the project."""
+
+    told = "where the sources that it reads have their stamps in another order"
+
+    def stamp(self, *stamps: float) -> None:
+        """Gives `a` and `b` stamps."""
+        for name, stamp in zip("ab", stamps):
+            os.utime(self.folder / name, (stamp, stamp))
+
+    def test_a_recipe_that_compares_them(self) -> None:
+        for command in (
+            "if test a -nt b; then cat a; else cat b; fi > out",
+            "if test b -nt a; then cat a; else cat b; fi > out",
+            "cat a b > out; ls -t a b >> out",
+            "cat `ls -t a b | head -n 1` > out",
+            "cat a b > out; find a b -newer a >> out",
+            "cat a b > out; echo $$((`stat -c %Y a` <= `stat -c %Y b`)) >> out",
+        ):
+            self.write({"makefile": f"out: a b\n\t{command}\n", **MANY})
+            found = set()
+            for stamps in ((1e9, 1e9), (1e9, 2e9), (2e9, 1e9)):
+                self.stamp(*stamps)
+                warnings = self.recorded().warnings()
+                self.assertEqual(len(warnings), 1, (command, stamps, warnings))
+                self.assertIn(self.told, warnings[0])
+                self.assertEqual(self.check()[0][:4], "yes ")
+                found.add(self.made())
+            self.assertEqual(len(found), 2, (command, found))
+
+    def test_a_recipe_that_stores_them(self) -> None:
+        """It finds the same stamps in each clean build."""
+        self.passes("out: a b\n\ttar cf out a b\n", MANY)
+
+    def test_a_recipe_that_fails_in_another_order(self) -> None:
+        """A user sees that."""
+        for stamps in ((1e9, 2e9), (1e9, 1e9)):
+            self.write({"makefile": "out: a b\n\tcat a b > out; test ! a -nt b\n", **MANY})
+            self.stamp(*stamps)
+            self.assertEqual(self.recorded().errors, "")
+
+    def test_made_files_beside_sources(self) -> None:
+        rules = "x: a\n\tcp a x\ny: x b\n\tcat x b > y\n"
+        asking = "test y -nt b && test x -nt a && cat a b x y > out"
+        self.passes(f"out: a b x y\n\t{asking}\n{rules}", MANY)
+        text = f"out: a b x\n\tif test a -nt b; then echo 1; fi > out; cat x >> out\n{rules}"
+        self.doubt(text, self.told, files=MANY)
+
+
+@traced
+@namespaces
+class MachineTest(SurroundingsTest):
+    """The machine, and the disk on which folders lie."""
+
+    def test_a_recipe_that_asks_for_the_machine(self) -> None:
+        told = "on a machine with another name, a processor less, and another limit of open files"
+        for command in (
+            *(["uname -n", "hostname"] if has_names() else []),
+            *(["nproc", "getconf _NPROCESSORS_ONLN; nproc"] if processors_but_one() else []),
+            "ulimit -n",
+        ):
+            self.doubt(f"out: a\n\t({command}) > out; cat a >> out\n", told)
+
+    def test_recipes_that_only_use_it(self) -> None:
+        for command in ("sort a > out", "uname -srm > out", "install -m 600 a out"):
+            self.passes(f"out: a\n\t{command}\n")
+
+    def test_sizes_of_folders(self) -> None:
+        with memory(SeenPath(str(self.scratch))) as found:
+            if found is None:
+                self.skipTest("no file system in memory is allowed")
+        told = "in memory, where folders have other sizes and blocks than on a disk, writes out"
+        for command in ("du -sb d", "stat -c %s d"):
+            self.doubt(f"out: d/a d/b\n\t{command} > out\n", told, files={"d/a": "1", "d/b": "2"})
+            self.assertEqual(self.recorded().own("out")[1], {"out"})
+            first = self.made()
+            for number in range(2000):
+                (self.folder / "d" / f"a-file-with-a-long-name-{number}").touch()
+            for number in range(2000):
+                (self.folder / "d" / f"a-file-with-a-long-name-{number}").unlink()
+            self.assertNotEqual(self.made(), first)
+            shutil.rmtree(self.folder / "d")
+
+    def test_sizes_of_files(self) -> None:
+        text = "out: d/a d/b\n\tdu -b d/a d/b > out; stat -c %s d/b >> out\n"
+        self.passes(text, {"d/a": "1", "d/b": "2"})
+
+
+@traced
+@namespaces
+class DrawsTest(SurroundingsTest):
+    """Orders that Python and Perl draw anew in each run."""
+
+    told = "it depends on the order of a set or hash, which each run draws anew. Let the program"
+    printing = f"{PYTHON} -c \"print({{'a', 'b', 'c', 'd', 'e'}})\" > out"
+
+    def test_a_set_of_python(self) -> None:
+        self.refused(f"out: a\n\t{self.printing}\n", self.told)
+        self.assertGreater(len({self.made() for _ in range(16)}), 1)
+
+    def test_a_hash_of_perl(self) -> None:
+        self.refused("out: a\n\tperl -e 'print keys %{{1..10}}' > out\n", self.told)
+
+    def test_an_order_that_its_user_chooses(self) -> None:
+        self.write({"makefile": f"out: a\n\t{self.printing}\n", "a": ""})
+        self.assertEqual(self.recorded(environment={"PYTHONHASHSEED": "1"}).errors, "")
+        self.passes(f"out: a\n\tPYTHONHASHSEED=2 {self.printing}\n")
+
+    def test_programs_that_sort(self) -> None:
+        sorting = f"{PYTHON} -c \"print(sorted({{'a', 'b', 'c'}}))\" > out"
+        self.passes(f"out: a\n\t{sorting}\n")
+        self.passes("out: a\n\tperl -e 'print sort keys %{{1..10}}' > out\n")
+
+    def test_random_numbers_of_two_values(self) -> None:
+        drawing = f"{PYTHON} -c 'import random; print(random.choice(range(4)))' > out"
+        self.refused(f"out: a\n\t{drawing}\n", "it depends on something else, such as the time")
+
+
+@traced
+@namespaces
 @unittest.skipUnless(has_terminals(), "no pseudo terminals")
 class TerminalTest(SurroundingsTest):
     """The streams of make are a terminal, as where a user starts it, or none."""
@@ -318,7 +440,7 @@ class ListingTest(SurroundingsTest):
 
     def setUp(self) -> None:
         super().setUp()
-        with memory(str(self.scratch)) as found:
+        with memory(SeenPath(str(self.scratch))) as found:
             if found is None:
                 self.skipTest("no file system in memory is allowed")
 

@@ -120,6 +120,11 @@ class CountTest(UpdateTest):
         self.assertEqual(self.updated.read_text(), self.book.read_text())
         return count
 
+    def link(self, name: str, text: str) -> None:
+        """Makes a link anew."""
+        (self.folder / name).unlink()
+        (self.folder / name).symlink_to(text)
+
     def begin(self) -> Callable[[str, str], object]:
         """Records all for the first time; returns what writes a file."""
         self.start()
@@ -152,8 +157,7 @@ class CountTest(UpdateTest):
         self.assertEqual(self.after(lambda: put("d/notes", "")), 1)
         # A link, and what it leads to.
         self.assertEqual(self.after(lambda: put("two/x.h", "X\n")), 3)
-        link = self.folder / "l"
-        self.assertEqual(self.after(lambda: (link.unlink(), link.symlink_to("two/y.h"))), 2)
+        self.assertEqual(self.after(lambda: self.link("l", "two/y.h")), 2)
         # A mode, which no mask gives.
         self.assertEqual(self.after(lambda: (self.folder / "b.c").chmod(0o700)), 1)
 
@@ -431,13 +435,13 @@ class StateTest(UpdateTest):
             "",
             "[]",
             "{}",
-            '{"format":6,"digest":"","state":{}}',
+            '{"format":7,"digest":"","state":{}}',
         ):
             self.state.write_text(text)
             self.assertEqual(self.all_again(), "isn't whole")
         self.state.write_bytes(b"\xff")
         self.assertEqual(self.all_again(), "can't be read")
-        self.state.write_text(whole.replace('"format":6', '"format":4', 1))
+        self.state.write_text(whole.replace('"format":7', '"format":4', 1))
         self.assertEqual(self.all_again(), "is of another version of mkcheck-record")
 
     def test_changed_by_hand(self) -> None:

@@ -16,6 +16,7 @@ import sys
 import tempfile
 from collections.abc import Sequence
 from pathlib import Path
+from typing import Any
 
 SECONDS = 300
 # Writes what it measures into the page around it, which Chromium then prints: how wide the page is,
@@ -126,7 +127,7 @@ def seconds_to_open(page: Path) -> float:
     return spent[1] - spent[0]
 
 
-def measured(page: Path, widths: Sequence[int], dark: bool) -> dict[int, dict]:
+def measured(page: Path, widths: Sequence[int], dark: bool) -> dict[int, dict[str, Any]]:
     """What is measured of a page, by its width."""
     text = page.read_text(encoding="utf-8").replace("</body>", MEASURE + "</body>")
     copy = page.with_name(f"measured-{page.name}")

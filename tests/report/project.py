@@ -8,6 +8,7 @@ import subprocess
 import sys
 import tempfile
 import unittest
+from collections.abc import Sequence
 from dataclasses import dataclass
 from html.parser import HTMLParser
 from pathlib import Path
@@ -118,7 +119,7 @@ class ReportTest(unittest.TestCase):
         path.write_text(text, encoding="utf-8")
         return path
 
-    def build(self, makefile: str, records: list, sources: list[str]) -> None:
+    def build(self, makefile: str, records: Sequence[Sequence[object]], sources: list[str]) -> None:
         """Writes `makefile`, and footprints `B`, in which `/usr/` is fixed."""
         self.write("makefile", makefile)
         keys = ("target", "commands", "reads", "writes")

@@ -4,6 +4,7 @@ from __future__ import annotations
 
 import shutil
 import unittest
+from typing import Any
 
 from report import browser
 from report.project import ReportTest
@@ -29,7 +30,7 @@ SOURCES = ["src/main.c", "src/util.c", "src/m.c", "gen.in", LONG]
 OBJECTS = ["obj/main.o", "obj/util.o", "obj/a_module_with_quite_a_long_name.o"]
 
 
-def records() -> list:
+def records() -> list[tuple[str, list[str], list[str], list[str]]]:
     """What the recipes read and write."""
     link = f"cc -o prog {' '.join(OBJECTS)}"
     found = [
@@ -45,7 +46,7 @@ def records() -> list:
 class BrowserTest(ReportTest):
     """What a reader sees."""
 
-    def check(self, dark: bool) -> dict[int, dict]:
+    def check(self, dark: bool) -> dict[int, dict[str, Any]]:
         """Measures the page that is there, in which nothing may overlap or be cut off."""
         found = browser.measured(self.folder / "report.html", WIDTHS, dark)
         self.assertEqual(set(found), set(WIDTHS))

@@ -120,7 +120,7 @@ class KeepingTest(ScriptTest):
 
     def assert_made_as_clean(self, *words: str, **more: str) -> None:
         """Runs the script, after which each file is as a build from nothing leaves it."""
-        self.made(words=words, **more)
+        self.made(0, words, **more)
         clean = self.folder.with_name("clean")
         shutil.rmtree(clean, ignore_errors=True)
         self.command("git", "add", "-A", "--", "*.mk", *self.tracked)
@@ -165,8 +165,8 @@ class KeepingTest(ScriptTest):
         self.write("makefile", "a.txt: gen.sh\n\tsh gen.sh\n")
         self.tracked = ("gen.sh",)
         self.command("git", "add", "gen.sh")
-        for words in (["MODE=one"], [], ["MODE=one"]):
-            self.assert_made_as_clean(*words)
+        for word in ("MODE=one", "", "MODE=one"):
+            self.assert_made_as_clean(*filter(None, [word]))
 
     def test_another_makefile(self) -> None:
         """The one that was given includes the one that isn't, and has more rules."""
@@ -185,8 +185,8 @@ class KeepingTest(ScriptTest):
         self.write("makefile", "a.txt: gen.sh\n\tsh gen.sh\n")
         self.tracked = ("gen.sh",)
         self.command("git", "add", "gen.sh")
-        for words in (["-r"], [], ["-r"]):
-            self.assert_made_as_clean(*words)
+        for word in ("-r", "", "-r"):
+            self.assert_made_as_clean(*filter(None, [word]))
 
     def test_goals_that_are_not_given_any_more(self) -> None:
         """What only the goals of before made is made anew when they come back."""

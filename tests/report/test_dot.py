@@ -7,6 +7,7 @@ import resource
 import shutil
 import subprocess
 import unittest
+from typing import Any
 
 from report.project import ReportTest
 
@@ -29,7 +30,7 @@ RECORDS = [
 class DotTest(ReportTest):
     """What `--dot` writes."""
 
-    def graph(self, *words: str) -> tuple[dict[str, str], set, set]:
+    def graph(self, *words: str) -> tuple[dict[str, str], set[Any], set[Any]]:
         """The classes of the nodes by their labels, the edges with labels, and the red ones."""
         outcome = self.report("--dot", *words)
         self.assertEqual((outcome.status, outcome.errors), (0, ""))

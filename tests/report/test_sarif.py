@@ -5,6 +5,7 @@ from __future__ import annotations
 import json
 import subprocess
 import unittest.mock
+from typing import Any
 
 from mkcheck_tools import VERSION
 from mkcheck_tools.report import sarif
@@ -16,20 +17,20 @@ from report.schema import wrong_parts
 class SarifTest(ReportTest):
     """What `--sarif` writes."""
 
-    def sarif(self, status: int, *words: str) -> dict:
+    def sarif(self, status: int, *words: str) -> dict[str, Any]:
         """The run of a log, which is as the schema has it."""
         outcome = self.report("--sarif", *words)
         self.assertEqual(outcome.status, status, outcome.errors)
         log = json.loads(outcome.output)
         self.assertEqual(wrong_parts(log), [])
-        run = log["runs"][0]
+        run: dict[str, Any] = log["runs"][0]
         rules = run["tool"]["driver"]["rules"]
         for result in run["results"]:
             self.assertEqual(rules[result["ruleIndex"]]["id"], result["ruleId"])
         return run
 
     @staticmethod
-    def line_of(location: dict) -> tuple[str, int]:
+    def line_of(location: dict[str, Any]) -> tuple[str, int]:
         """File and line of a location."""
         place = location["physicalLocation"]
         return place["artifactLocation"]["uri"], place["region"]["startLine"]
@@ -146,7 +147,7 @@ class SchemaTest(ReportTest):
         self.assertEqual(wrong_parts({"text": "a", "more": 1}, "message"), ["log has more"])
 
 
-def changed(text: str, replacements: list[dict]) -> str:
+def changed(text: str, replacements: list[dict[str, Any]]) -> str:
     """A text after replacements."""
     for one in replacements:
         region = one["deletedRegion"]

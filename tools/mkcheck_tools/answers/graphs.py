@@ -6,14 +6,15 @@ import functools
 import hashlib
 from collections import deque
 from collections.abc import Iterable
-from dataclasses import dataclass, field
+from dataclasses import dataclass, field, replace
 
 PREFIXES = "@-+ \t"
 
 
 @dataclass(frozen=True)
 class Command:
-    """A command as make runs it: without its prefixes, its failure ignored or not."""
+    """A command as make runs it: without its prefixes, its failure ignored or not. A `strict` one
+    ends at the first part of it that fails."""
 
     text: str
     ignored: bool
@@ -24,30 +25,36 @@ class Command:
     def of(cls, line: str, shell: str = "/bin/sh", strict: bool = False) -> Command:
         """The command that a line of a recipe gives."""
         text = line.lstrip(PREFIXES)
-        return cls(text, "-" in line[: len(line) - len(text)], shell, strict)
+        ignored = "-" in line[: len(line) - len(text)]
+        return cls(text, ignored, shell, strict and not ignored)
 
     @property
     def words(self) -> list[str]:
         """The words by which the shell is started, which may have words of its own."""
-        stops = self.strict and not self.ignored
-        return [*self.shell.split(), "-ec" if stops else "-c", self.text]
+        return [*self.shell.split(), "-ec" if self.strict else "-c", self.text]
 
 
 @dataclass(frozen=True)
 class Recipe:
     """A target with its lines as mkcheck shows them, and the shell that runs them. A `strict` one
-    ends a command at the first part of it that fails."""
+    ends a command at the first part of it that fails. One that is `ignoring` goes on with the next
+    command, as `.IGNORE` has it."""
 
     target: str
     lines: list[str] = field(default_factory=list)
     shell: str = "/bin/sh"
     strict: bool = False
+    ignoring: bool = False
 
     @property
     def commands(self) -> list[Command]:
         """What is to be run: lines of prefixes alone are passed over."""
         commands = (Command.of(line, self.shell, self.strict) for line in self.lines)
-        return [command for command in commands if command.text.strip()]
+        return [
+            replace(command, ignored=command.ignored or self.ignoring)
+            for command in commands
+            if command.text.strip()
+        ]
 
 
 @dataclass(frozen=True)

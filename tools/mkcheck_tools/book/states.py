@@ -23,7 +23,7 @@ from mkcheck_tools.replay.worlds import Effects, Trial
 from mkcheck_tools.run.folders import is_own, is_plain_path
 from mkcheck_tools.run.paths import Name
 
-FORMAT = 6
+FORMAT = 7
 DIGEST = re.compile(r"[0-9a-f]{64}")
 VERSIONS = (FILE, LINK, FOLDER, THERE, "pipe", "socket", "device")
 
@@ -176,6 +176,7 @@ class Writer:
             "commands": own.recipe.lines,
             "shell": own.recipe.shell,
             "strict": own.recipe.strict,
+            "ignoring": own.recipe.ignoring,
             "reads": own.reads,
             "writes": own.writes,
             "scratch": sorted(own.scratch),
@@ -254,6 +255,7 @@ class Reader:
             texts(entry["commands"]),
             text(entry["shell"]),
             entry["strict"] is True,
+            entry["ignoring"] is True,
         )
         footprint = Footprint(
             recipe,

@@ -1,13 +1,15 @@
 """What the texts of a makefile say that mkcheck doesn't tell: rules with their commands as written,
-whether `.POSIX` is a target, and a byte order mark at the beginning."""
+whether `.POSIX` is a target, for which targets `.IGNORE` stands, and a byte order mark at the
+beginning."""
 
 from __future__ import annotations
 
 import os
 import re
 from collections.abc import Iterator, Sequence
-from dataclasses import dataclass
+from dataclasses import dataclass, replace
 
+from mkcheck_tools.answers.graphs import Graph
 from mkcheck_tools.faults import Fault
 from mkcheck_tools.gnu.flags import ends_early
 from mkcheck_tools.gnu.macros import Prober
@@ -19,6 +21,7 @@ ASSIGNMENT = re.compile(r"\s*([^\s:=#+?!]+)\s*(?:[+?!]|:{1,3})?=(.*)", re.DOTALL
 # What stands in front of the colon of a rule; a colon in a reference is none.
 FRONT = re.compile(r"(?:\$\([^()]*\)|\$\{[^{}]*\}|\$.|[^:$])*(?=:)", re.DOTALL)
 STRICT = ".POSIX"
+IGNORING = ".IGNORE"
 
 
 @dataclass(frozen=True)
@@ -144,3 +147,15 @@ def is_strict(flags: str, text: Text) -> bool:
     if flags:
         return ends_early(flags)
     return any(STRICT in rule.targets for rule in text.rules)
+
+
+def ignoring(graph: Graph, text: Text) -> Graph:
+    """The graph, where recipes go on after a command that fails: those of the prerequisites of
+    `.IGNORE`, or all if it has none."""
+    found = [rule.prerequisites for rule in text.rules if IGNORING in rule.targets]
+    names = {name for needs in found for name in needs}
+    is_for_all = any(not needs for needs in found)
+    recipes = [
+        replace(recipe, ignoring=is_for_all or recipe.target in names) for recipe in graph.recipes
+    ]
+    return replace(graph, recipes=recipes)

@@ -252,7 +252,8 @@ def basis_of(recipe: Recipe | None) -> str:
         return ""
     own = recipe.footprint.recipe
     looks = sorted((name, entry_of(version)) for name, version in recipe.looks.items())
-    return digest_of_value([own.lines, own.shell, own.strict, looks, sorted(recipe.lists.items())])
+    how = [own.lines, own.shell, own.strict, own.ignoring]
+    return digest_of_value([*how, looks, sorted(recipe.lists.items())])
 
 
 def digest_of_value(value: object) -> str:

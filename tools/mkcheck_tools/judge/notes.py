@@ -28,6 +28,7 @@ class Kind(Enum):
     ENDS_EARLY = ("ends-early", HINT, "a recipe fails where the shell is started by `-e`")
     ENVIRONMENT = ("environment", DOUBT, "make takes a macro or an option from the environment")
     FLAGS = ("flags", DOUBT, "the makefile gives make options, or makes it read otherwise")
+    FOLDER_SIZE = ("folder-size", DOUBT, "a recipe goes by the sizes of folders")
     FOLDER_STAMP = ("folder-stamp", DOUBT, "a recipe goes by the stamps of folders")
     GIT = ("git", HINT, "a recipe reads git's state, for which no prerequisite can stand")
     GOAL = ("goal", DOUBT, "GNU make may take another goal")
@@ -38,6 +39,7 @@ class Kind(Enum):
     LINKS = ("links", DOUBT, "a recipe goes by the number of names of a file that it reads")
     LISTING = ("listing", DOUBT, "a recipe goes by the order in which a folder has its names")
     LOCK = ("lock", HINT, "recipes lock a file that they write, which counts as any other file")
+    MACHINE = ("machine", DOUBT, "a recipe goes by the machine's name, processors or limits")
     MAKE = ("make", DOUBT, "make ran other commands, or used other files (`--make`)")
     MODE = ("mode", DOUBT, "a recipe gives a folder a mode that no footprint can say")
     MODULES = ("modules", DOUBT, "a recipe uses modules that Python keeps compiled")
@@ -62,6 +64,7 @@ class Kind(Enum):
         DOUBT,
         "a recipe writes other contents where the shell is started by `-e`",
     )
+    SOURCE_STAMPS = ("source-stamps", DOUBT, "a recipe compares the stamps of sources")
     STAMP = ("stamp", DOUBT, "a recipe gives a file an old stamp, or one of the future")
     STEM = ("stem", DOUBT, "`$*` is another one in GNU make")
     STOPPED = ("stopped", HINT, "after a make that was stopped, outputs may have to be removed")

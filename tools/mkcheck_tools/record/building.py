@@ -26,6 +26,7 @@ from mkcheck_tools.gnu.remade import warn_of_goal, warn_of_remade
 from mkcheck_tools.gnu.searched import warn_of_searched, why_not_found
 from mkcheck_tools.gnu.stems import warn_of_stem
 from mkcheck_tools.gnu.texts import (
+    ignoring,
     is_strict,
     names_of_texts,
     plainly_included,
@@ -96,6 +97,7 @@ def build_of(request: Request, scratch: RealPath, warn: Warn) -> Build:
     text_of_makefile = text_of(prober)
     (flags,) = prober.values(".SHELLFLAGS")
     graph = with_shell(graph, prober, is_strict(flags, text_of_makefile), warn)
+    graph = ignoring(graph, text_of_makefile)
     refuse_absent_compiler(graph)
     warn_of_stem(graph, prober, text_of_makefile, warn)
     warn_of_makes(graph, prober, choice.operands, warn)

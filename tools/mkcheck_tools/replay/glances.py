@@ -54,15 +54,16 @@ class Glances:
 
         An edit makes a file the newest one, and edits of others leave it the oldest one. What is
         always made before another file is never newer, so it isn't made the newest one, and what is
-        made from another file isn't made the oldest one. The files are very large, empty, and as
-        they are.
+        made from another file isn't made the oldest one. The files are as they are, empty, and
+        very large.
         """
         ancestors, target = self.runner.layout.ancestors, trial.recipe.target
         made, given = self.runner.layout.world.glanced(trial)
         needed = {name: given[name] for name in given if ancestors.any_before((name,), target)}
         others = {name: version for name, version in given.items() if name not in needed}
         counted: dict[Name, Version] = {}
-        for newest, size in ((True, LARGE), (False, EMPTY), (True, AS_IT_IS)):
+        # The large ones come last: a recipe that reads one takes long.
+        for newest, size in ((True, AS_IT_IS), (False, EMPTY), (True, LARGE)):
             while True:
                 open_ones = without({**made, **needed}, counted)
                 if self.varied(trial, counted, {**open_ones, **others}, newest, size).passed:
@@ -124,7 +125,9 @@ class Glances:
         stamps = [os.lstat(path).st_mtime_ns for path in paths]
         stamps += [full.stamp for name, _, full in found if name in bound]
         oldest = min(stamps, default=time.time_ns())
-        early, late = (stamp - APART * len(found) for stamp in (oldest, time.time_ns()))
+        # A source may have a stamp of the future.
+        newest = max([*(stamp + APART * (len(found) + 1) for stamp in stamps), time.time_ns()])
+        early, late = (stamp - APART * len(found) for stamp in (oldest, newest))
         with contextlib.suppress(OSError):
             for name in others:
                 os.makedirs(os.path.dirname(real_in(place.folder, name)), exist_ok=True)

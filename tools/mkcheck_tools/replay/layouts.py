@@ -239,21 +239,34 @@ class Layout:
                 self.lay(name, version, folder, {})
         return stamps_of(trial, folder)
 
-    def reorder(self, trial: Trial, folder: RealPath, order: str) -> bool:
-        """Gives the files that a recipe reads other stamps; tells whether it gave some."""
+    def reorder(
+        self, trial: Trial, folder: RealPath, order: str, among: str = orders.KEPT
+    ) -> bool:
+        """Gives the files that a recipe reads other stamps, and lets sources lie so `among`
+        themselves; tells whether it gave some."""
         stamps: dict[Name, int] = {}
-        for name in trial.before:
+        for name, version in trial.before.items():
             with contextlib.suppress(OSError):
                 status = os.lstat(real_in(folder, name))
                 if stat.S_ISREG(status.st_mode) and status.st_nlink == 1:
-                    stamps[name] = status.st_mtime_ns
+                    is_given = version == GIVEN
+                    stamps[name] = self.world.stamp(name) if is_given else version.stamp
         new = made_since(self.world, trial, time.time_ns())
         made = {name: self.writers.get(name, ()) for name in new if name in stamps}
-        sources = [name for name in stamps if trial.before[name] == GIVEN]
-        others = orders.with_order(order, stamps, made, sources, self.ancestors)
-        for name, stamp in others.items():
-            os.utime(real_in(folder, name), ns=(stamp, stamp))
-        return bool(others)
+        given = {name: stamps[name] for name in stamps if trial.before[name] == GIVEN}
+        last = max(given.values(), default=0)
+        is_before = all(last < stamps[name] for name in made)
+        if len(given) + len(made) == len(stamps) and is_before:
+            given = orders.among_themselves(given, among)
+        found = {**stamps, **given}
+        found.update(orders.with_order(order, found, made, list(given), self.ancestors))
+        changed = False
+        for name, stamp in found.items():
+            path = real_in(folder, name)
+            if os.lstat(path).st_mtime_ns != stamp:
+                os.utime(path, ns=(stamp, stamp))
+                changed = True
+        return changed
 
     def close(self, trial: Trial, folder: RealPath) -> None:
         """Gives folders the modes that they had before the recipe gave them others."""

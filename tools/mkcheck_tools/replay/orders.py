@@ -2,8 +2,9 @@
 
 A file that a recipe makes is newer than what its target needs. All else may be older or newer than
 it: another recipe made it sooner or later, or an edit came behind. Sources keep the order that they
-have among themselves, since a clean build finds the same one. Files to which recipes gave stamps
-keep these, and then sources do, too.
+have among themselves, since a clean build finds the same one; but amid other surroundings they have
+another one, as a copy of the project may have. Files to which recipes gave stamps keep these, and
+then sources do, too.
 """
 
 from __future__ import annotations
@@ -17,7 +18,12 @@ from mkcheck_tools.run.paths import Name
 # Which stamps a recipe finds: those of the recording; the same ones in another order, of all files
 # or of made ones alone; or of sources earlier ones, in the same order.
 OLD, OTHER, OTHER_OF_MADE, EARLIER = "old", "other", "other of made", "earlier"
+# How sources lie among themselves: as in the recording; the other way round; or as in the
+# recording, where no two have nearly the same stamp.
+KEPT, BACK, APART = "kept", "back", "apart"
 DAY = 86_400_000_000_000
+# Programs may compare whole seconds, and archives of zip have every other one.
+LEAST_APART = 2_000_000_000
 
 
 def with_order(
@@ -30,13 +36,25 @@ def with_order(
     """The new stamps of those files that get some. `made` has for each file that recipes made, and
     whose stamp they didn't choose, their targets."""
     moved = sources if len(sources) + len(made) == len(stamps) else ()
-    if order == OLD or not made:
-        return {}
     if order == EARLIER:
         return {name: stamps[name] - DAY for name in moved}
+    if order == OLD or not made:
+        return {}
     names = [*made, *(moved if order == OTHER else ())]
     found = in_other_order({name: stamps[name] for name in names}, made, ancestors)
     return {name: stamp for name, stamp in found.items() if stamp != stamps[name]}
+
+
+def among_themselves(stamps: Mapping[Name, int], way: str) -> dict[Name, int]:
+    """The stamps of sources, where these lie so among themselves. None gets a later one than the
+    newest has."""
+    names = sorted(stamps, key=lambda name: (stamps[name], name))
+    found = [stamps[name] for name in names]
+    if way == KEPT:
+        return dict(stamps)
+    for place in reversed(range(len(found) - 1)):
+        found[place] = min(found[place], found[place + 1] - LEAST_APART)
+    return dict(zip(reversed(names) if way == BACK else names, found))
 
 
 def in_other_order(

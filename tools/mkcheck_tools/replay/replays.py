@@ -7,6 +7,7 @@ Three runs, and for some recipes more, each in a folder that appears at the proj
 - *damaged*: the same, but its outputs hold other bytes and have the newest stamps.
 - *looked*: where the recipe looked at files that it didn't read. The folder of the bare run, with
   these files in other sizes, and with newer stamps in another order.
+- *drawn*: where Python, Perl or the like ran. A few bare runs, each with another order of hashes.
 - *late*: where there are late files. The folder of the bare run, with a short file for each late
   one. Traced, since it tells which of them the recipe uses.
 
@@ -34,6 +35,8 @@ from mkcheck_tools.faults import FULL, Fault, mistake_of
 from mkcheck_tools.judge.late import Late, Met, folders_of
 from mkcheck_tools.replay import orders
 from mkcheck_tools.replay.alike import groups_of, way_of
+from mkcheck_tools.replay.disks import Bare, may_go_by_disk
+from mkcheck_tools.replay.draws import Draws, is_drawing
 from mkcheck_tools.replay.glances import Glances
 from mkcheck_tools.replay.halves import Halves, size_of_target, watch
 from mkcheck_tools.replay.layouts import Layout
@@ -42,6 +45,7 @@ from mkcheck_tools.replay.meetings import Meetings, Turns
 from mkcheck_tools.replay.remains import others_remains
 from mkcheck_tools.replay.runs import (
     BARE,
+    DRAWN,
     HANDED,
     ORDERED,
     VARIED,
@@ -60,8 +64,11 @@ from mkcheck_tools.replay.surroundings import (
     FLAGS,
     FOLDERS,
     JOBS,
-    STALE,
     LISTING,
+    MACHINE,
+    MEMORY,
+    SOURCES,
+    STALE,
     Surroundings,
     all_others,
 )
@@ -77,7 +84,7 @@ from mkcheck_tools.trace.accesses import Accesses, Follower
 from mkcheck_tools.trace.trees import Tree
 
 # What most recipes go by that do something else amid other surroundings.
-LIKELY = (FLAGS, CLOCK, FOLDERS, EARLIER, STALE)
+LIKELY = (FLAGS, CLOCK, FOLDERS, SOURCES, MACHINE, EARLIER, STALE)
 # How many replays there are for each processor. Most wait for the clock, which takes none.
 WAITING = 4
 # Of at most this many other recipes each is tried alone, which left what a recipe uses.
@@ -458,13 +465,21 @@ class Replay:
 
     def replay(self, trial: Trial, number: int, folders: frozenset[Name]) -> Outcome:
         """Replays one recipe, with these further folders: in memory, where there is room, and
-        elsewhere if it needs what memory doesn't have."""
-        outcome = None
+        elsewhere if it needs what memory doesn't have, or may go by what only a disk has."""
+        outcome, by_disk = None, False
         with self.in_memory(trial, str(number)) as place:
             if place is not None:
                 outcome = self.replay_in_memory(trial, place, folders)
+                if outcome is not None and may_go_by_disk(outcome):
+                    *_, seen = self.seen_by(trial)
+                    tried = self.stamped(trial.with_reads(seen))
+                    by_disk = not Bare(self.runner, place, folders).goes_by_order(tried)
         if outcome is None:
             outcome = self.replay_at(trial, self.place_of(number), folders)
+        elif by_disk:
+            found = self.replay_at(trial, self.place_of(number), folders)
+            if found.passed:
+                outcome = replace(found, amid={**found.amid, MEMORY: outcome})
         return replace(outcome, given=folders)
 
     @contextlib.contextmanager
@@ -511,8 +526,13 @@ class Replay:
             late = self.late.get(trial.recipe.target, ())
             failed: list[Outcome] = []
             sets = list(self.seen_by(trial))
+            drawn = None if is_drawing(trial) else Outcome(trial)
             for seen in sets:
                 tried = self.stamped(trial.with_reads(seen))
+                if drawn is None:
+                    drawn = Draws(Bare(self.runner, place, folders)).shown(tried)
+                    if drawn is not None and drawn.run == DRAWN:
+                        return replace(drawn, trial=trial, laid=len(seen))
                 outcome = None if seen or folders else self.at_once(tried, place)
                 outcome = outcome or self.tried(tried, place, folders)
                 if outcome.run != BARE:
@@ -531,6 +551,8 @@ class Replay:
                         beside = self.beside(tried, place, late)
                         met = replace(met, read=beside.read, taken=beside.taken)
                         remove(folder)
+                    if outcome.passed and drawn is not None and not drawn.passed:
+                        outcome = drawn
                     outcome = replace(outcome, trial=trial, met=met)
                     if not outcome.passed or not self.failing:
                         return outcome
@@ -581,20 +603,33 @@ class Replay:
         if not found.passed:
             return found
         found = replace(found, clears=outcome.clears)
+        stores = not bench.tried(orders.EARLIER).passed
+        if stores:
+            # What stores the stamps of sources is another one in any other order of these.
+            others = Surroundings(others.others - {SOURCES})
+            outcome = bench.tried(orders.OTHER, others)
+            if outcome.passed:
+                return outcome
         kind = next((one for one in LIKELY if bench.without(one, others).passed), None)
         if kind is not None:
-            return self.found_amid(bench, found, {kind: (outcome, others)})
+            shown = {kind: (outcome, others)}
+            if outcome.failed:
+                # Amid this kind alone it may leave something else, which no user sees.
+                amid = Surroundings(frozenset({kind}))
+                alone = bench.tried(orders.OLD, amid)
+                shown = shown if alone.passed else {kind: (alone, amid)}
+            return self.found_amid(bench, found, shown)
         stamped = bench.tried(orders.OTHER)
         if not stamped.passed:
-            ordered = stamped if bench.tried(orders.EARLIER).passed else bench.ordered()
+            ordered = bench.ordered() if stores else stamped
             if not ordered.passed:
                 return replace(ordered, run=ORDERED)
-        shown: dict[str, tuple[Outcome, Surroundings]] = {}
+        shown = {}
         for one in others:
             amid = Surroundings(frozenset({one}))
-            outcome_amid = bench.tried(orders.OLD, amid)
-            if not outcome_amid.passed:
-                shown[one] = (outcome_amid, amid)
+            alone = bench.tried(orders.OLD, amid)
+            if not alone.passed:
+                shown[one] = (alone, amid)
         if shown or not stamped.passed:
             return self.found_amid(bench, found, shown)
         return replace(outcome, run=VARIED)

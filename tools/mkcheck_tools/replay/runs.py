@@ -14,6 +14,7 @@ from mkcheck_tools.faults import Fault
 from mkcheck_tools.judge.late import Met
 from mkcheck_tools.replay.differences import Comparison, Difference, is_file, only_touched
 from mkcheck_tools.replay.layouts import Layout, aged, damage
+from mkcheck_tools.replay.orders import APART, BACK
 from mkcheck_tools.replay.remains import others_remains, own_remains, with_alike
 from mkcheck_tools.replay.surroundings import (
     AS_RECORDED,
@@ -38,6 +39,8 @@ from mkcheck_tools.trace.tracing import Watch, failing, read_trace, strace
 BARE, AGAIN, DAMAGED, LOOKED, ORDERED = "bare", "again", "damaged", "looked", "ordered"
 # A run amid other surroundings, of which no kind alone shows anything; those of make -j2.
 VARIED, HANDED = "varied", "handed"
+# A bare run with another order of hashes.
+DRAWN = "drawn"
 # A replay is stopped after LEAST_SECONDS and TIMES_AS_LONG times the seconds of the recording.
 LEAST_SECONDS = 60.0
 TIMES_AS_LONG = 20.0
@@ -184,9 +187,8 @@ class Runner:
         ]
         if not outputs:
             return outcome
-        laid = self.layout.restore(trial, place.folder)
-        if self.layout.reorder(trial, place.folder, order):
-            laid = stamps_of(trial, place.folder)
+        self.layout.restore(trial, place.folder)
+        laid = self.reordered(trial, place, order, amid.among(BACK))
         found = self.again(trial, place, laid, outputs, amid)
         if not found.passed:
             return found
@@ -194,7 +196,8 @@ class Runner:
         damaged = [name for name in outputs if is_file(trial.after[name])]
         if not damaged:
             return outcome
-        laid = self.layout.restore(trial, place.folder)
+        self.layout.restore(trial, place.folder)
+        laid = self.reordered(trial, place, order, amid.among(APART))
         found = self.damaged(trial, place, laid, damaged)
         if found.failed:
             return replace(outcome, warning=found.failed)
@@ -207,14 +210,14 @@ class Runner:
         are one, which comes first. None where that one shows something: then each has to be run by
         itself. The other one isn't made where it passed `ahead`."""
         wait_for_clock(trial)
-        self.layout.reorder(trial, place.folder, order)
-        laid = stamps_of(trial, place.folder)
+        laid = self.reordered(trial, place, order, amid.among(APART))
         outputs = list(trial.writes)
         if not self.damaged(trial, place, laid, outputs).passed:
             return None
         outcome = Outcome(trial, folders=folders_in(place))
         if ahead:
             return outcome
+        laid = self.reordered(trial, place, order, amid.among(BACK))
         found = self.again(trial, place, laid, outputs, amid)
         return outcome if found.passed else found
 
@@ -232,8 +235,7 @@ class Runner:
         the same amid both doesn't go by them, nor by the clock.
         """
         wait_for_clock(trial)
-        self.layout.reorder(trial, place.folder, order)
-        laid = stamps_of(trial, place.folder)
+        laid = self.reordered(trial, place, order, amid.among(BACK))
         found = self.damaged(trial, place, laid, list(trial.writes), amid)
         return Outcome(trial, folders=folders_in(place), lean=True) if found.passed else None
 
@@ -250,11 +252,18 @@ class Runner:
         """
         if CLOCK not in amid:
             return False
-        self.layout.reorder(trial, place.folder, order)
-        laid = stamps_of(trial, place.folder)
+        laid = self.reordered(trial, place, order, amid.among(BACK))
         for name in trial.writes:
             self.layout.lay_output(trial, name, place.folder)
         return self.again(trial, place, laid, list(trial.writes), amid).passed
+
+    def reordered(
+        self, trial: Trial, place: Place, order: str, among: str
+    ) -> dict[Name, tuple[int, ...]]:
+        """Gives the files that a recipe reads their stamps in this order, and sources among
+        themselves in that one. Returns what tells later whether the recipe changed them."""
+        self.layout.reorder(trial, place.folder, order, among)
+        return stamps_of(trial, place.folder)
 
     def again(
         self,
@@ -393,7 +402,8 @@ class Runner:
                 words = [*strace(Watch(looking=followed.looking)), inner, *words]
             with amid.input() as source:
                 given = amid.environment(self.environment, source)
-                ended = places.run(words, place, given, max(0.0, until - time.monotonic()), source)
+                left = max(0.0, until - time.monotonic())
+                ended = places.run(words, amid.place(place), given, left, source)
             if CLOCK in amid:
                 clear(ended.process)
             if followed is not None:

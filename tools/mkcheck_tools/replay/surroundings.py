@@ -1,6 +1,7 @@
 """What a recipe finds besides its files when it runs again: shell options, variables that make
-sets, the time, standard input, a terminal, stamps of folders, second names of the files that it
-reads, and files that it or another one may have left before an edit.
+sets, the machine, the time, standard input, a terminal, stamps of folders, the order of those of
+sources, second names of the files that it reads, and files that it or another one may have left
+before an edit.
 
 The recording has one of each. Where the outputs are there already, the recipe runs amid all others
 at once, which takes no run of its own. Where that run shows something, each is tried alone.
@@ -19,15 +20,21 @@ from collections.abc import Iterator, Mapping, Sequence
 from dataclasses import dataclass
 
 from mkcheck_tools.answers.graphs import Command
+from mkcheck_tools.replay.orders import KEPT
 from mkcheck_tools.replay.worlds import OTHER_BYTES
+from mkcheck_tools.run.machines import elsewhere
+from mkcheck_tools.run.places import Place
 from mkcheck_tools.run.terminals import Terminal, has_terminals, terminal
 
 FLAGS, JOBS, CLOCK, INPUT = "flags", "jobs", "clock", "input"
-NAMES, FOLDERS, TERMINAL = "names", "folders", "terminal"
+NAMES, FOLDERS, TERMINAL, SOURCES = "names", "folders", "terminal", "sources"
+MACHINE = "machine"
 # A file that the recipe, or another one, may have left before an edit of what it is made from.
 EARLIER, STALE = "earlier", "stale"
-# A run of its own: folders list their names the other way round.
-LISTING = "listing"
+# Runs of their own: folders list their names the other way round, or lie in memory.
+LISTING, MEMORY = "listing", "memory"
+# Variables by which Python and Perl take an order of sets and hashes, and don't draw one.
+SEEDS = ("PYTHONHASHSEED", "PERL_HASH_SEED")
 # What GNU make 4 gives to recipes where it has two jobs.
 OF_JOBS = {"MAKEFLAGS": " -j2 --jobserver-auth=3,4", "MAKELEVEL": "1"}
 # What GNU make 4 gives to recipes where its output goes to a terminal, by the name of that.
@@ -50,10 +57,12 @@ CLOSE = 3600
 @dataclass(frozen=True)
 class Surroundings:
     """What a run has other than the recording: kinds of those above. `makers` are the targets whose
-    recipes left something before an edit; None for all."""
+    recipes left something before an edit; None for all. `seed` chooses an order of hashes; where it
+    is None, each program draws one."""
 
     others: frozenset[str] = frozenset()
     makers: frozenset[str] | None = None
+    seed: int | None = None
 
     def __contains__(self, kind: str) -> bool:
         return kind in self.others
@@ -74,6 +83,8 @@ class Surroundings:
         """The variables of a run with this input. Macro operands stay in MAKEFLAGS."""
         if isinstance(source, Terminal):
             given = {**given, **dict.fromkeys(OF_TERMINAL, source.name)}
+        if self.seed is not None:
+            given = {**dict.fromkeys(SEEDS, str(self.seed)), **given}
         if JOBS not in self.others:
             return dict(given)
         operands = given.get("MAKEFLAGS", "")
@@ -94,6 +105,14 @@ class Surroundings:
                 file.write(given)
                 file.seek(0)
                 yield file.fileno()
+
+    def place(self, place: Place) -> Place:
+        """Where a command runs amid them."""
+        return elsewhere(place) if MACHINE in self.others and place.is_bound else place
+
+    def among(self, way: str) -> str:
+        """How sources lie among themselves by their stamps, where these may come in this way."""
+        return way if SOURCES in self.others else KEPT
 
     def name_again(self, folder: str, names: Sequence[str]) -> None:
         """Gives files second names beside the folder, which the recipe doesn't see."""
@@ -159,11 +178,11 @@ def clear(process: int) -> None:
 def all_others(strict: bool, bound: bool) -> Surroundings:
     """All other surroundings that there can be. Under `.POSIX` make starts shells by `-e` in any
     case. Where the folder of a run isn't `bound`, nothing may be beside it."""
-    found = {JOBS, INPUT, FOLDERS, EARLIER, STALE}
+    found = {JOBS, INPUT, FOLDERS, EARLIER, STALE, SOURCES}
     if not strict:
         found.add(FLAGS)
     if bound:
-        found.add(NAMES)
+        found.update({NAMES, MACHINE})
     if library() is not None:
         found.add(CLOCK)
     if has_terminals():

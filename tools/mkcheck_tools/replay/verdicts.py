@@ -19,6 +19,7 @@ from mkcheck_tools.replay.runs import (
     AGAIN,
     BARE,
     DAMAGED,
+    DRAWN,
     HANDED,
     LOOKED,
     ORDERED,
@@ -32,7 +33,10 @@ from mkcheck_tools.replay.surroundings import (
     FOLDERS,
     INPUT,
     LISTING,
+    MACHINE,
+    MEMORY,
     NAMES,
+    SOURCES,
     TERMINAL,
 )
 from mkcheck_tools.replay.worlds import GIVEN, Trial
@@ -45,6 +49,7 @@ SETTINGS = {
     BARE: "in a folder that holds only what it is recorded to read",
     AGAIN: "where its own outputs are already there",
     DAMAGED: "where its outputs are there with other bytes and later stamps",
+    DRAWN: "where sets and hashes have another order",
     LOOKED: "where the files at which it only looks have other sizes and stamps",
     ORDERED: "where the files that it reads have their stamps in another order",
     VARIED: "where its own outputs are already there, at another time and amid other variables",
@@ -81,9 +86,26 @@ AMID = {
         "where folders list their names the other way round, as on another file system",
         "let it sort them",
     ),
+    MACHINE: (
+        Kind.MACHINE,
+        "on a machine with another name, a processor less, and another limit of open files",
+        "no make notices when that changes; let it take what it needs from a file",
+    ),
+    MEMORY: (
+        Kind.FOLDER_SIZE,
+        "in memory, where folders have other sizes and blocks than on a disk",
+        "a folder that had more files once, or lies on another disk, has others too, so let it go"
+        " by its files alone",
+    ),
     NAMES: (
         Kind.LINKS,
         "where the files that it reads have second names, as hard links are",
+        "let it go by what the files hold",
+    ),
+    SOURCES: (
+        Kind.SOURCE_STAMPS,
+        "where the sources that it reads have their stamps in another order, as in another copy of"
+        " the project",
         "let it go by what the files hold",
     ),
     TERMINAL: (
@@ -96,7 +118,8 @@ LAID = " or to look at"
 MEANINGS = {
     BARE: (
         "nothing for which it looked was missing in that run, so it depends on something else, such"
-        " as the time, a random name, a process number or the order of the names in a folder"
+        " as the time, a random name, a process number, or the size of a folder or the order of the"
+        " names in it"
     ),
     AGAIN: (
         "what it leaves depends on what was left before, so each make after the first may leave"
@@ -106,6 +129,7 @@ MEANINGS = {
         "what it leaves depends on what was left before, so a make after a stop may leave other"
         " files"
     ),
+    DRAWN: "it depends on the order of a set or hash, which each run draws anew",
     LOOKED: "it depends on the size, the stamp or the names of a file that it doesn't read",
     ORDERED: (
         "it compares stamps of files that recipes make, whose order is another one after an edit,"
@@ -118,6 +142,7 @@ CURES = {
     BARE: "Take that out of the recipe",
     AGAIN: "Let the recipe begin with rm -f of its outputs, or write them anew",
     DAMAGED: "Let the recipe begin with rm -f of its outputs, or write them anew",
+    DRAWN: "Let the program sort what it goes over",
     LOOKED: "Let the recipe read that file, and its target need it",
     ORDERED: "Let the recipe go by what the files hold",
     VARIED: "Take that out of the recipe",

@@ -8,7 +8,7 @@ from collections.abc import Callable
 from pathlib import Path
 
 from mkcheck_tools.faults import Fault, sentence_of
-from mkcheck_tools.run.stopping import Stopped, catch_signals
+from mkcheck_tools.run.stopping import Stopped, catch_signals, pass_over_signals
 
 
 def write_text(text: str, path: str | None) -> None:
@@ -45,7 +45,10 @@ def ended(tool: str, called: str, work: Callable[[], int]) -> int:
     """Does the work of a tool, and gives its status. What ends it early is told in a sentence."""
     try:
         catch_signals()
-        return work()
+        status = work()
+        # All is done, so a signal has nothing more to end.
+        pass_over_signals()
+        return status
     except Exception as error:
         said = sentence_of(error, called)
         status = error.status if isinstance(error, Fault) else Fault.status

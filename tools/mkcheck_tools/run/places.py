@@ -22,7 +22,7 @@ import tempfile
 import threading
 import time
 from collections.abc import Iterable, Iterator, Mapping, Sequence
-from dataclasses import dataclass
+from dataclasses import dataclass, replace
 from pathlib import Path
 
 from mkcheck_tools.faults import Fault
@@ -214,6 +214,8 @@ class Place:
     Both are real paths. In one that is `shut` commands can write nowhere else, where the system
     allows that and the two paths differ; but for folders for temporary files and devices. Where the
     folder lies in another mount namespace, `way` leads there, and `inner` is its path there.
+    Commands of a bound place begin after further words (`enter`) and commands of the shell
+    (`first`).
     """
 
     folder: RealPath
@@ -221,6 +223,8 @@ class Place:
     shut: bool = False
     way: Namespace | None = None
     inner: str = ""
+    enter: tuple[str, ...] = ()
+    first: str = ""
 
     @property
     def is_bound(self) -> bool:
@@ -237,8 +241,9 @@ class Place:
                 f"the system allows no mount namespace, so {self.folder} can't appear at"
                 f" {self.seen}"
             )
-        front = shut() if self.shut else None
-        return way.words(self.inner or self.folder, self.seen, command, front or "")
+        way = replace(way, enter=(*way.enter, *self.enter))
+        front = self.first + ((shut() if self.shut else None) or "")
+        return way.words(self.inner or self.folder, self.seen, command, front)
 
     @classmethod
     def of(cls, folder: RealPath) -> Place:

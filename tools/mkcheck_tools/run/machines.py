@@ -1,0 +1,69 @@
+"""Another machine, as far as commands can be shown one: it has another name, a processor less, and
+allows one open file less."""
+
+from __future__ import annotations
+
+import functools
+import os
+import resource
+import shutil
+import subprocess
+from dataclasses import replace
+
+from mkcheck_tools.run.folders import temporary_folder
+from mkcheck_tools.run.paths import RealPath, SeenPath, real_in
+from mkcheck_tools.run.places import Place
+
+NAME = "mkcheck-record"
+RENAMING = (
+    f"{{ echo {NAME} > /proc/sys/kernel/hostname || hostname {NAME}; }} 2> /dev/null; "
+)
+
+
+def elsewhere(place: Place) -> Place:
+    """A bound place, on another machine."""
+    enter, first = processors_but_one(), limits()
+    if has_names():
+        enter, first = (*renamed(), *enter), RENAMING + first
+    return replace(place, enter=enter, first=first)
+
+
+def renamed() -> tuple[str, ...]:
+    """The words that start a command where the machine may get another name."""
+    return (shutil.which("unshare") or "unshare", "--uts", "--")
+
+
+@functools.cache
+def has_names() -> bool:
+    """Whether commands may find another name here."""
+    with temporary_folder() as scratch:
+        seen = SeenPath(os.path.realpath(scratch))
+        folder = real_in(RealPath(seen), "folder")
+        os.mkdir(folder)
+        place = Place(folder, seen, enter=renamed(), first=RENAMING)
+        done = subprocess.run(
+            place.words(["uname", "-n"]),
+            cwd=seen,
+            env={**os.environ, "PWD": str(seen)},
+            stdin=subprocess.DEVNULL,
+            capture_output=True,
+            text=True,
+            check=False,
+        )
+        return done.stdout.strip() == NAME
+
+
+@functools.cache
+def processors_but_one() -> tuple[str, ...]:
+    """The words that start a command on all processors but one; none where there is only one."""
+    program = shutil.which("taskset")
+    numbers = sorted(os.sched_getaffinity(0)) if hasattr(os, "sched_getaffinity") else []
+    if program is None or len(numbers) < 2:
+        return ()
+    return (program, "-c", ",".join(str(number) for number in numbers[1:]))
+
+
+def limits() -> str:
+    """The command of a shell that allows one open file less than here."""
+    most, _ = resource.getrlimit(resource.RLIMIT_NOFILE)
+    return f"ulimit -S -n {most - 1}; " if most > 1 else ""
