@@ -364,7 +364,8 @@ def shown(path: str) -> str:
 
 
 def warn_of_links(recipe: Recipe, accesses: Accesses, naming: Naming, warn: Warn) -> None:
-    """A file that is reached over a symbolic link in the folder is told with both names."""
+    """A file that is reached over a symbolic link in the folder is told with both names, unless the
+    makefile has that name alone."""
     tree = accesses.tree
     for alias in accesses.aliases.values():
         if (
@@ -375,6 +376,8 @@ def warn_of_links(recipe: Recipe, accesses: Accesses, naming: Naming, warn: Warn
                 naming.name_or_path(alias.name),
                 naming.name_or_path(alias.real),
             )
+            if naming.own.get(second) == first:
+                continue
             text = (
                 f"the recipe of {recipe.target} reaches {second} as {first} too, over a symbolic"
                 " link: to mkcheck these are two files, so let rules and recipes use one name"
