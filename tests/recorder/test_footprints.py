@@ -258,11 +258,31 @@ class ShellTest(ProjectTest):
         self.write({"makefile": "out: i/a.h\n\tcat i/a.h > out\n", "s/a.h": ""})
         (self.folder / "i").symlink_to("s")
         outcome = self.recorded()
-        self.assertEqual(outcome.own("out"), ({"s/a.h"}, {"out"}))
-        self.assertEqual(
-            outcome.warnings(),
-            [f"the recipe of out reaches s/a.h as i/a.h too, {LINKS}"],
-        )
+        self.assertEqual(outcome.own("out"), ({"i/a.h"}, {"out"}))
+        self.assertEqual(outcome.written["sources"], ["i/a.h"])
+        self.assertEqual(outcome.warnings(), [])
+        self.assertEqual(self.check()[1:], ["way out i/a.h source out"])
+
+    def test_links_of_the_project_that_lead_to_one_file(self) -> None:
+        for name, front in (("i", ""), ("j", "k/")):
+            (self.folder / name).symlink_to(f"{front}s")
+        (self.folder / "k").symlink_to(".")
+        for names, told in (
+            ("i/a.h s/a.h", "i/a.h"),
+            ("j/a.h", "j/a.h"),
+            ("k/i/a.h", "k/i/a.h"),
+        ):
+            self.write({"makefile": f"out: {names}\n\tcat {names} > out\n", "s/a.h": ""})
+            outcome = self.recorded()
+            self.assertEqual(outcome.own("out"), ({"s/a.h"}, {"out"}))
+            said = [f"the recipe of out reaches s/a.h as {told} too, {LINKS}"]
+            self.assertEqual(outcome.warnings(), said)
+
+    def test_a_link_of_the_project_that_a_recipe_makes_anew(self) -> None:
+        text = "all: out l\nout: i/a.h\n\tcat i/a.h > out\nl:\n\trm i; ln -s t i; touch l\n"
+        self.write({"makefile": text, "s/a.h": "", "t/a.h": ""})
+        (self.folder / "i").symlink_to("s")
+        self.assertEqual(self.recorded().own("out")[0], {"s/a.h"})
 
     def test_a_second_name_of_a_file(self) -> None:
         self.write({"makefile": "b: a\n\tln a b\n", "a": ""})

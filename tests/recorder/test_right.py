@@ -263,6 +263,25 @@ class LookTest(RightTest):
 
 @traced
 @namespaces
+class LinkTest(RightTest):
+    """Files that the makefile names over a symbolic link of the project."""
+
+    def test_a_link_to_a_folder(self) -> None:
+        (self.folder / "l").symlink_to("d")
+        files = {"makefile": "out: l/a l/b\n\tcat l/a l/b > out\n", "d/a": "1\n", "d/b": "2\n"}
+        outcome = self.yes(files, edits={"d/a": "3\n", "l/b": "4\n"})
+        self.assertEqual((outcome.own("out"), outcome.errors), (({"l/a", "l/b"}, {"out"}), ""))
+
+    def test_a_target_behind_a_link(self) -> None:
+        (self.folder / "d").mkdir()
+        (self.folder / "l").symlink_to("d")
+        text = "out: l/a b\n\tcat l/a b > out\nl/a: b\n\tcp b l/a\n"
+        outcome = self.yes({"makefile": text, "b": "1\n"}, edits={"b": "2\n"})
+        self.assertEqual(outcome.own("l/a"), ({"b"}, {"l/a"}))
+
+
+@traced
+@namespaces
 class IgnoreTest(RightTest):
     """Recipes that go on after an error, by `.IGNORE`."""
 

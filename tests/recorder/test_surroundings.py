@@ -7,12 +7,14 @@ import os
 import shutil
 import socket
 import subprocess
+import time
 import unittest
 from pathlib import Path
+from unittest import mock
 
 from mkcheck_tools.replay.surroundings import library
 from mkcheck_tools.run import places
-from mkcheck_tools.run.machines import has_names, processors_but_one
+from mkcheck_tools.run.machines import fewer_online, has_names, processors_but_one
 from mkcheck_tools.run.memory import memory
 from mkcheck_tools.run.paths import SeenPath
 from mkcheck_tools.run.terminals import has_terminals
@@ -128,6 +130,15 @@ class AmidTest(SurroundingsTest):
         for command in ("date +%H", "date +%A", "echo $$((`date +%s` / 86400))"):
             self.doubt(f"out: a\n\t{command} > out\n", "at another time of another day, writes out")
 
+    @unittest.skipUnless(shutil.which("bash"), "no bash")
+    def test_the_clock_of_bash(self) -> None:
+        for command in ("echo $$((EPOCHSECONDS / 864000))", "echo $${EPOCHSECONDS%?????}"):
+            text = f"SHELL = {shutil.which('bash')}\nout: a\n\t{command} > out; cat a >> out\n"
+            self.write({"makefile": text, "a": "1\n"})
+            told = [one for one in self.recorded().warnings() if "sets SHELL" not in one]
+            self.assertEqual(len(told), 1, told)
+            self.assertIn("the recipe of out asks for the time (", told[0])
+
     @faked
     def test_nothing_is_left_of_the_clock(self) -> None:
         self.write({"makefile": "out: a\n\tcat a > out\n", "a": ""})
@@ -218,7 +229,7 @@ class AmidTest(SurroundingsTest):
 class SourcesTest(SurroundingsTest):
     """Stamps of sources, which are others in another copy of the project."""
 
-    told = "where the sources that it reads have their stamps in another order"
+    told = "where the sources that it reads have other stamps in another order"
 
     def stamp(self, *stamps: float) -> None:
         """Gives `a` and `b` stamps."""
@@ -245,9 +256,19 @@ class SourcesTest(SurroundingsTest):
                 found.add(self.made())
             self.assertEqual(len(found), 2, (command, found))
 
+    def test_a_recipe_that_compares_one_with_that_of_a_file_elsewhere(self) -> None:
+        text = "out: a\n\tif test a -nt /usr/bin/env; then echo 1; fi > out; cat a >> out\n"
+        self.write({"makefile": text, **MANY})
+        for stamp in (1e9, 1.7e9, time.time()):
+            self.stamp(stamp)
+            (told,) = self.recorded().warnings()
+            self.assertIn(self.told, told)
+
+    @unittest.skipUnless(shutil.which("tar") and shutil.which("gzip"), "no tar or gzip")
     def test_a_recipe_that_stores_them(self) -> None:
         """It finds the same stamps in each clean build."""
         self.passes("out: a b\n\ttar cf out a b\n", MANY)
+        self.passes("out: a\n\tgzip -c a > out\n", MANY)
 
     def test_a_recipe_that_fails_in_another_order(self) -> None:
         """A user sees that."""
@@ -270,13 +291,41 @@ class MachineTest(SurroundingsTest):
     """The machine, and the disk on which folders lie."""
 
     def test_a_recipe_that_asks_for_the_machine(self) -> None:
-        told = "on a machine with another name, a processor less, and another limit of open files"
+        told = "on a machine with another name, fewer processors, and another limit of open files"
         for command in (
             *(["uname -n", "hostname"] if has_names() else []),
-            *(["nproc", "getconf _NPROCESSORS_ONLN; nproc"] if processors_but_one() else []),
+            *(["nproc"] if processors_but_one() else []),
+            *(["getconf _NPROCESSORS_ONLN"] if fewer_online() else []),
             "ulimit -n",
         ):
             self.doubt(f"out: a\n\t({command}) > out; cat a >> out\n", told)
+
+    def test_a_recipe_that_reads_of_the_machine(self) -> None:
+        for name in ("cpuinfo", "version"):
+            told = f"reads /proc/{name}, which tells of this machine: no make notices when that"
+            self.doubt(f"out: a\n\tgrep -m 1 . /proc/{name} > out; cat a >> out\n", told)
+
+    def test_a_recipe_that_asks_for_its_user(self) -> None:
+        told = "in another language, another time zone and by another user (LC_ALL, TZ, USER, LOG"
+        languages = [{"LC_ALL": "C"}, {"LC_ALL": "C.UTF-8"}]
+        for command, given in (
+            ("echo $$USER", [{"USER": "one"}, {"USER": "two"}]),
+            ("date -d @0 +%H:%M", [{"TZ": "UTC0"}, {"TZ": "XYZ-7"}]),
+            ("wc -m < a", languages),
+        ):
+            self.doubt(f"out: a\n\t{command} > out; cat a >> out\n", told, files={"a": "é\n"})
+            found = set()
+            for more in given:
+                with mock.patch.dict(os.environ, more):
+                    found.add(self.made())
+            self.assertEqual(len(found), 2, command)
+
+    def test_a_recipe_that_sets_them_itself(self) -> None:
+        text = "out: a\n\tLC_ALL=C wc -m < a > out; TZ=UTC0 date -d @0 >> out\n"
+        self.passes(text, {"a": "é\n"})
+        self.write({"makefile": "LC_ALL = C\nout: a\n\twc -m < a > out\n"})
+        outcome = self.record(environment={"LC_ALL": "C.UTF-8"})
+        self.assertNotIn("in another language", outcome.errors)
 
     def test_recipes_that_only_use_it(self) -> None:
         for command in ("sort a > out", "uname -srm > out", "install -m 600 a out"):

@@ -1387,7 +1387,7 @@ class GlanceTest(Refusals):
         self.assertIn("\n\tit looks at e\n", said)
         outcome = self.of(f"a: x e\n\t{way}; cat e >> a\n")
         (told,) = outcome.warnings()
-        self.assertIn("where the sources that it reads have their stamps in another order", told)
+        self.assertIn("where the sources that it reads have other stamps in another order", told)
         self.assertEqual(self.check()[0][:3], "yes")
 
     def test_files_that_are_always_older(self) -> None:

@@ -9,9 +9,6 @@ from mkcheck_tools.answers.unrecorded import Unrecorded
 from mkcheck_tools.book.footprint_files import Footprints, Record
 from mkcheck_tools.faults import Fault, RecipeFault
 from mkcheck_tools.judge.footprints import Footprint
-from mkcheck_tools.judge.late import Late
-from mkcheck_tools.judge.notes import Warn
-from mkcheck_tools.judge.sharing import with_shared
 from mkcheck_tools.run.folders import is_of_versions
 from mkcheck_tools.run.toolchains import fixed_prefixes
 
@@ -32,19 +29,12 @@ def used(asked: list[str], names: set[str]) -> list[str]:
     return list(dict.fromkeys([*own, *asked]))
 
 
-def make_book(
-    build: Unrecorded,
-    graph: Graph,
-    footprints: list[Footprint],
-    warn: Warn,
-    late: Late | None = None,
-) -> Footprints:
+def make_book(build: Unrecorded, graph: Graph, footprints: list[Footprint]) -> Footprints:
     """The footprint file.
 
     Its sources are the files that the graph names and that recipes read, and none that recipes
-    write. `late` has the late files of recipes, where it is to be told which weren't tested.
+    write.
     """
-    footprints = with_shared(footprints, graph, warn, late)
     refuse_phony_reads(graph, build.files, footprints)
     written = {name for footprint in footprints for name in footprint.writes}
     names = {

@@ -365,7 +365,7 @@ def shown(path: str) -> str:
 
 def warn_of_links(recipe: Recipe, accesses: Accesses, naming: Naming, warn: Warn) -> None:
     """A file that can change and is reached over a symbolic link in the folder is told with both
-    names."""
+    names, unless the makefile has that name alone."""
     tree = accesses.tree
     for alias in accesses.aliases.values():
         if (
@@ -376,6 +376,8 @@ def warn_of_links(recipe: Recipe, accesses: Accesses, naming: Naming, warn: Warn
                 naming.name_or_path(alias.name),
                 naming.name_or_path(alias.real),
             )
+            if naming.own.get(second) == first:
+                continue
             if naming.is_fixed(first) and naming.is_fixed(second):
                 continue
             text = (

@@ -1,6 +1,6 @@
 """What a recipe asks for that no file holds and that is another one another time: servers, what
-processes hand to each other without files, what the kernel counts, random numbers, and the order
-in which processes of one recipe go on."""
+processes hand to each other without files, what the kernel counts or tells of the machine, random
+numbers, and the order in which processes of one recipe go on."""
 
 from __future__ import annotations
 
@@ -19,12 +19,19 @@ COUNTED = re.compile(
     r"/proc/(?:loadavg|uptime|meminfo|stat|vmstat|diskstats|interrupts|schedstat|zoneinfo"
     r"|pressure/\w+|sys/kernel/random/\w+|sys/fs/file-nr|net/dev)"
 )
+# What tells of the machine.
+OF_MACHINE = re.compile(
+    r"/proc/(?:cpuinfo|version|sys/kernel/(?:osrelease|ostype|version|hostname))"
+)
 LOOPBACK = re.compile(r"(?:127\.[0-9.]+|::1), port (\d+)")
 # Random numbers of few values, which two runs may have in common.
 RANDOM = re.compile(
-    r"(\bsrand\(\s*\)|\bshuf\b|\bsort\s+(?:-\S+\s+)*(?:-\w*R\w*|--random-sort)" r"|\$\{?S?RANDOM\b)"
+    r"(\bsrand\(\s*\)|\bshuf\b|\bsort\s+(?:-\S+\s+)*(?:-\w*R\w*|--random-sort))"
 )
+OF_BASH = re.compile(r"(\$\{?S?RANDOM\b|\(\(.*\bS?RANDOM\b)")
 SEED = "--random-source"
+# The clock of bash, which asks the kernel itself.
+CLOCK = re.compile(r"(\$\{?EPOCH(?:SECONDS|REALTIME)\b|\bEPOCHSECONDS\b|%\([^()]*\)T\b)")
 # The shell that has no variable of that name.
 PLAIN_SHELL = "dash"
 
@@ -52,6 +59,13 @@ def unsteady(recipe: Recipe, accesses: Accesses) -> Iterator[Note]:
             " that, it is another one each time; let the recipe do without it"
         )
         yield Note(target, Kind.COUNTED, text)
+    told = [path for path in accesses.reads if OF_MACHINE.fullmatch(path)]
+    if told:
+        text = (
+            f"{front} reads {listed(told)}, which tells of this machine: no make notices when that"
+            " changes; let it take what it needs from a file"
+        )
+        yield Note(target, Kind.MACHINE, text)
     root = accesses.tree.root
     beside = [path[len(root) + 1 :] for path in accesses.beside if accesses.tree.has(path)]
     if beside:
@@ -61,6 +75,13 @@ def unsteady(recipe: Recipe, accesses: Accesses) -> Iterator[Note]:
             " write a file of its own, and join these in a fixed order"
         )
         yield Note(target, Kind.BESIDE, text)
+    asked = words_of_bash(recipe, CLOCK)
+    if asked:
+        text = (
+            f"{front} asks for the time ({asked}), which no run shows where it is coarse: no make"
+            " notices when that changes; let it take what it needs from a file"
+        )
+        yield Note(target, Kind.CLOCK, text)
     drawn = drawing(recipe)
     if drawn:
         text = (
@@ -80,10 +101,20 @@ def servers(accesses: Accesses) -> Iterator[str]:
 
 def drawing(recipe: Recipe) -> str:
     """The word of a recipe's commands by which it draws random numbers; nothing where none does."""
-    shell = os.path.basename(os.path.realpath(shutil.which(recipe.shell.split()[0]) or ""))
+    own = words_of_bash(recipe, OF_BASH)
     for command in recipe.commands:
         for match in RANDOM.finditer(command.text):
-            known = "RANDOM" not in match[1] or shell != PLAIN_SHELL or "bash" in command.text
-            if known and SEED not in command.text:
+            if SEED not in command.text:
                 return match[1]
+    return own
+
+
+def words_of_bash(recipe: Recipe, wanted: re.Pattern[str]) -> str:
+    """A word of a recipe's commands that a plain shell doesn't know; nothing where there is none,
+    or only such a shell runs them."""
+    shell = os.path.basename(os.path.realpath(shutil.which(recipe.shell.split()[0]) or ""))
+    for command in recipe.commands:
+        found = wanted.search(command.text)
+        if found is not None and (shell != PLAIN_SHELL or "bash" in command.text):
+            return found[1]
     return ""

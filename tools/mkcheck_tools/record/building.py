@@ -6,7 +6,7 @@ import os
 import re
 import sys
 from collections.abc import Mapping
-from dataclasses import dataclass
+from dataclasses import dataclass, field
 from pathlib import Path
 
 from mkcheck_tools.answers.checkers import Checker, find_checker
@@ -34,6 +34,7 @@ from mkcheck_tools.gnu.texts import (
     text_of,
 )
 from mkcheck_tools.gnu.waits import warn_of_wait
+from mkcheck_tools.judge.linked import Over, names_over_links
 from mkcheck_tools.judge.notes import Kind, Note, Warn
 from mkcheck_tools.judge.refusals import check_opaque
 from mkcheck_tools.replay.verdicts import check_trust
@@ -41,7 +42,7 @@ from mkcheck_tools.record.keeping import read_texts
 from mkcheck_tools.record.leaving import left_over, without
 from mkcheck_tools.record.request import Request
 from mkcheck_tools.run.folders import Naming, sources_in
-from mkcheck_tools.run.paths import RealPath, unbound
+from mkcheck_tools.run.paths import Name, RealPath, unbound
 from mkcheck_tools.run.places import Place
 
 VARYING_HELP = "use $?, which is empty here: write $^"
@@ -61,6 +62,9 @@ class Build:
     left: frozenset[str]
     flags: str
     """The options of the shell that the makefile gives, if any."""
+
+    over: Mapping[Name, Over] = field(default_factory=dict)
+    """The names that the makefile has for files over links."""
 
     @property
     def unrecorded(self) -> Unrecorded:
@@ -103,7 +107,8 @@ def build_of(request: Request, scratch: RealPath, warn: Warn) -> Build:
     warn_of_makes(graph, prober, choice.operands, warn)
     varying = warn_of_varying(unrecorded, warn)
     macros = handed_down(prober, choice.operands)
-    return Build(prober, graph, frozenset(varying), macros, texts, left, flags)
+    over = names_over_links(folder, graph.names)
+    return Build(prober, graph, frozenset(varying), macros, texts, left, flags, over)
 
 
 def warn_of_varying(build: Unrecorded, warn: Warn) -> list[str]:

@@ -26,9 +26,11 @@ from mkcheck_tools.replay.dates import dated, without_told
 from mkcheck_tools.judge.footprints import Footprint
 from mkcheck_tools.judge.late import Late, with_met
 from mkcheck_tools.judge.leftovers import warn_of_left_over
+from mkcheck_tools.judge.linked import with_names
 from mkcheck_tools.judge.modules import warn_of_modules
 from mkcheck_tools.judge.notes import Kind, Note, Notes, Warn, ignore
 from mkcheck_tools.judge.remains import warn_of_remains
+from mkcheck_tools.judge.sharing import with_shared
 from mkcheck_tools.replay.verdicts import ReplayVerdict, judge
 from mkcheck_tools.record.answering import status_of, tell, tell_of_update, write_answer
 from mkcheck_tools.record.building import Build, build_of, makefile_of, removes_on_error
@@ -153,6 +155,7 @@ def workshop(request: Request, build: Build, scratch: RealPath, warn: Warn) -> W
         updating,
         not removes_on_error(request),
         None if updating is None else Digests(place.seen),
+        build.over,
     )
 
 
@@ -379,7 +382,8 @@ def book_of(
     build: Build, recorded: Recorded, footprints: list[Footprint], warn: Warn
 ) -> Footprints:
     """The footprint file with these footprints."""
-    return make_book(build.unrecorded, build.graph, footprints, warn, recorded.looked_late)
+    known = with_shared(footprints, build.graph, warn, recorded.looked_late)
+    return make_book(build.unrecorded, build.graph, with_names(known, build.over))
 
 
 def keep(shop: Workshop, recorded: Recorded, verdict: ReplayVerdict, whole: bool) -> bool:

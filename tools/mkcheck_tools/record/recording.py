@@ -34,6 +34,7 @@ from mkcheck_tools.judge.footprints import (
     warn_of_stamps,
 )
 from mkcheck_tools.judge.late import Late, folders_of, late_files
+from mkcheck_tools.judge.linked import Over
 from mkcheck_tools.judge.notes import Kind, Note, Warn
 from mkcheck_tools.judge.refusals import listed, refuse_unmade, refuse_unseen
 from mkcheck_tools.record.building import VARYING_HELP
@@ -88,6 +89,9 @@ class Workshop:
 
     digests: Digests | None = None
     """What works out digests while recipes run, where an update is to know them."""
+
+    over: Mapping[Name, Over] = field(default_factory=dict)
+    """The names that the makefile has for files over links."""
 
     @property
     def folder(self) -> RealPath:
@@ -186,7 +190,8 @@ def record(
     """
     tree = shop.set_up(warn)
     world = follow() if follow is not None else None
-    naming = Naming(shop.place.seen, shop.fixed, shop.steady)
+    own = {name: over.name for name, over in shop.over.items()}
+    naming = Naming(shop.place.seen, shop.fixed, shop.steady, own)
     given = frozenset(named([*tree.there, *tree.folders], naming))
     done = Recorded([], [], [], world, given, shop.ancestors)
     failed: set[str] = set()

@@ -16,8 +16,8 @@ from mkcheck_tools.replay.worlds import Trial
 
 PROGRAM = re.compile(r"(?:python|pypy|perl|ruby|lua|luajit|texlua|guile)[0-9.]*(?:-[0-9.]+)?")
 # How many runs there are of a recipe that takes at most so many seconds, and of others.
-RUNS = ((0.3, 6), (1.0, 4))
-FEWEST = 2
+RUNS = ((1.0, 6), (5.0, 4))
+FEWEST = 3
 
 
 def is_drawing(trial: Trial) -> bool:

@@ -255,9 +255,9 @@ class Layout:
         made = {name: self.writers.get(name, ()) for name in new if name in stamps}
         given = {name: stamps[name] for name in stamps if trial.before[name] == GIVEN}
         last = max(given.values(), default=0)
-        is_before = all(last < stamps[name] for name in made)
-        if len(given) + len(made) == len(stamps) and is_before:
-            given = orders.among_themselves(given, among)
+        latest = min((stamps[name] for name in made), default=max(last, time.time_ns()))
+        if len(given) + len(made) == len(stamps) and last <= latest:
+            given = orders.among_themselves(given, among, latest)
         found = {**stamps, **given}
         found.update(orders.with_order(order, found, made, list(given), self.ancestors))
         changed = False

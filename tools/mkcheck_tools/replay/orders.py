@@ -18,12 +18,14 @@ from mkcheck_tools.run.paths import Name
 # Which stamps a recipe finds: those of the recording; the same ones in another order, of all files
 # or of made ones alone; or of sources earlier ones, in the same order.
 OLD, OTHER, OTHER_OF_MADE, EARLIER = "old", "other", "other of made", "earlier"
-# How sources lie among themselves: as in the recording; the other way round; or as in the
-# recording, where no two have nearly the same stamp.
+# How sources lie among themselves: as in the recording; the other way round, and older than most
+# files elsewhere; or as in the recording, where no two have nearly the same stamp, and as late as
+# may be.
 KEPT, BACK, APART = "kept", "back", "apart"
 DAY = 86_400_000_000_000
 # Programs may compare whole seconds, and archives of zip have every other one.
 LEAST_APART = 2_000_000_000
+YEARS = 20 * 365 * DAY
 
 
 def with_order(
@@ -45,16 +47,20 @@ def with_order(
     return {name: stamp for name, stamp in found.items() if stamp != stamps[name]}
 
 
-def among_themselves(stamps: Mapping[Name, int], way: str) -> dict[Name, int]:
+def among_themselves(stamps: Mapping[Name, int], way: str, latest: int) -> dict[Name, int]:
     """The stamps of sources, where these lie so among themselves. None gets a later one than the
-    newest has."""
+    `latest`, which is no earlier than theirs."""
     names = sorted(stamps, key=lambda name: (stamps[name], name))
     found = [stamps[name] for name in names]
-    if way == KEPT:
+    if way == KEPT or not names:
         return dict(stamps)
     for place in reversed(range(len(found) - 1)):
         found[place] = min(found[place], found[place + 1] - LEAST_APART)
-    return dict(zip(reversed(names) if way == BACK else names, found))
+    if way == APART:
+        moved = max(0, latest - LEAST_APART - found[-1])
+        return dict(zip(names, (stamp + moved for stamp in found)))
+    moved = YEARS if found[0] > YEARS + DAY else 0
+    return dict(zip(reversed(names), (stamp - moved for stamp in found)))
 
 
 def in_other_order(

@@ -69,6 +69,7 @@ from mkcheck_tools.replay.surroundings import (
     MEMORY,
     SOURCES,
     STALE,
+    VARIABLES,
     Surroundings,
     all_others,
 )
@@ -84,7 +85,7 @@ from mkcheck_tools.trace.accesses import Accesses, Follower
 from mkcheck_tools.trace.trees import Tree
 
 # What most recipes go by that do something else amid other surroundings.
-LIKELY = (FLAGS, CLOCK, FOLDERS, SOURCES, MACHINE, EARLIER, STALE)
+LIKELY = (FLAGS, CLOCK, FOLDERS, SOURCES, VARIABLES, MACHINE, EARLIER, STALE)
 # How many replays there are for each processor. Most wait for the clock, which takes none.
 WAITING = 4
 # Of at most this many other recipes each is tried alone, which left what a recipe uses.

@@ -1,7 +1,7 @@
-"""What a recipe finds besides its files when it runs again: shell options, variables that make
-sets, the machine, the time, standard input, a terminal, stamps of folders, the order of those of
-sources, second names of the files that it reads, and files that it or another one may have left
-before an edit.
+"""What a recipe finds besides its files when it runs again: shell options, variables that make or
+its user sets, the machine, the time, standard input, a terminal, stamps of folders, the order of
+those of sources, second names of the files that it reads, and files that it or another one may have
+left before an edit.
 
 The recording has one of each. Where the outputs are there already, the recipe runs amid all others
 at once, which takes no run of its own. Where that run shows something, each is tried alone.
@@ -28,13 +28,18 @@ from mkcheck_tools.run.terminals import Terminal, has_terminals, terminal
 
 FLAGS, JOBS, CLOCK, INPUT = "flags", "jobs", "clock", "input"
 NAMES, FOLDERS, TERMINAL, SOURCES = "names", "folders", "terminal", "sources"
-MACHINE = "machine"
+MACHINE, VARIABLES = "machine", "variables"
 # A file that the recipe, or another one, may have left before an edit of what it is made from.
 EARLIER, STALE = "earlier", "stale"
 # Runs of their own: folders list their names the other way round, or lie in memory.
 LISTING, MEMORY = "listing", "memory"
 # Variables by which Python and Perl take an order of sets and hashes, and don't draw one.
 SEEDS = ("PYTHONHASHSEED", "PERL_HASH_SEED")
+# What else a user may have: a name, a time zone that is no other's, and a language.
+OF_USER = {"USER": "mkcheck", "LOGNAME": "mkcheck", "TZ": "MKC-13:07"}
+LANGUAGES = ("LC_ALL", "LC_COLLATE", "LANG")
+# The languages that sort by bytes, without their encodings.
+PLAIN = ("", "C", "POSIX")
 # What GNU make 4 gives to recipes where it has two jobs.
 OF_JOBS = {"MAKEFLAGS": " -j2 --jobserver-auth=3,4", "MAKELEVEL": "1"}
 # What GNU make 4 gives to recipes where its output goes to a terminal, by the name of that.
@@ -85,6 +90,10 @@ class Surroundings:
             given = {**given, **dict.fromkeys(OF_TERMINAL, source.name)}
         if self.seed is not None:
             given = {**dict.fromkeys(SEEDS, str(self.seed)), **given}
+        if VARIABLES in self.others:
+            others = {**OF_USER, LANGUAGES[0]: other_language()}
+            own = {name for name in others if given.get(name) == os.environ.get(name)}
+            given = {**given, **{name: others[name] for name in own}}
         if JOBS not in self.others:
             return dict(given)
         operands = given.get("MAKEFLAGS", "")
@@ -156,6 +165,21 @@ def later(path: str) -> list[str]:
 
 
 @functools.cache
+def other_language() -> str:
+    """A language that sorts otherwise than that of the environment, if there is one; else another
+    one."""
+    own = next(filter(None, map(os.environ.get, LANGUAGES)), "")
+    if own.partition(".")[0] not in PLAIN:
+        return "C.UTF-8"
+    with contextlib.suppress(OSError):
+        said = subprocess.run(["locale", "-a"], capture_output=True, text=True, check=False).stdout
+        for name in said.split():
+            if "_" in name and "utf" in name.lower():
+                return name
+    return "C" if "UTF" in own.upper() else "C.UTF-8"
+
+
+@functools.cache
 def library() -> str | None:
     """The library that sets clocks forward, where there is one and it works."""
     for path in (path for pattern in LIBRARIES for path in sorted(glob.glob(pattern))):
@@ -178,7 +202,7 @@ def clear(process: int) -> None:
 def all_others(strict: bool, bound: bool) -> Surroundings:
     """All other surroundings that there can be. Under `.POSIX` make starts shells by `-e` in any
     case. Where the folder of a run isn't `bound`, nothing may be beside it."""
-    found = {JOBS, INPUT, FOLDERS, EARLIER, STALE, SOURCES}
+    found = {JOBS, INPUT, FOLDERS, EARLIER, STALE, SOURCES, VARIABLES}
     if not strict:
         found.add(FLAGS)
     if bound:

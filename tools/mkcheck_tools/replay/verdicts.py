@@ -38,6 +38,7 @@ from mkcheck_tools.replay.surroundings import (
     NAMES,
     SOURCES,
     TERMINAL,
+    VARIABLES,
 )
 from mkcheck_tools.replay.worlds import GIVEN, Trial
 from mkcheck_tools.run.paths import Name
@@ -88,7 +89,7 @@ AMID = {
     ),
     MACHINE: (
         Kind.MACHINE,
-        "on a machine with another name, a processor less, and another limit of open files",
+        "on a machine with another name, fewer processors, and another limit of open files",
         "no make notices when that changes; let it take what it needs from a file",
     ),
     MEMORY: (
@@ -104,7 +105,7 @@ AMID = {
     ),
     SOURCES: (
         Kind.SOURCE_STAMPS,
-        "where the sources that it reads have their stamps in another order, as in another copy of"
+        "where the sources that it reads have other stamps in another order, as in another copy of"
         " the project",
         "let it go by what the files hold",
     ),
@@ -112,6 +113,11 @@ AMID = {
         Kind.TERMINAL,
         "at a terminal, as where a user starts make",
         "let it do the same wherever its output goes",
+    ),
+    VARIABLES: (
+        Kind.VARIABLES,
+        "in another language, another time zone and by another user (LC_ALL, TZ, USER, LOGNAME)",
+        "let it set these itself (LC_ALL=C sort, TZ=UTC0 date)",
     ),
 }
 LAID = " or to look at"

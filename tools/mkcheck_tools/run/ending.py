@@ -20,10 +20,11 @@ def write_text(text: str, path: str | None) -> None:
         if path is None:
             write_out(text.encode("utf-8"))
             return
-        goal = Path(os.path.realpath(path))
-        if goal.exists() and not goal.is_file():
-            goal.write_text(text, encoding="utf-8")
+        if os.path.exists(path) and not os.path.isfile(path):
+            # The real path of a pipe, as behind /dev/stdout, is none by which it can be opened.
+            Path(path).write_text(text, encoding="utf-8")
             return
+        goal = Path(os.path.realpath(path))
         beside = goal.with_name(f".mkcheck.{os.getpid()}")
         try:
             beside.write_text(text, encoding="utf-8")

@@ -11,7 +11,7 @@ import shutil
 import stat
 import tempfile
 import time
-from collections.abc import Iterator
+from collections.abc import Iterator, Mapping
 from dataclasses import dataclass, field
 
 from mkcheck_tools.faults import Fault
@@ -58,6 +58,9 @@ class Naming:
     fixed: tuple[str, ...]
     files: tuple[str, ...] = ()
     """Single files that never change, as they were given."""
+
+    own: Mapping[Name, Name] = field(default_factory=dict)
+    """The names that the makefile has for files, over links, by those without links."""
 
     def name(self, path: SeenPath) -> Name | None:
         """The name of the file at a path without links, where it has one."""

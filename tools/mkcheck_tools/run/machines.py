@@ -1,4 +1,4 @@
-"""Another machine, as far as commands can be shown one: it has another name, a processor less, and
+"""Another machine, as far as commands can be shown one: it has another name, fewer processors, and
 allows one open file less."""
 
 from __future__ import annotations
@@ -12,9 +12,13 @@ from dataclasses import replace
 
 from mkcheck_tools.run.folders import temporary_folder
 from mkcheck_tools.run.paths import RealPath, SeenPath, real_in
-from mkcheck_tools.run.places import Place
+from mkcheck_tools.run.places import Place, mounter
 
 NAME = "mkcheck-record"
+# Where the C library finds how many processors there are, and the number of fewer ones in the form
+# of that file.
+ONLINE = "/sys/devices/system/cpu/online"
+FEWER = "/sys/devices/system/cpu/cpu0/topology/thread_siblings_list"
 RENAMING = (
     f"{{ echo {NAME} > /proc/sys/kernel/hostname || hostname {NAME}; }} 2> /dev/null; "
 )
@@ -22,7 +26,7 @@ RENAMING = (
 
 def elsewhere(place: Place) -> Place:
     """A bound place, on another machine."""
-    enter, first = processors_but_one(), limits()
+    enter, first = processors_but_one(), limits() + fewer_online()
     if has_names():
         enter, first = (*renamed(), *enter), RENAMING + first
     return replace(place, enter=enter, first=first)
@@ -61,6 +65,19 @@ def processors_but_one() -> tuple[str, ...]:
     if program is None or len(numbers) < 2:
         return ()
     return (program, "-c", ",".join(str(number) for number in numbers[1:]))
+
+
+@functools.cache
+def fewer_online() -> str:
+    """The command of a shell by which the system names fewer processors; empty where none can."""
+    texts = []
+    for path in (ONLINE, FEWER):
+        try:
+            with open(path, encoding="ascii") as file:
+                texts.append(file.read())
+        except (OSError, ValueError):
+            return ""
+    return f"{mounter()} --bind {FEWER} {ONLINE} 2> /dev/null; " if len(set(texts)) > 1 else ""
 
 
 def limits() -> str:
