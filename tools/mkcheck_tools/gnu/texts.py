@@ -19,6 +19,9 @@ ASSIGNMENT = re.compile(r"\s*([^\s:=#+?!]+)\s*(?:[+?!]|:{1,3})?=(.*)", re.DOTALL
 # What stands in front of the colon of a rule; a colon in a reference is none.
 FRONT = re.compile(r"(?:\$\([^()]*\)|\$\{[^{}]*\}|\$.|[^:$])*(?=:)", re.DOTALL)
 STRICT = ".POSIX"
+# A line of a makefile that mkcheck-import writes for a tool which runs a recipe that failed again,
+# whatever it left, as ninja, and GNU make where the makefile has `.DELETE_ON_ERROR`.
+FAILED_RUN_AGAIN = "# Recipes that failed run again, whatever they left."
 
 
 @dataclass(frozen=True)
