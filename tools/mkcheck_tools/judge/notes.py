@@ -16,8 +16,8 @@ DOUBT, HINT = "doubt", "hint"
 class Kind(Enum):
     """The kinds of notes: a word for each, whether it is a doubt or a hint, and what it tells."""
 
-    ALIKE = ("alike", HINT, "a recipe may leave its outputs, so it ran again without these alone")
     AGAIN = ("again", DOUBT, "a recipe left other contents in a second run (`--again`)")
+    ALIKE = ("alike", HINT, "a recipe may leave its outputs, so it ran again without these alone")
     BESIDE = ("beside", DOUBT, "processes of a recipe write one file side by side")
     BUILT_IN_RULE = ("built-in-rule", DOUBT, "GNU make has a rule of its own that differs")
     CHANNEL = ("channel", DOUBT, "a recipe hands something on, or gets it, that is in no file")
