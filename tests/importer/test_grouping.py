@@ -94,6 +94,20 @@ class GroupedAnswerTest(MakeFolderTest):
         self.assertEqual(answer.output.count("after a build make has other commands"), 1)
         self.assertIn("no answer: no recipe could be judged, of 3", answer.output)
 
+    def test_commands_that_quote_words_otherwise(self) -> None:
+        """To the shell they are one command, as where a makefile keeps settings by `echo`."""
+        self.write(
+            {
+                "Makefile": "F = -DX=$(if $(wildcard $@),,'')\n"
+                "a: s\n\tsh tool $(F) s > a\n",
+                "tool": "echo $1; cat $2\n",
+                "s": "s\n",
+            }
+        )
+        answer = self.imported()
+        self.assertNotIn("after a build make has other commands", answer.output)
+        self.assertEqual(answer.findings, ["no stale a tool"])
+
     def test_files_that_make_reads(self) -> None:
         """Nothing that was tried shows whether commands depend on one of them."""
         self.write(

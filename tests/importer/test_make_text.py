@@ -19,6 +19,7 @@ from mkcheck_tools.imports.judging import sentence
 from mkcheck_tools.imports.ordering import Order
 from mkcheck_tools.imports.plain import makefile, quoted, shell_text
 from mkcheck_tools.imports.recursion import is_only_makes, without_makes
+from mkcheck_tools.imports.rereading import is_same_to_shell
 from mkcheck_tools.imports.saving import build_of_text, text_of_build
 from mkcheck_tools.imports.transcripts import BEGINNING, MARK, prefix_of, read_transcript
 from mkcheck_tools.imports.translating import Translation
@@ -470,3 +471,32 @@ class WrapperTest(unittest.TestCase):
         self.start(**dict.fromkeys(names, "1 2"))
         lines = (self.scratch / "1.out").read_text().splitlines()
         self.assertEqual([name for name in names if f"{name}=1 2" not in lines], [])
+
+
+class QuotedTest(unittest.TestCase):
+    """Commands that only quote some words otherwise."""
+
+    def test_the_same(self) -> None:
+        for one, other in (
+            ("cc -DX='' a.c", "cc -DX= a.c"),
+            ("cc '-DX=1' \"a.c\" b", "cc -DX=1 a.c b"),
+            ("printf '%b\\n' \"\\033[1;2m\" 1>&2;cc -g -DX='' a", ""),
+        ):
+            self.assertTrue(is_same_to_shell(one, other or one.replace("''", "")), one)
+
+    def test_others(self) -> None:
+        for one, other in (
+            ("cc -DX=1 a", "cc -DX=2 a"),
+            ("cc '' a", "cc a"),
+            ("cc '*' a", "cc * a"),
+            ("cc '$x' a", "cc $x a"),
+            ("'A=b' cc", "A=b cc"),
+            ("x; 'A=b' cc", "x; A=b cc"),
+            (">x 'A=b' cc", ">x A=b cc"),
+            ("2>&1 'A=b' cc", "2>&1 A=b cc"),
+            ("if 'A=b' cc", "if A=b cc"),
+            ("A=1 'B=2' cc", "A=1 B=2 cc"),
+            ("cc `x 'A=b'`", "cc `x A=b`"),
+            ("cc \"a 'b' c\"", "cc \"a b c\""),
+        ):
+            self.assertFalse(is_same_to_shell(one, other), one)
