@@ -23,8 +23,8 @@ OLDER = 1_000_000
 OLD = 1
 # How much of a command is quoted.
 SHORT = 80
-# What ends the words of a command, as far as a text shows that; a name by which one begins; words of
-# the shell that come before one.
+# What ends the words of a command, as far as a text shows that; a name by which one begins; words
+# of the shell that come before one.
 OPERATOR = re.compile(r"[;&|<>(){}\n]")
 COMMAND = re.compile(r"[\w./+-]+")
 KEYWORDS = frozenset("if then else elif while until do time exec in case for".split())

@@ -182,7 +182,7 @@ class MakeTool:
             for name in built.makefiles.all
             if name in built.made or built.times.get(name) != shown.times.get(name)
         }
-        # What make makes when it reads, before any recipe runs, is the same where it knows the same.
+        # What make makes before any recipe runs is the same where make knows the same.
         own = (shown.read_made & built.makefiles.dependencies) - built.makefiles.again
         reread = written | {name for name in built.made if name.endswith(DEPENDENCY_ENDINGS)}
         readings = built.readings
