@@ -13,6 +13,7 @@ import time
 import unittest
 from dataclasses import dataclass, field
 from pathlib import Path
+from typing import Any
 
 ROOT = Path(__file__).resolve().parents[2]
 IMPORTER = ROOT / "bin" / "mkcheck-import"
@@ -88,7 +89,7 @@ class Answer:
     """What `check` prints for the first build."""
 
     records: dict[str, Record] = field(default_factory=dict)
-    map: dict[str, dict] = field(default_factory=dict)
+    map: dict[str, dict[str, Any]] = field(default_factory=dict)
     log: str = ""
 
     @property

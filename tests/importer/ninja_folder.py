@@ -15,6 +15,7 @@ from pathlib import Path
 
 from mkcheck_tools.imports.builds import Build
 from mkcheck_tools.imports.ninja import NinjaBuild, read_ninja
+from mkcheck_tools.run.paths import RealPath, SeenPath
 from mkcheck_tools.run.places import Place
 
 ROOT = Path(__file__).resolve().parents[2]
@@ -122,7 +123,7 @@ class NinjaFolderTest(unittest.TestCase):
 
     def translated(self, *words: str) -> Build:
         """The build as it is translated before ninja has built."""
-        place = Place(str(self.copied("copy")), str(self.folder))
+        place = Place(RealPath(str(self.copied("copy"))), SeenPath(str(self.folder)))
         manifest, version = read_ninja(place, ".", words, ENVIRONMENT)
         return NinjaBuild(place, ".", manifest, version).translate(words)
 
@@ -239,7 +240,8 @@ class NinjaFolderTest(unittest.TestCase):
         built = self.built(*words) if answer.ways else self.folder
         for recipe, file, end, *path in answer.ways:
             with self.subTest(f"way {recipe} {file} {end}"):
-                touched = {"source": [file], "always": []}.get(end, answer.writes[path[-1]])
+                ends: dict[str, list[str]] = {"source": [file], "always": []}
+                touched = ends[end] if end in ends else answer.writes[path[-1]]
                 again = self.rebuilds(built, touched, answer.writes[recipe], *words)
                 self.assertTrue(again or not answer.writes[recipe], f"way {recipe} {file}")
 

@@ -94,6 +94,20 @@ class GroupedAnswerTest(MakeFolderTest):
         self.assertEqual(answer.output.count("after a build make has other commands"), 1)
         self.assertIn("no answer: no recipe could be judged, of 3", answer.output)
 
+    def test_commands_that_quote_words_otherwise(self) -> None:
+        """To the shell they are one command, as where a makefile keeps settings by `echo`."""
+        self.write(
+            {
+                "Makefile": "F = -DX=$(if $(wildcard $@),,'')\n"
+                "a: s\n\tsh tool $(F) s > a\n",
+                "tool": "echo $1; cat $2\n",
+                "s": "s\n",
+            }
+        )
+        answer = self.imported()
+        self.assertNotIn("after a build make has other commands", answer.output)
+        self.assertEqual(answer.findings, ["no stale a tool"])
+
     def test_files_that_make_reads(self) -> None:
         """Nothing that was tried shows whether commands depend on one of them."""
         self.write(
@@ -107,6 +121,44 @@ class GroupedAnswerTest(MakeFolderTest):
         self.assertIn("    make reads a beside its makefiles, and whether", answer.output)
         self.assertIn("; so it is with b and c\n", answer.output)
         self.assertEqual(answer.output.count("beside its makefiles"), 1)
+        # The questions are counted as they are told.
+        self.assertIn("1 question not judged", answer.output.splitlines()[0])
+        self.assertIn(" s  1 problem\n", answer.errors)
+
+    def test_targets_with_macros_of_their_own(self) -> None:
+        """Two objects, each made for the first of two programs with flags of their own."""
+        self.write(
+            {
+                "Makefile": "all: p q\n.PHONY: all\np: F = 1\nq: F = 2\n"
+                "p q: x.o y.o\n\tcat x.o y.o > $@\n"
+                "%.o: %.c\n\techo $(F) | cat - $< > $@\n",
+                "x.c": "x\n",
+                "y.c": "y\n",
+            }
+        )
+        answer = self.imported()
+        self.assertEqual(answer.status, 4, answer.output + answer.errors)
+        text = "    Makefile:8: the commands of x.o depend on the target for which it is made first"
+        self.assertIn(text, answer.output)
+        self.assertIn("; so it is with y.o\n", answer.output)
+        self.assertEqual(answer.output.count("depend on the target for which"), 1)
+
+    def test_a_make_in_the_folder_of_the_project(self) -> None:
+        self.write(
+            {
+                "Makefile": "x: s | stamp\n\tcp s x\nstamp:\n"
+                "\t$(MAKE) -f other.mk\n\t$(MAKE) -C a\n\ttouch stamp\n",
+                "other.mk": "y: s\n\tcp s y\n",
+                "a/Makefile": "y: s\n\tcp s y\n",
+                "s": "1\n",
+                "a/s": "1\n",
+            }
+        )
+        answer = self.imported()
+        for folder in ("in the project's folder", "in a"):
+            text = f"    make {folder} is started in a first build and not in the next one, so when"
+            self.assertIn(text, answer.output)
+        self.assertNotIn("make in . ", answer.output)
 
     def test_makes_of_a_first_build_alone(self) -> None:
         """Each folder has a make that only the first build starts."""

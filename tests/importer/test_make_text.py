@@ -2,25 +2,31 @@
 
 from __future__ import annotations
 
+import os
+import shutil
+import subprocess
 import tempfile
 import unittest
 from pathlib import Path
 from types import SimpleNamespace
+from typing import Any
 
 from mkcheck_tools.faults import Failure, failure_of
 from mkcheck_tools.imports.builds import Build, Command, Kind, Node, Origin, Setting, path_name
 from mkcheck_tools.imports.database import Database, read_database
-from mkcheck_tools.imports.gnumake import Make, is_harmless, options_of
+from mkcheck_tools.imports.gnumake import WRAPPER, Make, is_harmless, options_of
 from mkcheck_tools.imports.judging import sentence
 from mkcheck_tools.imports.ordering import Order
 from mkcheck_tools.imports.plain import makefile, quoted, shell_text
 from mkcheck_tools.imports.recursion import is_only_makes, without_makes
+from mkcheck_tools.imports.rereading import is_same_to_shell
 from mkcheck_tools.imports.saving import build_of_text, text_of_build
 from mkcheck_tools.imports.transcripts import BEGINNING, MARK, prefix_of, read_transcript
 from mkcheck_tools.imports.translating import Translation
 from mkcheck_tools.imports.trying import Said, Trial
 from mkcheck_tools.imports.views import Subject
 from mkcheck_tools.judge.refusals import started_make
+from mkcheck_tools.run.paths import RealPath, SeenPath
 from mkcheck_tools.run.places import Place
 
 A_FUNCTION = "a function, as $(if ..) or $(shell ..), or a computed name"
@@ -184,7 +190,8 @@ class AdviceTest(unittest.TestCase):
             ("/p/lib", "import that folder by itself (mkcheck-import -C lib), and here goals that"),
             ("/p", "its build isn't judged here; import its goals by themselves, and here goals"),
         ):
-            failure = failure_of(started_make("x", "make", folder, Place("/p", "/p")), "x")
+            place = Place(RealPath("/p"), SeenPath("/p"))
+            failure = failure_of(started_make("x", "make", SeenPath(folder), place), "x")
             self.assertIn("--opaque", failure.text)
             text = sentence(failure, "log")
             self.assertIn(said, text)
@@ -206,12 +213,12 @@ class ConditionTest(unittest.TestCase):
 
         def said(values: str) -> Said:
             pairs = dict(line.split(" = ") for line in values.splitlines())
-            return Said([SimpleNamespace(base=Database(values=pairs))], [])
+            make: Any = SimpleNamespace(base=Database(values=pairs))
+            return Said([make], [])
 
         with tempfile.TemporaryDirectory() as folder:
             Path(folder, "Makefile").write_text(text)
-            runs = (lambda is_confined: [], lambda command, is_confined: "")
-            trial = Trial(folder, {"Makefile"}, set(), *runs)
+            trial = Trial(folder, {"Makefile"}, set(), lambda _: [], lambda *_: "")
             trial.__dict__["before"] = [said(value), said(value)]
             return trial.conditional([said(one) for one in others or ("V = 2\nW = x$(V)",)])
 
@@ -404,7 +411,7 @@ class OrderTest(unittest.TestCase):
 
     def test_groups(self) -> None:
         build = Build("/p", goals=["all"])
-        for name, groups in {
+        needs: dict[str, list[list[str]]] = {
             "all": [["a", "b"], ["c"]],
             "a": [["x"]],
             "b": [["y"]],
@@ -412,7 +419,8 @@ class OrderTest(unittest.TestCase):
             "d": [[]],
             "x": [[]],
             "y": [[]],
-        }.items():
+        }
+        for name, groups in needs.items():
             build.nodes[name] = Node(name, groups=groups)
         order = Order(build)
         before = {
@@ -425,3 +433,70 @@ class OrderTest(unittest.TestCase):
         self.assertEqual(before["d"], {"a", "b", "x", "y"})
         # It is wanted by b too, which waits for nothing.
         self.assertEqual(before["y"], set())
+
+
+class WrapperTest(unittest.TestCase):
+    """The script that stands for make."""
+
+    def setUp(self) -> None:
+        self.scratch = Path(tempfile.mkdtemp(prefix="import-test-")).resolve()
+        self.addCleanup(shutil.rmtree, self.scratch)
+        text = WRAPPER.replace("@SCRATCH@", str(self.scratch)).replace("@MARK@", "")
+        (self.scratch / "make").write_text(text.replace("@MAKE@", f"sh {self.scratch}/tool"))
+        (self.scratch / "tool").write_text("env\n")
+        (self.scratch / "count").write_text("0")
+        (self.scratch / "top.out").touch()
+
+    def start(self, **more: str) -> subprocess.CompletedProcess[str]:
+        """Starts it, with a tool in place of make that tells its environment."""
+        return subprocess.run(
+            ["/bin/sh", str(self.scratch / "make")],
+            env={**os.environ, "MKIMPORT_OUT": str(self.scratch / "top.out"), **more},
+            capture_output=True,
+            text=True,
+            timeout=120,
+            check=False,
+        )
+
+    def test_it_ends_where_it_can_write_nothing(self) -> None:
+        """A lock can't be made, as on a disk that is full, though the mode of the folder allows
+        it."""
+        (self.scratch / "lock").touch()
+        done = self.start()
+        text = f"mkcheck-import: a recipe starts make where {self.scratch} can't be written\n"
+        self.assertEqual((done.returncode, done.stderr), (2, text))
+
+    def test_variables_stay_as_they_are(self) -> None:
+        names = ("D", "n", "s", "t", "f", "at", "up", "own", "above")
+        self.start(**dict.fromkeys(names, "1 2"))
+        lines = (self.scratch / "1.out").read_text().splitlines()
+        self.assertEqual([name for name in names if f"{name}=1 2" not in lines], [])
+
+
+class QuotedTest(unittest.TestCase):
+    """Commands that only quote some words otherwise."""
+
+    def test_the_same(self) -> None:
+        for one, other in (
+            ("cc -DX='' a.c", "cc -DX= a.c"),
+            ("cc '-DX=1' \"a.c\" b", "cc -DX=1 a.c b"),
+            ("printf '%b\\n' \"\\033[1;2m\" 1>&2;cc -g -DX='' a", ""),
+        ):
+            self.assertTrue(is_same_to_shell(one, other or one.replace("''", "")), one)
+
+    def test_others(self) -> None:
+        for one, other in (
+            ("cc -DX=1 a", "cc -DX=2 a"),
+            ("cc '' a", "cc a"),
+            ("cc '*' a", "cc * a"),
+            ("cc '$x' a", "cc $x a"),
+            ("'A=b' cc", "A=b cc"),
+            ("x; 'A=b' cc", "x; A=b cc"),
+            (">x 'A=b' cc", ">x A=b cc"),
+            ("2>&1 'A=b' cc", "2>&1 A=b cc"),
+            ("if 'A=b' cc", "if A=b cc"),
+            ("A=1 'B=2' cc", "A=1 B=2 cc"),
+            ("cc `x 'A=b'`", "cc `x A=b`"),
+            ("cc \"a 'b' c\"", "cc \"a b c\""),
+        ):
+            self.assertFalse(is_same_to_shell(one, other), one)

@@ -18,7 +18,9 @@ A_FUNCTION = "a function, as $(if ..) or $(shell ..), or a computed name"
 class UnseenTestCase(MakeFolderTest):
     """What GNU make leaves after an edit, beside what a clean build leaves."""
 
-    def left(self, edits: dict[str, str], output: str, first: str = "", goal: str = "") -> list:
+    def left(
+        self, edits: dict[str, str], output: str, first: str = "", goal: str = ""
+    ) -> list[str]:
         """The text of an output after a build, edits and a further build, and after a clean build
         of the edited sources. `first` and `goal` are the goals of the two builds."""
         folder = self.copied("edited")

@@ -29,7 +29,7 @@ class QuestionsTest(unittest.TestCase):
 
         asking = Asking(Start("make", "/", tuple(goals)), "/", [make], "make", {}, run, questions)
         asking.ask()
-        return [start.words[-1] for start in starts], asking.sentences
+        return [start.words[-1] for start in starts], list(asking.sentences)
 
     def test_all_are_asked_in_time(self) -> None:
         questions = Questions()

@@ -75,7 +75,7 @@ class SecondImportTestCase(MakeFolderTest):
 
     def count(self, answer: Answer) -> str:
         """How many recipes of all were recorded, the last time."""
-        found = COUNT.findall(answer.errors)
+        found: list[str] = COUNT.findall(answer.errors)
         self.assertTrue(found, answer.errors)
         return found[-1]
 
@@ -283,6 +283,67 @@ class TriedTest(SecondImportTestCase):
         self.first()
         self.write({"look": self.OTHER})
         self.anew("recipes have to be tried in a copy that is built")
+
+
+@can_judge
+class DependenciesTest(SecondImportTestCase):
+    """Dependency files that make itself makes when it reads its makefiles, as `cc -MM *.c` does."""
+
+    OF_ALL = (
+        MAKEFILE.replace("a.o: a.c h.h", "a.o: a.c")
+        + "-include .depend\n.depend: a.c b.c\n"
+        + "\tsed -n 's/^#include /a.o: /p' a.c > .depend; test -f b.c\n"
+    )
+
+    def setUp(self) -> None:
+        super().setUp()
+        self.write({"Makefile": self.OF_ALL, "a.c": "#include h.h\na\n"})
+
+    def test_an_edit_keeps_the_translation(self) -> None:
+        self.first()
+        self.write({"a.c": "#include h.h\nb\n"})
+        self.assertEqual(self.taken(), "2 of 3")
+        self.write({"h.h": "#define\n", "b.c": "c\n"})
+        self.assertEqual(self.taken(), "3 of 3")
+        self.assertEqual(self.taken(), "0 of 3")
+
+    def test_a_dependency_file_for_each_object(self) -> None:
+        makefile = MAKEFILE.replace("a.o: a.c h.h", "a.o: a.c")
+        rule = "-include a.d b.d\n%.d: %.c\n\tsed -n 's/^#include /$*.o: /p' $< > $@\n"
+        self.write({"Makefile": makefile + rule})
+        self.first()
+        self.write({"a.c": "#include h.h\nb\n"})
+        self.assertEqual(self.taken(), "2 of 3")
+
+    def test_another_dependency_is_seen(self) -> None:
+        self.first()
+        self.write({"a.c": "#include other.h\na\n"})
+        self.anew("the tool says something else than then")
+
+    def test_what_makes_them_is_a_makefile(self) -> None:
+        self.write(
+            {
+                "Makefile": self.OF_ALL.replace("sed -n 's/^#include /a.o: /p' a.c", "./depend"),
+                "depend": "#!/bin/sh\nsed -n 's/^#include /a.o: /p' a.c\n",
+            }
+        )
+        self.first()
+        self.write({"a.c": "#include h.h\nb\n"})
+        self.assertEqual(self.taken(), "2 of 3")
+        self.write({"depend": "#!/bin/sh\nsed -n 's/^#include  */a.o: /p' a.c\n"})
+        self.anew("depend has changed, which the tool reads")
+
+    def test_one_that_is_made_when_recipes_have_run(self) -> None:
+        """Before the build it lacks what the made header includes."""
+        makefile = (
+            "prog: a.o\n\tcp a.o prog\na.o: a.c gen.h\n\tcat a.c gen.h h.h > a.o\n"
+            "gen.h: gen.in\n\tcp gen.in gen.h\n-include .depend\n.depend: a.c\n"
+            "\tcat a.c gen.h 2>/dev/null | sed -n 's/^#include /a.o: /p' > .depend\n"
+        )
+        self.write({"Makefile": makefile, "a.c": "a\n", "gen.in": "#include h.h\n"})
+        self.first()
+        self.write({"gen.in": "#include other.h\n"})
+        self.assertEqual(self.taken(), "3 of 3")
 
 
 @can_judge

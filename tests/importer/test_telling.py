@@ -7,17 +7,25 @@ import threading
 import unittest
 
 from mkcheck_tools.imports.questions import Questions
-from mkcheck_tools.imports.telling import Far, Telling
+from mkcheck_tools.imports.telling import Far, Telling, Times
 
 
 class TellingTest(unittest.TestCase):
     """Lines for texts with counts."""
 
-    def told(self, word: str, text: str, seconds: float, of_part: float | None = None) -> str:
+    def told(
+        self,
+        word: str,
+        text: str,
+        seconds: float,
+        of_part: float | None = None,
+        silent: float = 0.0,
+    ) -> str:
         """The line that a step prints when it, and the present part of it, have taken these
-        seconds."""
+        seconds, and nothing more was heard of it for `silent` ones."""
         stream = io.StringIO()
-        Telling(stream).progress(word, text, seconds, seconds if of_part is None else of_part)
+        times = Times(seconds, seconds if of_part is None else of_part, silent)
+        Telling(stream).progress(word, text, times)
         return stream.getvalue()
 
     def test_which_build_it_is(self) -> None:
@@ -78,6 +86,24 @@ class TellingTest(unittest.TestCase):
         text += "[8/9 0:12 left] b.o: cc\n"
         line = "mkcheck-import: recording, 3:30, 8 of 9, 0:12 left\n"
         self.assertEqual(self.told("record", text, 210.0), line)
+
+    def test_an_estimate_that_is_old(self) -> None:
+        """The recorder tells something every ten seconds, as long as it goes on."""
+        front, text = "mkcheck-import: recording, 5:00, 7 of 9", "[7/9 0:27 left] a.o: cc\n"
+        self.assertEqual(self.told("record", text, 300.0, silent=30.0), f"{front}, 0:27 left\n")
+        line = f"{front}, nothing more for 1:10\n"
+        self.assertEqual(self.told("record", text, 300.0, silent=70.0), line)
+        # This estimate is of this moment.
+        front = "mkcheck-import: building, 1:00, 2 of 8"
+        self.assertEqual(self.told("build", "[2/8]", 60.0, silent=50.0), f"{front}, 3:00 left\n")
+
+    def test_replays_that_are_ended(self) -> None:
+        text = "[9/9] a.o: cc\n[early 1/3 0:20 left] a replay that began early goes on\n"
+        line = (
+            "mkcheck-import: ending replays, to record all once more, 0:10, 1 of 3, 0:20 left, a"
+            " replay that began early goes on\n"
+        )
+        self.assertEqual(self.told("record", text, 10.0), line)
 
     def test_runs_behind_the_replays(self) -> None:
         front = "mkcheck-import: replaying"

@@ -4,6 +4,7 @@ from __future__ import annotations
 
 import json
 import unittest
+from typing import Any
 
 from importer.make_folder import MakeFolderTest, can_judge
 
@@ -20,9 +21,10 @@ prog: a.o b.o
 class ToldTest(MakeFolderTest):
     """`answer.json`, which `mkcheck-audit` reads."""
 
-    def told(self) -> dict:
+    def told(self) -> dict[str, Any]:
         """What it holds."""
-        return json.loads((self.folder / ".mkcheck/answer.json").read_text())
+        found: dict[str, Any] = json.loads((self.folder / ".mkcheck/answer.json").read_text())
+        return found
 
     def test_a_sentence_has_its_targets_files_and_lines_to_add(self) -> None:
         self.write({"Makefile": PATTERN, "a.c": "1\n", "b.c": "2\n", "common.h": "3\n"})

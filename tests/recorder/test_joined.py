@@ -241,6 +241,22 @@ class AlikeTest(ProjectTest):
         self.assertEqual((runs["a.o"], runs["c.o"]), (each, each))
         self.assertEqual(set(runs["b.o"]), set(each))
 
+    def test_a_dependency_file_that_is_written_from_nothing(self) -> None:
+        """Who opens it so learns nothing of what was there."""
+        files = self.sized(a=30, b=1, c=3000, d=300)
+        runs = self.runs(self.rules("cc -c -MD -MF %.d -o %.o %.c; echo 1 > %.log"), files)
+        self.assertEqual(runs["d.o"], ["damaged"])
+        for command in (
+            "test -e %.d; cc -c -MD -MF %.d -o %.o %.c",
+            "cc -c -MD -MF %.t -o %.o %.c; mv %.t %.d",
+            "cc -c -MD -MF %.d -o %.o %.c; touch %.d",
+            "rm -f %.d; cc -c -MD -MF %.d -o %.o %.c",
+            "cc -c -o %.o %.c; echo >> %.d",
+        ):
+            with self.subTest(command):
+                runs = self.runs(self.rules(command), files)
+                self.assertEqual(runs["d.o"][0], "again")
+
     def test_all_run_apart_where_another_process_asks_for_the_target(self) -> None:
         """It may do something else over an output that is whole."""
         command = "test -e %.o; cc -c -o %.o %.c"

@@ -99,6 +99,25 @@ class LinesTest(unittest.TestCase):
         line = "[replay 0/2] a goes on\n"
         self.assertEqual(stream.getvalue(), line + line)
 
+    def test_recipes_that_are_not_run(self) -> None:
+        """One recipe of six has run, and five can't be: there is no time left. Of ten two had run
+        in four seconds, so the two that will be run take as long again."""
+        for total, unrun, times, line in (
+            (6, 5, [0.0, 4.0, 5.0], "[2/6] bad isn't run\n"),
+            (10, 6, [0.0, 4.0, 4.0], "[3/10 0:04 left] bad isn't run\n"),
+        ):
+            stream, clock = io.StringIO(), iter(times)
+            with mock.patch("time.monotonic", lambda: next(clock)):
+                progress = Progress(total, stream, SECONDS_APART)
+                for _ in range(2 if total == 10 else 1):
+                    progress.begin("a")
+                progress.step("true")
+                progress.at_once()
+                progress.begin("bad")
+                progress.unrun = unrun
+                progress.pass_over()
+            self.assertEqual(stream.getvalue(), line)
+
     def test_a_recipe_for_which_the_program_waits(self) -> None:
         stream = io.StringIO()
         with mock.patch.object(progress_module, "SECONDS_SHOWN", 0.05):

@@ -555,6 +555,7 @@ class TrustTest(unittest.TestCase):
             spec=Replay, trusted=trusted, ahead=None, runner=None, late={}, lean=False
         )
         replay.is_trusted = lambda trial: trial.recipe.target in trusted
+        replay.is_alike = lambda trial: False
         with mock.patch.object(Bench, "tried", return_value=outcome) as tried:
             Replay.tried(replay, outcome.trial, mock.Mock(), frozenset())
         return tried.call_count

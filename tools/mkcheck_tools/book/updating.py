@@ -28,7 +28,7 @@ from mkcheck_tools.book.states import Entry, State, Unusable
 from mkcheck_tools.faults import Fault
 from mkcheck_tools.judge.footprints import Footprint
 from mkcheck_tools.judge.late import Late, key_of
-from mkcheck_tools.judge.notes import Note, Warn, ignore
+from mkcheck_tools.judge.notes import Kind, Note, Warn, ignore
 from mkcheck_tools.replay.versions import Store, Version, digest_of, lay
 from mkcheck_tools.replay.worlds import Effects, Trial, World
 from mkcheck_tools.run.ending import write_text
@@ -164,11 +164,13 @@ class Updating:
 
     def is_trusted_as_before(self, entry: Entry) -> bool:
         """Whether a recipe that was replayed was judged as it would be now: a trusted one as
-        trusted, with the note of that."""
+        trusted, with the note of that, and one that may leave its outputs as such a one."""
         if entry.waiting is not None or self.conditions.asked.get("replay") == "no":
             return True
-        was_trusted = any(note.kind in TRUSTS for note in entry.notes)
-        return was_trusted == (entry.footprint.recipe.target in self.choice.trusted)
+        target, trust = entry.footprint.recipe.target, self.choice.trust
+        was_alike = any(note.kind is Kind.ALIKE for note in entry.notes)
+        was_trusted = was_alike or any(note.kind in TRUSTS for note in entry.notes)
+        return (was_trusted, was_alike) == (target in trust.targets, target in trust.alike)
 
     def resume(self, recipe: Recipe, entry: Entry, effects: Effects, tree: Tree) -> None:
         """Takes a recipe as if it had just run, since it has still to be replayed."""

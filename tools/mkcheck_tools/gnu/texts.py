@@ -22,6 +22,9 @@ ASSIGNMENT = re.compile(r"\s*([^\s:=#+?!]+)\s*(?:[+?!]|:{1,3})?=(.*)", re.DOTALL
 FRONT = re.compile(r"(?:\$\([^()]*\)|\$\{[^{}]*\}|\$.|[^:$])*(?=:)", re.DOTALL)
 STRICT = ".POSIX"
 IGNORING = ".IGNORE"
+# A line of a makefile that mkcheck-import writes for a tool which runs a recipe that failed again,
+# whatever it left, as ninja, and GNU make where the makefile has `.DELETE_ON_ERROR`.
+FAILED_RUN_AGAIN = "# Recipes that failed run again, whatever they left."
 
 
 @dataclass(frozen=True)

@@ -76,7 +76,8 @@ def judged(build: Build, verdict: BuildVerdict) -> str:
     text = f"{counted(verdict.recipes, 'recipe')}, {counted(verdict.reads, 'read')}"
     if not build.problems:
         return text
-    return f"{text}; {counted(len(build.problems), 'question')} not judged"
+    questions = len(grouped(build.problems, build.subjects))
+    return f"{text}; {counted(questions, 'question')} not judged"
 
 
 def is_nothing_judged(build: Build, verdict: BuildVerdict) -> bool:

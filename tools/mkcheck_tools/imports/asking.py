@@ -35,8 +35,12 @@ class Asking:
     exported: dict[str, set[str]]
     run: Callable[[Start], list[Make]]
     questions: Questions
-    sentences: list[str] = field(default_factory=list)
-    """What isn't the same for all goals."""
+    sentences: dict[str, str] = field(default_factory=dict)
+    """What isn't the same for all goals, each with the target that it is about, if it is one."""
+
+    def say(self, text: str, target: str = "") -> None:
+        """Says what isn't the same, or wasn't asked, of one target if there is one."""
+        self.sentences.setdefault(text, target)
 
     def ask(self) -> None:
         """Asks for all that may differ."""
@@ -58,14 +62,15 @@ class Asking:
             asked = self.run(replace(self.start, words=(*options, goal)))
             for make, rule, what in changed(self.shown, asked):
                 where, name = place_of(self.root, make, rule)
-                self.sentences.append(
+                self.say(
                     f"{where}: `make {goal}` has other commands for {name} than `{together}`:"
                     f" {self.plain(what)}; import each goal by itself, and let no two goals make"
-                    " one file in two ways"
+                    " one file in two ways",
+                    name,
                 )
         if done < len(goals):
             why = TOO_LONG if done < ASKED_AT_MOST else ""
-            self.sentences.append(
+            self.say(
                 f"there are {len(goals)} goals, and whether make has the same commands for each of"
                 f" them alone was asked for {done}{why}: import fewer at a time"
             )
@@ -81,7 +86,7 @@ class Asking:
         if done < len(owners):
             why = TOO_LONG if done < ASKED_AT_MOST else ""
             some = ", ".join(one.name for one in found[:5])
-            self.sentences.append(
+            self.say(
                 f"{len(owners)} targets have macros of their own, which may change the commands of"
                 f" what they need ({some}), and {done} of them were asked for{why}; make these"
                 " macros private"
@@ -92,10 +97,11 @@ class Asking:
         commands."""
         for one in inherited_in(make, exported)[:1]:
             where, name = place_of(self.root, make, make.base.rules[one.name][0])
-            self.sentences.append(
+            self.say(
                 f"{where}: whether the commands of {name} depend on the target for which it is made"
                 f" first ({', '.join(one.owners[:5])}) can't be asked, since a recipe starts this"
-                " make by its name: start it by $(MAKE)"
+                " make by its name: start it by $(MAKE)",
+                name,
             )
 
     def compare(self, make: Make, found: list[Inherited], goals: list[str]) -> None:
@@ -111,11 +117,12 @@ class Asking:
             what = difference(make.base.rules[one.name], asked.base.rules.get(one.name, []))
             if what:
                 where, name = place_of(self.root, make, rule)
-                self.sentences.append(
+                self.say(
                     f"{where}: the commands of {name} depend on the target for which it is made"
                     f" first ({', '.join(one.owners[:5])}), by the macros of that target:"
                     f" {self.plain(what)}; that isn't judged; let each of them have a file of its"
-                    " own, or make the macros private"
+                    " own, or make the macros private",
+                    name,
                 )
 
     def plain(self, text: str) -> str:

@@ -165,6 +165,9 @@ class Build:
     tool: str = ""
     """The tool and its version, for people."""
 
+    runs_failed_again: bool = False
+    """Whether the tool runs a recipe that failed again, whatever that left."""
+
     goals: list[str] = field(default_factory=list)
     """Names of nodes, in order."""
 
@@ -259,10 +262,11 @@ class Build:
         self.unjudged.update(recipes)
 
     def question(self, text: str, subject: str) -> None:
-        """Adds a problem that is about one file or folder, and keeps no recipe from being
-        judged."""
+        """Adds a problem that is about one target, file or folder, and keeps no recipe from being
+        judged. The project's own folder is no subject."""
         self.problem(text)
-        self.subjects[text] = subject
+        if subject not in ("", "."):
+            self.subjects[text] = subject
 
     def note(self, text: str, subject: str = "") -> None:
         """Adds a note, once; `subject` is the only target that it is about, or the only folder, if

@@ -63,44 +63,51 @@ $(info {BEGINNING})
 # The time, in seconds, of a file that stands for one that another make makes.
 OLD = 1
 WRAPPER = r"""#!/bin/sh
-# One line of arguments a make; each has files of its own.
-D=@SCRATCH@
+# One line of arguments a make; each has files of its own. Names with an underscore behind them are
+# this script's: one of the environment that had such a name would get another value.
+D_=@SCRATCH@
 # What only other makes make stands there while a make is asked, and not while makes below it are.
 show() {
-    [ ! -f "$1" ] || while read -r f; do [ -e "$f" ] || touch -d @1 "$f" 2>/dev/null; done < "$1"
+    [ ! -f "$1" ] || while read -r f_; do [ -e "$f_" ] || touch -d @1 "$f_" 2>/dev/null; done < "$1"
 }
 hide() {
-    [ ! -f "$1" ] || while read -r f; do [ ! "$f" -ot "$D/lacks/old" ] || rm -f "$f"; done < "$1"
+    [ ! -f "$1" ] || while read -r f_; do
+        [ ! "$f_" -ot "$D_/lacks/old" ] || rm -f "$f_"
+    done < "$1"
 }
-while ! mkdir "$D/lock" 2>/dev/null; do
-    if [ ! -w "$D" ]; then
-        echo "mkcheck-import: a recipe starts make where $D can't be written" >&2
+t_=0
+while ! mkdir "$D_/lock" 2>/dev/null; do
+    # Another make has the lock for a moment: one that stays is of a make that was killed. Where
+    # there is none, it can't be made.
+    [ -d "$D_/lock" ] && t_=$((t_ + 1)) || t_=$((t_ + 30))
+    if [ ! -w "$D_" ] || [ $t_ -gt 6000 ]; then
+        echo "mkcheck-import: a recipe starts make where $D_ can't be written" >&2
         exit 2
     fi
     sleep 0.01
 done
-n=$(cat "$D/count"); n=$((n + 1)); echo $n > "$D/count"
-rmdir "$D/lock"
-at=$(stat -c %s "$MKIMPORT_OUT" 2>/dev/null || stat -f %z "$MKIMPORT_OUT")
-up=$MKIMPORT_OUT
-MKIMPORT_OUT=$D/$n.out MKIMPORT_ERR=$D/$n.err MKIMPORT_ENV=$D/$n.env
+n_=$(cat "$D_/count"); n_=$((n_ + 1)); echo $n_ > "$D_/count"
+rmdir "$D_/lock"
+at_=$(stat -c %s "$MKIMPORT_OUT" 2>/dev/null || stat -f %z "$MKIMPORT_OUT")
+up_=$MKIMPORT_OUT
+MKIMPORT_OUT=$D_/$n_.out MKIMPORT_ERR=$D_/$n_.err MKIMPORT_ENV=$D_/$n_.env
 export MKIMPORT_OUT MKIMPORT_ERR MKIMPORT_ENV
-printf '%s\0' "$PWD" "$up" "$at" "$@" > "$D/$n.args"
-if [ -d "$D/lacks" ]; then
-    above=$MKIMPORT_LACKS MKIMPORT_LACKS=$D/$n.lacks
+printf '%s\0' "$PWD" "$up_" "$at_" "$@" > "$D_/$n_.args"
+if [ -d "$D_/lacks" ]; then
+    above_=$MKIMPORT_LACKS MKIMPORT_LACKS=$D_/$n_.lacks
     export MKIMPORT_LACKS
-    own=$D/lacks/$(printf '%s\0' "$PWD" "$@" | sha256sum | cut -c 1-64)
-    [ ! -f "$own" ] || cp "$own" "$MKIMPORT_LACKS"
-    hide "$above"; show "$MKIMPORT_LACKS"
+    own_=$D_/lacks/$(printf '%s\0' "$PWD" "$@" | sha256sum | cut -c 1-64)
+    [ ! -f "$own_" ] || cp "$own_" "$MKIMPORT_LACKS"
+    hide "$above_"; show "$MKIMPORT_LACKS"
 fi
-@MAKE@ --no-print-directory "$@" > "$D/$n.out" 2>> "$MKIMPORT_ERR"
-s=$?
-if [ -d "$D/lacks" ]; then
-    hide "$MKIMPORT_LACKS"; show "$above"
+@MAKE@ --no-print-directory "$@" > "$D_/$n_.out" 2>> "$MKIMPORT_ERR"
+s_=$?
+if [ -d "$D_/lacks" ]; then
+    hide "$MKIMPORT_LACKS"; show "$above_"
 fi
-echo $s > "$D/$n.status"
-sed -z 's/@MARK@//g' "$D/$n.err" >&2
-exit $s
+echo $s_ > "$D_/$n_.status"
+sed -z 's/@MARK@//g' "$D_/$n_.err" >&2
+exit $s_
 """
 
 

@@ -44,7 +44,7 @@ def joined(texts: list[str], subjects: Mapping[str, str]) -> str:
     end = ":" if first.endswith(":") else ""
     others = [named(text, subjects[text], place_of(first)) for text in texts[1:]]
     front = first.removesuffix(":")
-    return "\n".join([f"{front}; so it is with {listed(others, 'and', 'targets')}{end}", *details])
+    return "\n".join([f"{front}; so it is with {listed(others, 'and', '')}{end}", *details])
 
 
 def named(text: str, target: str, place: str) -> str:

@@ -442,7 +442,7 @@ class Judge:
 
 def is_trust(note: Note) -> bool:
     """Whether a note is on a recipe that is taken as it is."""
-    return note.kind in (NoteKind.TRUSTED, NoteKind.TRUSTED_NEEDLESSLY)
+    return note.kind in (NoteKind.ALIKE, NoteKind.TRUSTED, NoteKind.TRUSTED_NEEDLESSLY)
 
 
 def also_made(build: Build, name: str) -> list[str]:

@@ -3,7 +3,7 @@ build wrote."""
 
 from __future__ import annotations
 
-from mkcheck_tools.imports.builds import Node, path_name
+from mkcheck_tools.imports.builds import Node, in_folder, path_name
 from mkcheck_tools.imports.database import Rule
 from mkcheck_tools.imports.gnumake import Make
 from mkcheck_tools.imports.translating import Translation
@@ -34,8 +34,8 @@ def add_later(translation: Translation, makes: list[Make], written: set[str]) ->
         if view.make.key not in after:
             folder = translation.short(view.make.folder)
             translation.build.question(
-                f"make in {folder} is started in a first build and not in the next one, so when it"
-                " runs isn't judged; let the recipe start it always",
+                f"make {in_folder(folder)} is started in a first build and not in the next one, so"
+                " when it runs isn't judged; let the recipe start it always",
                 folder,
             )
     count = 0

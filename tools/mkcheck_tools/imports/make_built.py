@@ -5,7 +5,7 @@ from __future__ import annotations
 import functools
 import os
 import shlex
-from dataclasses import dataclass, replace
+from dataclasses import dataclass, field, replace
 
 from mkcheck_tools.imports.asking import Asking
 from mkcheck_tools.imports.builds import in_folder, path_name
@@ -39,6 +39,9 @@ class Makefiles:
     unmade: set[str]
     """Those that hold commands or macros, and that no rule of their make makes."""
 
+    again: set[str] = field(default_factory=set)
+    """Those that make makes anew in a second make too, when recipes have run."""
+
 
 @dataclass(frozen=True)
 class MakeBuilt:
@@ -65,8 +68,8 @@ class MakeBuilt:
     before and after a build."""
 
     makefiles: Makefiles
-    sentences: list[str]
-    """What isn't the same for all goals."""
+    sentences: dict[str, str]
+    """What isn't the same for all goals, each with the target that it is about, if it is one."""
 
     readings: Readings
     """What make reads beside its makefiles."""
@@ -101,6 +104,8 @@ def built_by(asked: MakeShown) -> MakeBuilt:
     links = {**shown.links, **links_in(folder)}
     read_again = made_anew(shown, folder, times, after_times)
     makefiles = makefiles_of(copies.seen, folder, [*shown.makes, *built, *after])
+    again = {name for name in makefiles.all if times.get(name) != after_times.get(name)}
+    makefiles = replace(makefiles, again=again)
     made = files - shown.files
     touch_sources(copies.seen, folder, [*built, *after], made)
     front.builds.append("third")

@@ -35,6 +35,7 @@ def shown_build(shown: MakeShown) -> Build:
     translation = Translation(subject, outer_environment())
     build = translation.translate()
     build.tool = front.version
+    build.runs_failed_again = all(map(removes_failed, shown.makes))
     name_overlaps(translation)
     name_makefiles(translation, shown.makes, set())
     name_passing(build, front, shown.makes)
@@ -63,6 +64,7 @@ def made_build(built: MakeBuilt, far: Far) -> Build:
     translation.name_failed(built.makes)
     build.made = built.made
     build.tool = front.version
+    build.runs_failed_again = all(map(removes_failed, makes))
     if reason:
         build.note(f"the commands are those of a real build, not of `make -n`: {reason}")
     dependencies = built.makefiles.dependencies
@@ -79,6 +81,11 @@ def made_build(built: MakeBuilt, far: Far) -> Build:
     build.read_made = shown.read_made - built.read_again
     shown.leftovers.name(build, shown.times, front.keep)
     return build
+
+
+def removes_failed(make: Make) -> bool:
+    """Whether a make removes the target of a recipe that fails."""
+    return any(rule.is_target for rule in make.base.rules.get(".DELETE_ON_ERROR", []))
 
 
 def name_changes(build: Build, built: MakeBuilt, makes: list[Make]) -> None:
@@ -101,8 +108,8 @@ def name_changes(build: Build, built: MakeBuilt, makes: list[Make]) -> None:
             f" whether it has the same commands then ({last_words(failed[0].errors)})"
         )
     name_passing(build, front, makes)
-    for text in built.sentences:
-        build.problem(text)
+    for text, target in built.sentences.items():
+        build.question(text, target)
     built.readings.name(build, varying)
 
 
@@ -111,9 +118,10 @@ def name_passing(build: Build, front: MakeFolder, makes: list[Make]) -> None:
     for make, option in ((make, passing(make)) for make in makes):
         if option:
             folder = path_name(front.copies.seen, front.copies.seen, make.folder)
-            build.problem(
+            build.question(
                 f"a recipe starts make {in_folder(folder)} with {option}, by which it runs nothing"
-                " or passes over files: what it does then isn't judged; leave that option out"
+                " or passes over files: what it does then isn't judged; leave that option out",
+                folder,
             )
 
 

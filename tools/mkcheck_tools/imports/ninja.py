@@ -28,7 +28,7 @@ class NinjaBuild:
     def __init__(self, place: Place, folder: str, manifest: Manifest, version: str = ""):
         self.place, self.folder, self.manifest = place, folder, manifest
         self.seen = SeenPath(os.path.normpath(os.path.join(place.seen, folder)))
-        self.build = Build(place.seen, f"ninja {version}".rstrip())
+        self.build = Build(place.seen, f"ninja {version}".rstrip(), runs_failed_again=True)
         self.resolver = Resolver(manifest, self.is_there, self.tell_of_file)
         self.names: dict[str, str] = {}
         self.makers: dict[str, Edge] = {}
@@ -170,9 +170,10 @@ class NinjaBuild:
         taken = [name for name in names if self.makers.get(name) is not edge]
         for name in taken:
             other = self.makers[name]
-            self.build.problem(
+            self.build.question(
                 f"{name} is an output of {other.file}:{other.line} and, by another spelling, of"
-                f" {edge.file}:{edge.line}: let one of them make it"
+                f" {edge.file}:{edge.line}: let one of them make it",
+                name,
             )
         names = [name for name in names if name not in taken]
         leader = names[0] if names else f"{taken[0]}@{edge.file}:{edge.line}"
@@ -242,19 +243,22 @@ class NinjaBuild:
         where = f"{edge.file}:{edge.line}"
         dyndep = edge.value("dyndep", escape=str)
         if dyndep and not edge.dyndep_is_known:
-            self.build.problem(
+            self.build.question(
                 f"{where} has `dyndep`, and {dyndep} isn't there, which tells what {node.known_as}"
-                " needs: it is known after a build"
+                " needs: it is known after a build",
+                node.known_as,
             )
         for path in edge.told_too_late:
-            self.build.problem(
+            self.build.question(
                 f"{path} is an output of {where} by {dyndep} alone, and another build line takes"
-                " it: ninja may begin that line before it knows; name the output in the manifest"
+                " it: ninja may begin that line before it knows; name the output in the manifest",
+                path,
             )
         if edge.value("deps") not in ("", "gcc"):
-            self.build.problem(
+            self.build.question(
                 f"{where} has `deps = {edge.value('deps')}`, which isn't translated: the"
-                " compiler's output tells what it needs. Use deps = gcc"
+                " compiler's output tells what it needs. Use deps = gcc",
+                node.known_as,
             )
         if edge.value("generator"):
             self.build.note(f"{where} has `generator`: it is taken as any other build line")

@@ -2,7 +2,7 @@
 
 from __future__ import annotations
 
-from mkcheck_tools.imports.builds import Kind, Node
+from mkcheck_tools.imports.builds import Kind, Node, in_folder
 from mkcheck_tools.imports.gnumake import Make
 from mkcheck_tools.imports.ordering import Order
 from mkcheck_tools.imports.translating import Translation
@@ -38,8 +38,9 @@ def name_overlaps(translation: Translation) -> None:
     for (one, other), names in found.items():
         some = ", ".join(names[:5]) + (f" and {len(names) - 5} more" if len(names) > 5 else "")
         build.problem(
-            f"two makes, in {one} and {other}, can run the recipes of the same targets at the same"
-            f" time ({some}), which isn't judged; let one make be done before the other begins"
+            f"two makes, {in_folder(one)} and {in_folder(other)}, can run the recipes of the same"
+            f" targets at the same time ({some}), which isn't judged; let one make be done before"
+            " the other begins"
         )
 
 

@@ -17,6 +17,7 @@ from pathlib import Path
 from typing import Generic
 
 from mkcheck_tools.answers.checkers import find_checker
+from mkcheck_tools.book.choices import ALIKE, KEPT
 from mkcheck_tools.book.footprint_files import Footprints
 from mkcheck_tools.book.paths import path_of_notes, path_of_state
 from mkcheck_tools.book.states import Entry, State, Unusable
@@ -341,8 +342,9 @@ def other_build(kept: Kept, recording: Recording, bases: Mapping[str, str]) -> s
 
 
 def word_of_translation(translated: Translated) -> str:
-    """How many problems there are."""
-    return counted(len(translated.build.problems), "problem")
+    """How many problems there are, as they are told."""
+    build = translated.build
+    return counted(len(grouped(build.problems, build.subjects)), "problem")
 
 
 def written(build: Build, place: Place, desk: Desk) -> Translated:
@@ -415,8 +417,8 @@ def word_of_recording(recording: Recording) -> str:
 def record_build(request: Request, translated: Translated, desk: Desk) -> Recording:
     """Records the first build, and reads what the recorder gave."""
     build, judge = translated.build, translated.judge
-    own = own_trusted(judge)
-    trusted = [*request.trusted, *own]
+    own = [target for target in own_trusted(judge) if target not in request.trusted]
+    trusted = [KEPT + target for target in request.trusted] + [ALIKE + target for target in own]
     words = [word for prefix in request.fixed for word in ("--fixed", prefix)]
     words += [word for target in trusted for word in ("--trust", target)]
     words += [] if request.replay else ["--no-replay"]
@@ -483,8 +485,8 @@ def is_other_choice(book: str, fixed: Sequence[str], trusted: Sequence[str]) -> 
 
 
 def own_trusted(judge: Judge) -> list[str]:
-    """The targets whose recipes are trusted without being asked for: those of `restat`, and those
-    that configure again."""
+    """The targets whose recipes are trusted without being asked for, and run again without their
+    outputs alone: those of `restat`, and those that configure again."""
     names, build = judge.names().written, judge.build
     alike = [name for name, node in build.nodes.items() if node.left_alike]
     return [names[name] for name in [*alike, *configuring(build)] if name in names]

@@ -7,6 +7,7 @@ import shlex
 from dataclasses import dataclass
 
 from mkcheck_tools.answers.graphs import goes_on
+from mkcheck_tools.gnu.texts import FAILED_RUN_AGAIN
 from mkcheck_tools.imports.builds import Build, Command, Kind, Node, Setting
 from mkcheck_tools.run.folders import NAME_AT_MOST
 
@@ -96,7 +97,9 @@ def makefile(build: Build, later: bool, names: Names | None = None) -> str:
     names = names or names_of(build)
     reached = build.reached(later)
     tool = build.tool or "a build"
-    lines = [f"# Written by mkcheck-import for {tool}. Don't edit it.", ".POSIX:", ".SUFFIXES:"]
+    lines = [f"# Written by mkcheck-import for {tool}. Don't edit it."]
+    lines += [FAILED_RUN_AGAIN] if build.runs_failed_again else []
+    lines += [".POSIX:", ".SUFFIXES:"]
     phony = [names[name] for name in reached if is_phony(build, name)]
     goal = goal_name(names)
     if len(build.goals) > 1:

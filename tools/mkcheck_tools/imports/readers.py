@@ -59,8 +59,8 @@ class Reader(Follower):
     links: dict[str, None] = field(default_factory=dict)
     """The links to folders whose texts are read."""
 
-    looked: set[str] = field(default_factory=set)
-    """The names at which the programs look that it starts."""
+    looked: dict[SeenPath, dict[Started | None, None]] = field(default_factory=dict)
+    """The names at which the programs look that it starts, each with the commands of these."""
 
     commands: dict[int, Started] = field(default_factory=dict)
     """The command of each process that is a part of one."""
@@ -139,7 +139,8 @@ class Reader(Follower):
         self.accesses.looked = {}
         super().looked_at(call)
         if call.process not in self.makers and call.process not in self.recipes:
-            self.looked.update(self.accesses.looked)
+            for path in self.accesses.looked:
+                self.looked.setdefault(path, {}).setdefault(self.commands.get(call.process))
 
     def forbidden(self, call: Call) -> None:
         """A call that would write outside. What recipes do so a build shows."""

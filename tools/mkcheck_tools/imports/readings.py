@@ -104,7 +104,8 @@ class Readings:
     """The files outside of the project that makes would write when they read their makefiles."""
 
     seen: set[str] = field(default_factory=set)
-    """The paths of all files that makes, and what they start, read or looked at."""
+    """The paths of all files that makes, and what they start, read or looked at, but for what only
+    the recipes of dependency files did: what these write stands in what makes know."""
 
     sentences: list[str] = field(default_factory=list)
     """What couldn't be tried."""
@@ -119,7 +120,10 @@ class Readings:
         tracer = Tracer(place, start.environment, scratch)
         done = tracer.run(command, Watch(looking=looking, texts=True))
         reader.follow(done.calls)
-        self.seen.update(reader.accesses.reads, reader.looked, reader.programs, reader.links)
+        reads = {path: reader.accesses.readers[path] for path in reader.accesses.reads}
+        for paths in (reads, reader.looked):
+            self.seen.update(path for path, by in paths.items() if self.is_read(reader, by))
+        self.seen.update(reader.programs, reader.links)
         self.outside.update(dict.fromkeys(reader.accesses.forbidden))
         return reader
 
@@ -143,7 +147,7 @@ class Readings:
         self.programs |= {name for name in programs if self.is_own(place, name)}
         paths = [path for path in reader.accesses.reads if path not in reader.programs]
         paths = [path for path in paths if self.is_read(reader, reader.accesses.readers[path])]
-        looked = reader.looked - set(reader.accesses.reads)
+        looked = reader.looked.keys() - reader.accesses.reads.keys()
         seen = {path_name(place.seen, place.seen, path) for path in looked} - self.makefiles
         self.looked |= {name for name in seen if self.is_own(place, name)}
         for path in paths:

@@ -8,6 +8,7 @@ from __future__ import annotations
 import functools
 import os
 import re
+import shlex
 import time
 from pathlib import Path
 
@@ -22,6 +23,15 @@ OLDER = 1_000_000
 OLD = 1
 # How much of a command is quoted.
 SHORT = 80
+# What ends the words of a command, as far as a text shows that; a name by which one begins; words
+# of the shell that come before one.
+OPERATOR = re.compile(r"[;&|<>(){}\n]")
+COMMAND = re.compile(r"[\w./+-]+")
+KEYWORDS = frozenset("if then else elif while until do time exec in case for".split())
+# What hides where a word ends, or that a command hasn't begun; and words that are handed on as they
+# are, but for quotes.
+HIDING = re.compile(r"`|\$\(|<<|[<>]&?[^;&|<>(){}\n]*$")
+UNEXPANDED = re.compile(r"[\w ./,:=@%+'\"-]*")
 DEPENDENCIES = re.compile(r"(?:[^\s:=#$][^:=#$]*:(?![:=])[^=#$;]*|\s*)$")
 
 
@@ -163,7 +173,8 @@ def difference(used: list[Rule], asked: list[Rule], one_shell: bool = False) -> 
     old = [command for rule in used for command in essential(rule)]
     new = [command for rule in asked for command in essential(rule)]
     for (one, shown), (other, shown_again) in zip(old, new):
-        if one != other and not (one_shell and one.startswith(other + "\n")):
+        is_cut = one_shell and one.startswith(other + "\n")
+        if not (is_cut or is_same_to_shell(one, other)):
             return " and not ".join(f"`{text}`" for text in contrasted(other, one))
         if shown.watched != shown_again.watched:
             return "another environment"
@@ -196,6 +207,30 @@ def place_of(root: str, make: Make, rule: Rule) -> tuple[str, str]:
     where = path_name(root, make.folder, makefile)
     name = path_name(root, make.folder, rule.name)
     return (where if rule.line is None else f"{where}:{rule.line}"), name
+
+
+def is_same_to_shell(one: str, other: str) -> bool:
+    """Whether two commands are one, or only quote some of their words otherwise, as `-DX=''` and
+    `-DX=`: those words hold nothing that the shell expands, and are none by which a command
+    begins."""
+    if one == other:
+        return True
+    words, others = one.split(" "), other.split(" ")
+    front = len(os.path.commonprefix([words, others]))
+    rest = len(os.path.commonprefix([words[front:][::-1], others[front:][::-1]]))
+    middles = [" ".join(own[front : len(own) - rest]) for own in (words, others)]
+    text = " ".join(words[:front])
+    begun = OPERATOR.split(text)[-1].split()
+    if not begun or not COMMAND.fullmatch(begun[0]) or begun[0] in KEYWORDS:
+        return False
+    if HIDING.search(text) or not all(map(UNEXPANDED.fullmatch, middles)):
+        return False
+    try:
+        shlex.split(text)
+        first, second = map(shlex.split, middles)
+    except ValueError:
+        return False
+    return first == second
 
 
 def contrasted(one: str, other: str) -> tuple[str, str]:

@@ -485,5 +485,5 @@ def listed(names: list[str], word: str = "or", noun: str = "files") -> str:
         return "".join(names)
     if len(names) > 6:
         one = "one of " if word == "or" else ""
-        return f"{', '.join(names[:5])} {word} {one}{len(names) - 5} more {noun}"
+        return f"{', '.join(names[:5])} {word} {one}{len(names) - 5} more {noun}".rstrip()
     return f"{', '.join(names[:-1])} {word} {names[-1]}"

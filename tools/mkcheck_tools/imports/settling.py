@@ -280,7 +280,8 @@ class Settling:
         ):
             used = [name for name in files if not self.footprints.is_fixed(name)]
             if sentence and used:
-                self.build.problem(sentence.replace("{file}", used[0]))
+                text = sentence.replace("{file}", used[0])
+                self.build.question(text, node.piece_of or node.name)
 
     def rename_phony(self) -> None:
         """Gives nodes that are no files, and have the name of a file that recipes use, another

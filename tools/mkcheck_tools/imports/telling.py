@@ -8,6 +8,7 @@ import sys
 import threading
 import time
 from collections.abc import Callable, Iterator, Sequence
+from dataclasses import dataclass
 from typing import TextIO, TypeVar
 
 from mkcheck_tools.run.progress import CLEAR, duration
@@ -17,6 +18,8 @@ Item = TypeVar("Item")
 # How often a terminal and another file get a line, in seconds.
 SECONDS_ON_TERMINAL = 1.0
 SECONDS_ELSEWHERE = 60.0
+# After so many seconds without another line of a program, its time left is no longer told.
+SECONDS_SILENT = 30.0
 # A count in a line of another program, as `[replay 3/10 0:05 left] a.o` or `[3/10] `, and `[3/0]`
 # where the whole isn't known; and what such a line says of a recipe that goes on.
 COUNT = re.compile(r"\[(?:(\w+) )?(\d+)/(\d+)(?: ([\d:]+) left)?\]")
@@ -31,6 +34,7 @@ DOING = {
     ASKED: "asking make what it would do",
     "translate": "translating",
     "record": "recording",
+    "early": "ending replays, to record all once more",
     "replay": "replaying",
     "alike": "replaying each of those that are alike",
     "folders": "replaying with the folders of other recipes",
@@ -57,6 +61,16 @@ class Far:
             self.told = f"[{part} {number}/{len(items)}] {name(item)} goes on"
             yield item
         self.told = ""
+
+
+@dataclass(frozen=True)
+class Times:
+    """How many seconds a step has taken, the present part of it, and since when nothing more was
+    heard of it."""
+
+    of_step: float
+    of_part: float
+    silent: float = 0.0
 
 
 class Telling:
@@ -87,11 +101,14 @@ class Telling:
 
         def tell() -> None:
             part, since, before = doing(word, ""), begun, begun
+            last, heard = "", begun
             while not ended.wait(self.apart):
                 text, now = look(), time.monotonic()
                 if doing(word, text) != part:
                     part, since = doing(word, text), before
-                self.progress(word, text, now - begun, now - since)
+                if text != last:
+                    last, heard = text, now
+                self.progress(word, text, Times(now - begun, now - since, now - heard))
                 before = now
 
         teller = threading.Thread(target=tell, daemon=True)
@@ -105,10 +122,9 @@ class Telling:
                 self.stream.write(CLEAR)
                 self.stream.flush()
 
-    def progress(self, word: str, text: str, seconds: float, of_part: float) -> None:
-        """A line on a step that is under way, and the part of it that the text counts: how many
-        seconds each has taken."""
-        far = f"{duration(seconds)}{how_far(text, of_part)}"
+    def progress(self, word: str, text: str, times: Times) -> None:
+        """A line on a step that is under way, and the part of it that the text counts."""
+        far = f"{duration(times.of_step)}{how_far(text, times)}"
         shown = f"{self.program}: {doing(word, text)}, {far}"
         with self.lock:
             if self.terminal:
@@ -119,16 +135,19 @@ class Telling:
                 print(shown, file=self.stream, flush=True)
 
 
-def how_far(text: str, seconds: float) -> str:
+def how_far(text: str, times: Times) -> str:
     """The last count in a text, the time that is left, where the whole is known, and the recipe of
-    which that line says that it goes on; empty where there is no count, or it counts nothing."""
+    which that line says that it goes on; empty where there is no count, or it counts nothing. An
+    estimate of another program that is old isn't told, but since when nothing more was heard."""
     counts = list(COUNT.finditer(text))
     done, total = map(int, counts[-1].group(2, 3)) if counts else (0, 0)
     if total == 0:
         return f", {done} so far" if done else ""
     left = counts[-1].group(4)
     if left is None and 0 < done < total:
-        left = duration(seconds / done * (total - done))
+        left = duration(times.of_part / done * (total - done))
+    elif left is not None and times.silent > SECONDS_SILENT:
+        return f", {done} of {total}, nothing more for {duration(times.silent)}"
     more = f", {left} left" if left else ""
     going = GOES_ON.search(text, counts[-1].start())
     if going is not None:

@@ -182,20 +182,22 @@ class MakeTool:
             for name in built.makefiles.all
             if name in built.made or built.times.get(name) != shown.times.get(name)
         }
+        # What make makes before any recipe runs is the same where make knows the same.
+        own = (shown.read_made & built.makefiles.dependencies) - built.makefiles.again
         reread = written | {name for name in built.made if name.endswith(DEPENDENCY_ENDINGS)}
         readings = built.readings
         why = to_build(shown.front, shown.makes, built.makes)
         reasons = {
             f"files of an earlier build are there ({', '.join(sorted(there)[:3])})": there,
             f"the commands are those of a real build: {why}": why,
-            "make makes files when it reads its makefiles": shown.read_made,
+            "make makes files when it reads its makefiles": shown.read_made - own,
             "what make reads beside its makefiles isn't known": readings.sentences,
             "make reads what a recipe makes": readings.outputs,
         }
         anew = tuple(text for text, holds in reasons.items() if holds)
         alike = tuple(sorted(built.unchanged))
         seen = frozenset(readings.seen)
-        return Basis(seen, frozenset(reread), anew, alike, tuple(sorted(timed)))
+        return Basis(seen, frozenset(reread - own), anew, alike, tuple(sorted(timed)))
 
 
 def timed_by(root: str, makes: Iterable[Make], files: set[str]) -> set[str]:

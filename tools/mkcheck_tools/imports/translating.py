@@ -41,9 +41,11 @@ class Translation(Commands):
         for make in makes:
             if make.status != 0:
                 if below_last(make, makes) is None:
-                    self.build.problem(
-                        f"make failed {in_folder(self.short(make.folder))} with status"
-                        f" {make.status}: {failure_of_make(self.root, make, makes).brief}"
+                    folder = self.short(make.folder)
+                    self.build.question(
+                        f"make failed {in_folder(folder)} with status {make.status}:"
+                        f" {failure_of_make(self.root, make, makes).brief}",
+                        folder,
                     )
                 self.build.failed = (
                     "a make that a recipe starts fails, and the build goes on (by a `-` before the"
@@ -315,9 +317,10 @@ class Translation(Commands):
                     folder,
                 )
             if runs_at_once(command.text):
-                self.build.problem(
+                self.build.question(
                     f"{self.place_of(node)}: the recipe of {node.name} starts makes that run beside"
-                    " each other, which isn't judged; give each of them a target of its own"
+                    " each other, which isn't judged; give each of them a target of its own",
+                    node.name,
                 )
             if not is_only_makes(command.text, self.wrapper):
                 rest = without_makes(command.text, self.wrapper)
@@ -333,10 +336,11 @@ class Translation(Commands):
         """A file whose recipe starts makes: the makes are started by a node that only orders. Gives
         that node."""
         if not any(self.is_never_there(view, word) for word in rule.needs if view.rules.get(word)):
-            self.build.problem(
+            self.build.question(
                 f"{self.place_of(node)}: the recipe of {rule.name} starts make only where"
                 f" {rule.name} isn't there or is older than its prerequisites, and what that make"
-                " does then isn't judged; let it start make always, by a phony prerequisite"
+                " does then isn't judged; let it start make always, by a phony prerequisite",
+                rule.name,
             )
         if node.kind is Kind.ORDER:
             return node

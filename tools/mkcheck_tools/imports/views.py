@@ -9,7 +9,7 @@ from collections import deque
 from collections.abc import Mapping
 from dataclasses import dataclass, field
 
-from mkcheck_tools.imports.builds import Build, Node, Origin, path_name
+from mkcheck_tools.imports.builds import Build, Node, Origin, in_folder, path_name
 from mkcheck_tools.imports.database import Rule, Shown
 from mkcheck_tools.imports.gnumake import Make, last_words, own_environment
 
@@ -130,15 +130,16 @@ class Knowledge:
 
     def add(self, make: Make) -> None:
         """Adds what a make knows to the view of its key."""
+        folder = self.short(make.folder)
         if not make.transcript.is_whole:
-            self.build.problem(
-                f"make in {self.short(make.folder)} could not be read: {last_words(make.errors)}"
-            )
+            said = last_words(make.errors)
+            self.build.question(f"make {in_folder(folder)} could not be read: {said}", folder)
             return
         if make.transcript.is_mixed:
-            self.build.problem(
-                f"make in {self.short(make.folder)}: a recipe starts a make by a path or with"
-                " another PATH, and what that one does isn't judged; start it by $(MAKE)"
+            self.build.question(
+                f"make {in_folder(folder)}: a recipe starts a make by a path or with another PATH,"
+                " and what that one does isn't judged; start it by $(MAKE)",
+                folder,
             )
         view = self.views.setdefault(make.key, View(len(self.views), make, make.folder))
         view.exported = self.exported.get(make.folder, set())

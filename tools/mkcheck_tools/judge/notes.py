@@ -17,6 +17,7 @@ class Kind(Enum):
     """The kinds of notes: a word for each, whether it is a doubt or a hint, and what it tells."""
 
     AGAIN = ("again", DOUBT, "a recipe left other contents in a second run (`--again`)")
+    ALIKE = ("alike", HINT, "a recipe may leave its outputs, so it ran again without these alone")
     BESIDE = ("beside", DOUBT, "processes of a recipe write one file side by side")
     BUILT_IN_RULE = ("built-in-rule", DOUBT, "GNU make has a rule of its own that differs")
     CHANNEL = ("channel", DOUBT, "a recipe hands something on, or gets it, that is in no file")
@@ -93,7 +94,7 @@ class Kind(Enum):
 
 
 # Kinds that are stored and not printed, since most recipes have them.
-QUIET = frozenset({Kind.HALF_WRITTEN})
+QUIET = frozenset({Kind.ALIKE, Kind.HALF_WRITTEN})
 KINDS = {kind.word: kind for kind in Kind}
 
 

@@ -26,6 +26,7 @@ from mkcheck_tools.gnu.remade import warn_of_goal, warn_of_remade
 from mkcheck_tools.gnu.searched import warn_of_searched, why_not_found
 from mkcheck_tools.gnu.stems import warn_of_stem
 from mkcheck_tools.gnu.texts import (
+    FAILED_RUN_AGAIN,
     ignoring,
     is_strict,
     names_of_texts,
@@ -91,7 +92,7 @@ def build_of(request: Request, scratch: RealPath, warn: Warn) -> Build:
     if choice.makefile is None and os.path.exists(os.path.join(folder, "GNUmakefile")):
         text = "GNU make reads GNUmakefile first, which isn't judged here; -f GNUmakefile judges it"
         warn(Note("", Kind.OTHER_MAKEFILE, text))
-    check_trust(choice.trusted, graph.recipes)
+    check_trust(choice.trust.targets, graph.recipes)
     check_opaque(choice.opaque, graph.recipes)
     prober = Prober(unrecorded)
     refuse_predefined(graph, prober, warn)
@@ -150,12 +151,15 @@ def warn_of_prefixes(folder: str, prefixes: tuple[str, ...], warn: Warn) -> None
 
 
 def removes_on_error(request: Request) -> bool:
-    """Whether the makefile has GNU make remove the target of a recipe that fails."""
+    """Whether what a recipe that failed left never counts as done: the makefile has GNU make remove
+    it, or was written for a tool that runs the recipe again."""
     try:
         path = Path(request.folder, makefile_of(request))
         text = path.read_text(encoding="utf-8", errors="replace")
     except OSError:
         return False
+    if FAILED_RUN_AGAIN in text.splitlines():
+        return True
     return re.search(r"(?m)^\.DELETE_ON_ERROR[ \t]*:", text) is not None
 
 

@@ -245,7 +245,8 @@ def replay_of(
         writers,
         build.graph.once,
         failing=shop.failing,
-        trusted=frozenset(shop.request.choice.trusted),
+        trusted=shop.request.choice.trust.targets,
+        alike=shop.request.choice.trust.alike,
     )
 
 
@@ -334,8 +335,8 @@ def verdict_of(
     world = recorded.world
     if world is None:
         return ReplayVerdict()
-    trusted = frozenset(shop.request.choice.trusted)
-    verdict = judge(replayed.outcomes, trusted, build.graph.once, world.makers)
+    trust = shop.request.choice.trust
+    verdict = judge(replayed.outcomes, trust, build.graph.once, world.makers)
     if shop.request.replay:
         dates: list[Note] = []
         for trial in world.trials:
@@ -392,7 +393,8 @@ def keep(shop: Workshop, recorded: Recorded, verdict: ReplayVerdict, whole: bool
     if updating is None or recorded.world is None or not (recorded.footprints or whole):
         return False
     footprints = with_met(recorded.footprints, recorded.late, verdict.met)
-    failed = {*verdict.unsteady, *(failure.target for failure in verdict.failures)}
+    unsteady = verdict.unsteady - shop.request.choice.trust.kept
+    failed = {*unsteady, *(failure.target for failure in verdict.failures)}
     targets = [one.recipe.target for one in footprints if one.recipe.target not in failed]
     passed = {
         target: [note for note in verdict.notes if note.target == target]

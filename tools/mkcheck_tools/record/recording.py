@@ -198,11 +198,12 @@ def record(
     try:
         with Progress(len(recipes)) as progress:
             bench = Bench(shop, tree, naming, progress, early)
-            for recipe in recipes:
+            for number, recipe in enumerate(recipes, 1):
                 target = recipe.target
                 progress.begin(target)
                 if shop.ancestors.any_before(failed, target):
                     failed.add(target)
+                    progress.pass_over()
                     text = f"the recipe of {target} wasn't run, since it depends on one that failed"
                     done.failures.append(Failure(target, text))
                     continue
@@ -214,6 +215,8 @@ def record(
                     if is_of_system(error, done):
                         raise
                     failed.add(target)
+                    rest = (one.target for one in recipes[number:])
+                    progress.unrun = sum(shop.ancestors.any_before(failed, one) for one in rest)
                     done.failures.append(failure_of(error, target))
                     bench.clear(world)
     except (OSError, Stopped) as end:

@@ -33,9 +33,12 @@ from mkcheck_tools.run import places
 from mkcheck_tools.run.memory import Memory, memory
 from mkcheck_tools.run.paths import Name, RealPath, SeenPath, seen_in, unbound
 from mkcheck_tools.run.places import DEVICES, TEMPORARY
+from mkcheck_tools.run.progress import Progress
 from mkcheck_tools.trace.accesses import Accesses
 
 PROCESSES = "/proc"
+# What is told of replays that are waited for.
+EARLY = "a replay that began early"
 # How long a wait goes on before signals are looked for, in seconds.
 MOMENT = 0.2
 Writers = Mapping[Name, list[str]]
@@ -80,7 +83,8 @@ class Early:
     its recipe."""
 
     alike: set[int] = field(default_factory=set)
-    """The places of recipes whose output an assembler alone writes and asks for."""
+    """The places of recipes whose target an assembler alone writes and asks for, and of whose other
+    outputs no process learns what stands there."""
 
     used: set[SeenPath] = field(default_factory=set)
     """Files outside of the project that these recipes used."""
@@ -97,8 +101,13 @@ class Early:
         """The recording begins, for the first time or anew."""
         begun: list[Future[Any]] = [*self.started.values(), *self.failing.values()]
         left = {one for one in begun if not one.cancel()}
-        while left:
-            left = futures.wait(left, MOMENT).not_done
+        with Progress(len(left), title="early") as progress:
+            while left:
+                done, left = futures.wait(left, MOMENT, futures.FIRST_COMPLETED)
+                for _ in done:
+                    progress.ended(EARLY)
+                if left:
+                    progress.goes_on(EARLY)
         self.started.clear()
         self.failing.clear()
         self.largest.clear()
@@ -222,12 +231,16 @@ def outside(accesses: Accesses, paths: Iterable[SeenPath]) -> list[SeenPath]:
 
 
 def asks_alone(accesses: Accesses, trial: Trial) -> bool:
-    """Whether a recipe writes its target alone, by an assembler, and no other of its processes
-    learnt what stands there."""
-    target = Name(trial.recipe.target)
-    path = seen_in(accesses.tree.root, target)
-    is_one = trial.writes == (target,) and accesses.is_asked_for_alone(path)
-    return is_one and way_of(trial) is not None
+    """Whether a recipe writes its target by an assembler, and no other of its processes learnt what
+    stands there; and whether none learnt what stands at its other outputs, such as a dependency
+    file."""
+    target, root = Name(trial.recipe.target), accesses.tree.root
+    others = (seen_in(root, name) for name in trial.writes if name != target)
+    return (
+        way_of(trial) is not None
+        and accesses.is_asked_for_alone(seen_in(root, target))
+        and all(map(accesses.is_written_blindly, others))
+    )
 
 
 def has_to_be_alone(accesses: Accesses) -> bool:

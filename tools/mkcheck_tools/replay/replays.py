@@ -143,6 +143,9 @@ class Replay:
     """Whether each recipe is run once more where writes to its target fail."""
     trusted: frozenset[str] = frozenset()
     """The targets whose recipes are taken as they are, whatever they show."""
+    alike: frozenset[str] = frozenset()
+    """Those of them whose recipes may leave their outputs as they were. They are run without these
+    alone: over these they do the same, or nothing."""
     memory: Memory | None = None
     targets: frozenset[Name] = frozenset()
     """Files that recipes will have written in the end, where they are still recorded."""
@@ -161,6 +164,10 @@ class Replay:
     def is_trusted(self, trial: Trial) -> bool:
         """Whether the recipe is taken as it is."""
         return trial.recipe.target in self.trusted
+
+    def is_alike(self, trial: Trial) -> bool:
+        """Whether the recipe is run without its outputs alone."""
+        return trial.recipe.target in self.alike
 
     @functools.cached_property
     def layout(self) -> Layout:
@@ -407,6 +414,8 @@ class Replay:
                 done, left = futures.wait(left, SECONDS_SHOWN, futures.FIRST_COMPLETED)
                 for _ in done:
                     progress.ended("a recipe whose writes fail")
+                if left:
+                    progress.goes_on("a recipe whose writes fail")
         found = dict(enumerate(outcomes))
         with Progress(len(waiting), title="alone") as progress:
             for number, outcome in waiting.items():
@@ -538,14 +547,15 @@ class Replay:
                 outcome = outcome or self.tried(tried, place, folders)
                 if outcome.run != BARE:
                     seen = self.needed(trial, seen, place, folders)
-                    if outcome.passed:
+                    is_whole = outcome.passed and not self.is_alike(trial)
+                    if is_whole:
                         outcome, more = self.glancing(trial, seen, place, folders, outcome)
                         seen = {**seen, **more}
                     tried = self.stamped(trial.with_reads(seen))
                     met = Met(
                         seen=frozenset(seen), clears=outcome.clears, stale=outcome.stale
                     )
-                    if outcome.passed and self.is_by_age(tried, place):
+                    if is_whole and outcome.passed and self.is_by_age(tried, place):
                         outcome = self.listed(tried, place, folders, outcome)
                     if late:
                         self.layout.furnish(tried, folder, folders)
@@ -555,7 +565,7 @@ class Replay:
                     if outcome.passed and drawn is not None and not drawn.passed:
                         outcome = drawn
                     outcome = replace(outcome, trial=trial, met=met)
-                    if not outcome.passed or not self.failing:
+                    if not (is_whole and outcome.passed and self.failing):
                         return outcome
                     if not seen and way_of(trial) is not None:
                         return replace(outcome, half=None)
@@ -595,6 +605,8 @@ class Replay:
         """
         others = all_others(trial.recipe.strict, place.is_bound)
         bench = Bench(self.runner, trial, place, folders, self.ahead)
+        if self.is_alike(trial):
+            return bench.bare()
         outcome = bench.tried(orders.OTHER, others)
         if outcome.passed or outcome.run == BARE:
             return outcome
@@ -860,6 +872,13 @@ class Bench:
             layout.furnish(self.trial, self.place.folder, self.folders)
             outcome = self.runner.runs(self.trial, self.place, order, amid)
             remove(self.place.folder)
+        return outcome
+
+    def bare(self) -> Outcome:
+        """Its run without its outputs."""
+        self.runner.layout.furnish(self.trial, self.place.folder, self.folders)
+        outcome = self.runner.bare(self.trial, self.place)
+        remove(self.place.folder)
         return outcome
 
     def at_once(self, order: str, amid: Surroundings) -> Outcome | None:

@@ -175,11 +175,9 @@ class Runner:
     def runs(self, trial: Trial, place: Place, order: str, amid: Surroundings) -> Outcome:
         """The runs of a recipe in a folder, up to the first that shows something. `order` tells
         which stamps its reads get when its outputs are there, and `amid` what else it finds."""
-        wait_for_clock(trial)
-        outcome = self.one(trial, place, BARE, stamps_of(trial, place.folder))
+        outcome = self.bare(trial, place)
         if not outcome.passed:
             return outcome
-        outcome = Outcome(trial, folders=folders_in(place))
         outputs = [
             name
             for name in trial.writes
@@ -202,6 +200,12 @@ class Runner:
         if found.failed:
             return replace(outcome, warning=found.failed)
         return outcome if found.passed else found
+
+    def bare(self, trial: Trial, place: Place) -> Outcome:
+        """The run of a recipe without its outputs."""
+        wait_for_clock(trial)
+        outcome = self.one(trial, place, BARE, stamps_of(trial, place.folder))
+        return Outcome(trial, folders=folders_in(place)) if outcome.passed else outcome
 
     def joined(
         self, trial: Trial, place: Place, order: str, amid: Surroundings, ahead: bool = False
@@ -227,9 +231,10 @@ class Runner:
         """The same by one run, over outputs with other bytes and amid other surroundings. None
         where it shows something.
 
-        That is enough for a recipe of which an assembler alone learns what stands at its output,
-        where others that are alike have each run: whether that process, over an output that is
-        whole, does something else than over one with other bytes, isn't decided by what it reads.
+        That is enough for a recipe of which an assembler alone learns what stands at its target,
+        and no process what stands at its other outputs, where others that are alike have each run:
+        whether that process, over a target that is whole, does something else than over one with
+        other bytes, isn't decided by what it reads.
         And to all others of its processes the three runs are one: they find the same, but for the
         surroundings. In the recording and in this run these were two different ones; what came to
         the same amid both doesn't go by them, nor by the clock.

@@ -8,6 +8,7 @@ from collections.abc import Iterable, Iterator, Mapping
 from dataclasses import dataclass, field
 
 from mkcheck_tools.answers.graphs import Recipe
+from mkcheck_tools.book.choices import Trust
 from mkcheck_tools.faults import Failure, Fault, failure_of
 from mkcheck_tools.judge.footprints import LOCK_CURE
 from mkcheck_tools.judge.late import Met
@@ -219,7 +220,7 @@ def check_trust(trusted: Iterable[str], recipes: Iterable[Recipe]) -> None:
 
 def judge(
     outcomes: Iterable[Outcome],
-    trusted: frozenset[str],
+    trust: Trust,
     once: frozenset[str],
     makers: Mapping[Name, list[str]],
 ) -> ReplayVerdict:
@@ -237,8 +238,11 @@ def judge(
         if outcome.half:
             verdict.notes.append(note_of_half(target))
         try:
-            if target in trusted:
-                verdict.notes.append(note_of_trusted(outcome))
+            if target in trust.targets:
+                if target in trust.alike:
+                    verdict.notes.append(note_of_alike(target))
+                if target not in trust.alike or not outcome.passed:
+                    verdict.notes.append(note_of_trusted(outcome))
                 if not outcome.passed and not outcome.passes_over:
                     verdict.unsteady.add(target)
             elif outcome.run == AGAIN and outcome.failed and target in once:
@@ -414,6 +418,12 @@ def note_of_half(target: str) -> Note:
         f" {target}.new {target}; of makes, GNU make alone removes such files, by .DELETE_ON_ERROR"
     )
     return Note(target, Kind.HALF_WRITTEN, text)
+
+
+def note_of_alike(target: str) -> Note:
+    """The note of a recipe that may leave its outputs as they were."""
+    text = f"the recipe of {target} may leave its outputs, so it ran again without these alone"
+    return Note(target, Kind.ALIKE, text)
 
 
 def note_of_trusted(outcome: Outcome) -> Note:

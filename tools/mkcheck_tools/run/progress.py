@@ -44,6 +44,12 @@ class Progress:
 
         self.since = self.begun
         self.done = 0
+        self.passed_over = 0
+        """How many have ended without being run."""
+
+        self.unrun = 0
+        """How many of those to come won't be run either."""
+
         self.lock = threading.Lock()
         self.is_over = threading.Event()
         self.thread: threading.Thread | None = None
@@ -80,6 +86,12 @@ class Progress:
         """The recipe runs a command."""
         self.tell(self.number - 1, f"{self.name}: {first_line(text)}", self.name)
 
+    def pass_over(self) -> None:
+        """The recipe isn't run."""
+        self.passed_over += 1
+        self.unrun -= 1
+        self.tell(self.number, f"{self.name} isn't run")
+
     def ended(self, name: str) -> None:
         """A recipe has ended, where several are under way."""
         self.number += 1
@@ -112,9 +124,9 @@ class Progress:
 
     def line(self, now: float, text: str) -> str:
         """A line: the recipe's number of all, an estimate of the time that is left, and a text."""
-        left = ""
-        if 0 < self.done < self.total:
-            seconds = (now - self.begun) / self.done * (self.total - self.done)
+        left, ran = "", self.done - self.passed_over
+        if ran > 0 and self.done + self.unrun < self.total:
+            seconds = (now - self.begun) / ran * (self.total - self.done - self.unrun)
             left = f" {duration(seconds)} left"
         return f"[{self.title}{self.number}/{self.total}{left}] {text}"
 

@@ -161,6 +161,13 @@ class Accesses:
     """By the path of a file of the project the processes that opened it or looked at it, but for
     those that only asked whether it is a link. Nothing has to be there."""
 
+    blind: dict[SeenPath, None] = field(default_factory=dict)
+    """Files that were opened to be written from nothing: who opened them so learnt nothing of what
+    was there."""
+
+    changed: dict[SeenPath, None] = field(default_factory=dict)
+    """Files that left their path, came there by another name, or of which a part was changed."""
+
     def wrote(self, path: SeenPath) -> bool:
         """Whether the recipe wrote this file before, or moved a folder there that holds it."""
         if path in self.writes or not self.moved:
@@ -206,6 +213,7 @@ class Accesses:
     def change(self, path: SeenPath) -> None:
         """The recipe changes a stamp, a mode or a part of a file, and keeps the rest."""
         self.assembled.pop(path, None)
+        self.changed.setdefault(path)
         self.read(path)
         self.write(path)
 
@@ -243,6 +251,7 @@ class Accesses:
         for path in files:
             goal = moved_to(path, old, new)
             self.assembled.pop(goal, None)
+            self.changed.setdefault(goal)
             self.tree.there.add(goal)
             for kept in (self.writes, self.touched, self.made):
                 kept.setdefault(goal)
@@ -255,6 +264,7 @@ class Accesses:
     def lose(self, path: SeenPath) -> None:
         """A file leaves its path: it is removed, renamed or replaced."""
         self.assembled.pop(path, None)
+        self.changed.setdefault(path)
         self.writes.pop(path, None)
         self.moved.pop(path, None)
         self.touched.setdefault(path)
@@ -270,6 +280,11 @@ class Accesses:
         """Whether an assembler alone wrote a file, and no other process learnt what was there."""
         own = {self.assemblers[path]} if path in self.assembled else set()
         return bool(own) and self.asking.get(path, set()) <= own
+
+    def is_written_blindly(self, path: SeenPath) -> bool:
+        """Whether a file was only written from nothing, and no process learnt what was there."""
+        learnt = {*self.asking, *self.changed, *self.missed}
+        return path in self.blind and path not in learnt
 
     def pass_over(self, links: Iterable[SeenPath]) -> None:
         """The recipe follows symbolic links; one that a recipe made is a file that it reads."""
@@ -593,7 +608,10 @@ class Follower:
                 self.accesses.ask(found, call.process)
             return
         written = "O_WRONLY" in flags or "O_RDWR" in flags
-        self.accesses.ask(real, call.process)
+        if is_blind(flags):
+            self.accesses.blind.setdefault(real)
+        else:
+            self.accesses.ask(real, call.process)
         if self.accesses.tree.has(real):
             self.at_work.add(call.process)
             if not written:
@@ -931,6 +949,13 @@ class Follower:
 
     def on_keyctl(self, _: Call) -> None:
         self.accesses.channels.setdefault("keys that the kernel keeps")
+
+
+def is_blind(flags: str) -> bool:
+    """Whether an open with these flags makes the file, or empties it, whatever is there."""
+    given = flags.split("|")
+    is_whole = {"O_WRONLY", "O_CREAT", "O_TRUNC"} <= {*given}
+    return is_whole and "O_EXCL" not in given and "O_NOFOLLOW" not in given
 
 
 def same(known: Owner, mode: str, user: str, group: str) -> bool:
