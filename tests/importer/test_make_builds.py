@@ -727,7 +727,8 @@ class VaryingTest(MakeFolderTest):
             }
         )
         answer = self.imported()
-        self.assertEqual(answer.findings, ["no race y x x"], answer.output + answer.errors)
+        found = ["no race y x x", "no stale y x"]
+        self.assertEqual(answer.findings, found, answer.output + answer.errors)
         self.assertEqual(answer.status, 1)
         done = self.make(self.copied("parallel"), "-j2")
         self.assertIn("No rule to make target", done.stderr)

@@ -71,6 +71,31 @@ class DependencyFilesTest(MakeFolderTest):
             self.assertIn(["a.o", "h", "written", "a.o", "h"], answer.ways)
             self.try_answer(answer)
 
+    def test_generated_header_by_another_spelling(self) -> None:
+        """Make waits for no rule by that spelling: with several jobs it looks at the header that is
+        there still."""
+        self.write(
+            {
+                "Makefile": "prog: a.o\n\tcp a.o prog\n"
+                "a.o: a.in | gen/h\n\tcat a.in gen/h > a.o; echo 'a.o: $(CURDIR)/gen/h' > a.d\n"
+                "gen/h: h.in\n\tsleep 0.3; mkdir -p gen; cp h.in gen/h\n-include a.d\n",
+                "a.in": "a\n",
+                "h.in": "h\n",
+            }
+        )
+        answer = self.imported()
+        self.assertEqual(answer.status, 1, answer.output + answer.errors)
+        self.assertEqual(answer.findings, ["no stale a.o gen/h"])
+        folder = self.copied("parallel", self.built())
+        for name in ("a.d", "a.o"):
+            text = (folder / name).read_text().replace(str(self.scratch / "built"), str(folder))
+            (folder / name).write_text(text)
+        self.make(folder)
+        (folder / "h.in").write_text("i\n")
+        self.assertEqual(self.make(folder, "-j2").returncode, 0)
+        self.assertEqual((folder / "prog").read_text(), "a\nh\n")
+        self.mend("a.o: gen/h\n")
+
     def test_empty_dependency_file(self) -> None:
         """As Automake's, it is there before the first build, and says nothing."""
         self.write(

@@ -499,6 +499,36 @@ class ReadingTest(UnseenTestCase):
         self.write({"Makefile": "all:\n\t$(MAKE) -f sub.mk\n.PHONY: all\n"})
         self.assertIn("sub.mk:5: x isn't", self.stays_old("x", "version").output)
 
+    def test_macro_of_a_make_below(self) -> None:
+        """The make below gets another value of a macro, and so it is started by other words."""
+        self.write(
+            {
+                "Makefile": "v := $(shell cat version)\n"
+                "all:\n\t$(MAKE) -f sub.mk v=$(v)\n.PHONY: all\n",
+                "sub.mk": "x: a\n\t{ echo $(v); cat a; } > x\n",
+                "a": "a\n",
+                "version": "1.0\n",
+            }
+        )
+        self.assertEqual(self.left({"version": "2.0\n"}, "x"), ["1.0\na\n", "2.0\na\n"])
+        self.assertIn("sub.mk:2: x isn't", self.stays_old("x", "version").output)
+        (self.folder / "sub.mk").write_text("x: a version\n\t{ echo $(v); cat a; } > x\n")
+        self.accepted()
+
+    def test_macros_of_makes_below(self) -> None:
+        """Only one of two makes in a folder gets another value."""
+        self.write(
+            {
+                "Makefile": "v := $(shell cat version)\nall:\n\t$(MAKE) -f sub.mk n=1 v=$(v)\n"
+                "\t$(MAKE) -f sub.mk n=2 v=w\n.PHONY: all\n",
+                "sub.mk": "x$(n): a\n\t{ echo $(v); cat a; } > x$(n)\n",
+                "a": "a\n",
+                "version": "1.0\n",
+            }
+        )
+        self.assertEqual(self.left({"version": "2.0\n"}, "x1"), ["1.0\na\n", "2.0\na\n"])
+        self.assertNotIn("x2 isn't", self.stays_old("x1", "version").output)
+
     def test_file_that_can_be_run(self) -> None:
         """Only what make starts, and scripts, are programs."""
         self.version()
@@ -745,6 +775,55 @@ class GoalsTest(UnseenTestCase):
     def test_macros_of_all_users(self) -> None:
         """Each target that needs the file has the same value."""
         self.shared("debug release: mode = g\n")
+        self.accepted()
+
+
+@can_judge
+class EvaluatedTest(UnseenTestCase):
+    """Macros that recipes set by `$(eval ..)`."""
+
+    FRONT = "all: x y\n.PHONY: all\n"
+    USES = "    Makefile:7: the commands of y use what the recipe of another target sets by $(eval ..)"
+
+    def rules(self, text: str) -> None:
+        """Writes the rules for x and y."""
+        self.write({"Makefile": self.FRONT + text, "a": "a\n", "b": "b\n"})
+
+    def test_used_by_another_recipe(self) -> None:
+        self.rules(
+            "x: a\n\t$(eval v := set)\n\tcp a x\ny: b\n\t{ echo $(v); cat b; } > y\n"
+        )
+        self.assertEqual(self.left({"b": "c\n"}, "y"), ["\nc\n", "set\nc\n"])
+        self.refused(f"{self.USES} (v; x), and are others in a make that doesn't run it:")
+
+    def test_recipe_that_always_runs(self) -> None:
+        self.rules(
+            "y: b x\n\t{ echo $(v); cat b; } > y\n.PHONY: x\nx:\n\t$(eval v := set)@:\n"
+        )
+        self.assertEqual(self.left({"b": "c\n"}, "y"), ["set\nc\n", "set\nc\n"])
+        self.accepted()
+
+    def test_own_macro(self) -> None:
+        self.rules(
+            "x: a\n\t$(eval v := $@)\n\tcp a $(v)\ny: b\n\t$(eval v := $@)\n\tcp b $(v)\n"
+        )
+        self.accepted()
+
+    COUNT = "define count\n$(eval n := $(n)i)\nendef\n"
+
+    def test_count(self) -> None:
+        self.rules(
+            f"{self.COUNT}x: a\n\t$(count){{ echo $(n); cat a; }} > $@\n"
+            "y: b\n\t$(count){ echo $(n); cat b; } > $@\n"
+        )
+        self.assertEqual(self.left({"b": "c\n"}, "y"), ["i\nc\n", "ii\nc\n"])
+        self.refused("the commands of y use what the recipe of another target sets by $(eval ..)")
+
+    def test_count_that_is_only_printed(self) -> None:
+        self.rules(
+            f"{self.COUNT}x: a\n\t$(count)@echo '[$(n)] $@'\n\tcp a x\n"
+            "y: b\n\t$(count)@echo '[$(n)] $@'\n\tcp b y\n"
+        )
         self.accepted()
 
 

@@ -4,6 +4,7 @@ from __future__ import annotations
 
 import os
 import re
+import shutil
 import sys
 from dataclasses import dataclass, replace
 from pathlib import Path
@@ -12,6 +13,9 @@ from mkcheck_tools.answers.checkers import Checker, find_checker
 from mkcheck_tools.answers.findings import answer_of
 from mkcheck_tools.answers.graphs import read_graph
 from mkcheck_tools.faults import Fault
+from mkcheck_tools.gnu.macros import C17, PROBE
+from mkcheck_tools.gnu.predefined import VALUES, VARYING
+from mkcheck_tools.gnu.texts import plainly_included
 from mkcheck_tools.imports.build_folders import configured_in, first_of, refuse_build_folder
 from mkcheck_tools.run.paths import RealPath
 from mkcheck_tools.run.places import Place
@@ -21,6 +25,8 @@ READERS = (POSIX, MAKE, NINJA)
 GNU_ALONE = "GNUmakefile"
 # A command that starts a make, which a recipe of a footprint can't.
 STARTS_MAKE = re.compile(r"(?:^|[\s;&|(])g?make(?:\s|$)")
+# A line that sets a macro.
+SETTING = r"(?m)^ *{}[ \t]*[:?+!]*="
 # A refusal of a line of a makefile, as `mkcheck graph` prints it.
 REFUSED_AT = re.compile(r"refused \d+ (?!operand:|goal:|\(default\):)(\S+:\d+)$", re.MULTILINE)
 # What has to be run where a project has no build yet.
@@ -117,10 +123,35 @@ def why_not_posix(wanted: Wanted) -> str:
         # What is wrong in commands comes behind what is wrong in footprints, which are none here.
         told = REFUSED_AT.match(reply.shown)
         return f"{told[1]} isn't POSIX's" if told else "it isn't POSIX's"
-    recipes = read_graph(reply.shown).recipes
-    for recipe in recipes:
+    graph = read_graph(reply.shown)
+    for recipe in graph.recipes:
         if any(STARTS_MAKE.search(line) for line in recipe.lines):
             return f"the recipe of {recipe.target} starts make"
+        if any(C17.search(line) for line in recipe.lines) and shutil.which("c17") is None:
+            return f"the recipe of {recipe.target} starts c17, POSIX's compiler, which isn't there"
+    for node in graph.nodes.values():
+        if not node.recipe and not node.phony and os.path.isdir(Path(wanted.root, node.name)):
+            return f"{node.name} is a folder"
+    return macro_of_gnu_make(wanted, reply.shown)
+
+
+def macro_of_gnu_make(wanted: Wanted, shown: str) -> str:
+    """Which macro only GNU make sets or obeys, as a clause; empty if there is none. One that it
+    sets counts where the goals have another graph or other commands than `shown` by it."""
+    makefile = checker_of(wanted).makefile
+    paths = [Path(wanted.root, name) for name in plainly_included(wanted.root, makefile)]
+    texts = [path.read_text("utf-8", "replace") for path in paths if path.is_file()]
+    whole = "\n".join(texts)
+    if re.search(SETTING.format("VPATH"), whole):
+        return "it sets VPATH, which GNU make obeys"
+    for name in (*VARYING, *VALUES):
+        own = re.escape(name)
+        is_used = re.search(rf"\$[({{]{own}[)}}:]", whole) is not None
+        if not is_used or re.search(SETTING.format(own), whole):
+            continue
+        asked = checker_of(replace(wanted, words=(*wanted.words, f"{name}={PROBE}")))
+        if asked.ask("graph", "-c").shown != shown:
+            return f"it uses {name}, which GNU make sets"
     return ""
 
 

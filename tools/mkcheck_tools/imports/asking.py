@@ -1,7 +1,8 @@
 """Asks GNU make for other goals: whether they give a file other commands.
 
 A file that several goals make, or that several targets with macros of their own need, is made by
-the commands of the one that comes first, and the others take it as it is.
+the commands of the one that comes first, and the others take it as it is. So it is with a file
+whose commands use a macro that the recipe of another one sets: make is asked without that recipe.
 """
 
 from __future__ import annotations
@@ -9,6 +10,7 @@ from __future__ import annotations
 from collections.abc import Callable
 from dataclasses import dataclass, field, replace
 
+from mkcheck_tools.imports.evaluated import Evaluated, evaluated_in
 from mkcheck_tools.imports.gnumake import Make, Start, option_words, own_environment
 from mkcheck_tools.imports.inherited import Inherited, inherited_in
 from mkcheck_tools.imports.questions import TOO_LONG, Questions
@@ -48,10 +50,14 @@ class Asking:
         goals = goals if len(goals) > 1 else []
         own = [inherited_in(make, self.exported.get(make.folder, set())) for make in self.shown]
         counts = [len(owners_of(found)[:ASKED_AT_MOST]) + bool(free_of(found)) for found in own]
+        evaluated = [evaluated_in(make) for make in self.shown]
+        counts += [len(found[:ASKED_AT_MOST]) for found in evaluated]
         self.questions.known += len(goals[:ASKED_AT_MOST]) + sum(counts)
         self.ask_goals(goals)
         for make, found in zip(self.shown, own):
             self.ask_owners(make, found)
+        for make, setting in zip(self.shown, evaluated):
+            self.ask_evaluated(make, setting)
 
     def ask_goals(self, goals: list[str]) -> None:
         """Asks for each of several goals alone."""
@@ -104,14 +110,50 @@ class Asking:
                 name,
             )
 
-    def compare(self, make: Make, found: list[Inherited], goals: list[str]) -> None:
-        """Compares the commands of files with those that a make has for other goals."""
+    def asked_again(self, make: Make, more: list[str]) -> Make:
+        """The same make, asked for other goals, or with more options."""
         words = [*make.words, *(word for word in self.start.words if "=" in word)]
         options = [option for option in option_words(words) if not is_of_folder(option[0])]
         words = [word for option in options for word in option]
         own = own_environment(make.environment)
-        start = replace(self.start, folder=make.folder, words=(*words, *goals), more=own)
-        asked = self.run(start)[0]
+        start = replace(self.start, folder=make.folder, words=(*words, *more), more=own)
+        return self.run(start)[0]
+
+    def ask_evaluated(self, make: Make, found: list[Evaluated]) -> None:
+        """Asks for the files whose commands use what other recipes set."""
+        done = 0
+        for done, one in enumerate(self.questions.each(found[:ASKED_AT_MOST]), 1):
+            self.ask_without(make, one)
+        if done < len(found):
+            why = TOO_LONG if done < ASKED_AT_MOST else ""
+            some = ", ".join(name for one in found[:5] for name in one.users[:1])
+            self.sentences.append(
+                f"the commands of several targets use what other recipes set by $(eval ..) ({some},"
+                f" ..), and whether they are others without these was asked {done} times{why}; set"
+                " macros outside of recipes"
+            )
+
+    def ask_without(self, make: Make, found: Evaluated) -> None:
+        """Compares the commands of files with those that a make has when it doesn't run the recipes
+        that set macros which they use."""
+        options = [word for name in found.setters for word in ("-o", name)]
+        asked = self.asked_again(make, [*options, *make.goals])
+        for name in found.users:
+            rules = make.base.rules[name]
+            what = difference(rules, asked.base.rules.get(name, []))
+            if what:
+                where, name = place_of(self.root, make, rules[0])
+                macros, setters = ", ".join(found.macros[:5]), ", ".join(found.setters[:5])
+                self.sentences.append(
+                    f"{where}: the commands of {name} use what the recipe of another target sets"
+                    f" by $(eval ..) ({macros}; {setters}), and are others in a make that doesn't"
+                    f" run it: {self.plain(what)}; that isn't judged; set the macro outside of"
+                    " recipes"
+                )
+
+    def compare(self, make: Make, found: list[Inherited], goals: list[str]) -> None:
+        """Compares the commands of files with those that a make has for other goals."""
+        asked = self.asked_again(make, goals)
         for one in found:
             rule = make.base.rules[one.name][0]
             what = difference(make.base.rules[one.name], asked.base.rules.get(one.name, []))

@@ -95,6 +95,9 @@ def names_of(translation: Translation, view: View, word: str, path: str) -> tupl
     if any(rule.is_target for rule in rules):
         edge = translation.edge(view, word)
         return (*edge.normal, *edge.late)
+    if translation.is_other_spelling(view, word):
+        translation.build.blind.add(path)
+        return ()
     if translation.after is not None and not path.startswith("/") and path not in translation.after:
         return ()
     if translation.is_folder(path):

@@ -133,7 +133,7 @@ class Leftovers:
             return ""
         return (
             f" (it was built without {self.some(self.hidden)}, which an earlier build left;"
-            " with --keep what is there is taken as it is)"
+            " with mkcheck-import --keep what is there is taken as it is)"
         )
 
     def some(self, names: Iterable[str]) -> str:
@@ -149,7 +149,7 @@ class Leftovers:
             left, taken = ("is", "it is") if some.startswith("1 ") else ("are", "they are")
             build.note(
                 f"{some} of an earlier build {left} left out, so that the build begins from"
-                f" nothing; with --keep {taken} taken as {taken}"
+                f" nothing; with mkcheck-import --keep {taken} taken as {taken}"
             )
         if self.shown_again:
             some = self.some(self.shown_again)
@@ -172,7 +172,7 @@ class Leftovers:
             build.problem(
                 f"{self.some(old)} with rules are there already, and nothing tells whether they"
                 " came with the project or an earlier build left them: run `make clean`, or remove"
-                f" them; with --keep they are taken as they are{why and '; ' + why}"
+                f" them; with mkcheck-import --keep they are taken as they are{why and '; ' + why}"
             )
         elif why:
             build.note(why)

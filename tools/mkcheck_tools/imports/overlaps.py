@@ -18,7 +18,7 @@ def name_overlaps(translation: Translation) -> None:
     makes = [translation.makes[0], *(make for make, _, _ in translation.starts)]
     users: dict[str, list[Make]] = {}
     for make in makes:
-        for name in recipes_of(translation, make):
+        for name in dict.fromkeys(recipes_of(translation, make)):
             users.setdefault(name, []).append(make)
     found: dict[tuple[str, str], list[str]] = {}
     for name, sharing in users.items():

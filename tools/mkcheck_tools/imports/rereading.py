@@ -14,7 +14,7 @@ from pathlib import Path
 
 from mkcheck_tools.imports.builds import path_name
 from mkcheck_tools.imports.database import Rule
-from mkcheck_tools.imports.gnumake import Make
+from mkcheck_tools.imports.gnumake import Make, is_harmless, options_of
 from mkcheck_tools.imports.own_folders import essential, essential_texts
 
 # By how many nanoseconds files that the build made are older than sources.
@@ -136,29 +136,50 @@ def is_dependency_file(path: str) -> bool:
 def changed(used: list[Make], asked: list[Make]) -> list[tuple[Make, Rule, str]]:
     """The rules whose commands are others in makes that were asked again: the make, the rule as it
     was used, and what differs."""
-    keys = [make.key for make in used]
-    known = dict(zip(reversed(keys), reversed(used)))
-    alike = {key[:2]: (key, make) for key, make in zip(reversed(keys), reversed(used))}
     ran: dict[tuple[object, ...], list[Rule]] = {}
-    for key, make in zip(keys, used):
+    for make in used:
         for name, rules in make.base.rules.items():
             if any(rule.ran for rule in rules):
-                ran.setdefault((key, name), rules)
+                ran.setdefault((make.key, name), rules)
     found: dict[tuple[str, str], tuple[Make, Rule, str]] = {}
-    for make in asked:
-        own = make.key
-        found_as = (own, known[own]) if own in known else alike.get(own[:2])
-        if found_as is None:
-            continue
-        key, old = found_as
+    for make, old in paired(used, asked):
         for name, rules in make.base.rules.items():
-            before = ran.get((key, name), [])
+            before = ran.get((old.key, name), [])
             what = difference(before, rules, old.transcript.is_one_shell)
-            if not what and key != own and before and any(rule.ran for rule in rules):
+            if not what and old.key != make.key and before and any(rule.ran for rule in rules):
                 what = "another environment"
             if what:
                 found.setdefault((make.folder, name), (old, before[0], what))
     return list(found.values())
+
+
+def paired(used: list[Make], asked: list[Make]) -> list[tuple[Make, Make]]:
+    """The makes that were asked again, each with the one that it stands for: the one that is
+    started in the same way, else that in another environment, else that with other values of its
+    macros, in the order in which they are started."""
+    known = {make.key: make for make in reversed(used)}
+    alike = {make.key[:2]: make for make in reversed(used)}
+    counted = {key: make for key, make in zip(counted_keys(used), used)}
+    found = []
+    for key, make in zip(counted_keys(asked), asked):
+        old = known.get(make.key) or alike.get(make.key[:2]) or counted.get(key)
+        if old is not None:
+            found.append((make, old))
+    return found
+
+
+def counted_keys(makes: list[Make]) -> list[tuple[object, ...]]:
+    """For each make its folder, its options and macros without their values, and how many such
+    makes came before."""
+    counts: dict[tuple[object, ...], int] = {}
+    found: list[tuple[object, ...]] = []
+    for make in makes:
+        options = (word for word in options_of(make.words) if not is_harmless(word))
+        named = (word if word[0] == "-" else word.partition("=")[0] for word in options)
+        key = (make.folder, *sorted(named))
+        counts[key] = counts.get(key, 0) + 1
+        found.append((*key, counts[key]))
+    return found
 
 
 def difference(used: list[Rule], asked: list[Rule], one_shell: bool = False) -> str:
@@ -184,12 +205,8 @@ def difference(used: list[Rule], asked: list[Rule], one_shell: bool = False) -> 
 def other_needs(used: list[Make], asked: list[Make]) -> list[tuple[Make, Rule, str]]:
     """The rules with the same commands and other prerequisites in makes that were asked again: the
     make, the rule, and the prerequisites that differ."""
-    known = {make.key: make for make in reversed(used)}
     found = []
-    for make in asked:
-        old = known.get(make.key)
-        if old is None:
-            continue
+    for make, old in paired(used, asked):
         for name, rules in make.base.rules.items():
             before = old.base.rules.get(name, [])
             for one, other in zip(before, rules):

@@ -97,6 +97,9 @@ class Translation(Commands):
         path = self.path(view, text)
         rules = view.rules.get(text, [])
         if not any(rule.is_target for rule in rules):
+            if self.is_other_spelling(view, text):
+                self.build.blind.add(path)
+                return Edge()
             if any(other is not view for other in self.recipes.get(path, [])):
                 return Edge(late=(path,))
             if self.is_folder(path):
@@ -158,7 +161,14 @@ class Translation(Commands):
     def again(self, view: View, node: Node, rules: list[Rule]) -> None:
         """A file that is a node already, by another view or another spelling of its name."""
         pieces = [shown for rule in rules for shown in rule.commands]
-        if pieces:
+        if pieces and node.make == view.number:
+            self.build.problem(
+                f"{node.name}: make has a recipe for it by {node.known_as} and by {rules[0].name},"
+                " and takes these for two files, so whether both recipes run at one time isn't"
+                " judged; let one rule make it",
+                node.name,
+            )
+        elif pieces:
             self.build.problem(
                 f"{node.name}: several makes have a recipe for it, and whether they run at one time"
                 " isn't judged; let one makefile have the rule",

@@ -216,6 +216,14 @@ class Knowledge:
             return path not in self.after
         return not any(rule.has_recipe for rule in rules) or self.starts_makes(rules)
 
+    def is_other_spelling(self, view: View, text: str) -> bool:
+        """Whether make has a rule for a file by another spelling of its name alone: by this one it
+        looks at the file without waiting for that rule."""
+        rules = view.rules.get(text, [])
+        path = self.path(view, text)
+        is_target = any(rule.is_target for rule in rules)
+        return not is_target and view in self.targets.get(path, []) and not self.is_folder(path)
+
     def makes_itself(self, rules: list[Rule]) -> bool:
         """Whether the recipe of a file makes it, and no make that it starts or waits for."""
         return not self.starts_makes(rules) and not all(rule.does_nothing for rule in rules)

@@ -44,6 +44,7 @@ class Kind(Enum):
     MAKE = ("make", DOUBT, "make ran other commands, or used other files (`--make`)")
     MODE = ("mode", DOUBT, "a recipe gives a folder a mode that no footprint can say")
     MODULES = ("modules", DOUBT, "a recipe uses modules that Python keeps compiled")
+    NEW_FOLDER = ("new-folder", DOUBT, "recipes that may run at once make a folder by mkdir")
     NEWER = ("newer", DOUBT, "commands use `$?`, whose value is another one in each make")
     NOT_COPIED = ("not-copied", DOUBT, "files of the folder weren't there for the recipes")
     OLD_LINK = ("old-link", DOUBT, "a recipe makes a link to a file that is older")

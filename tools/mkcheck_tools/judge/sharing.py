@@ -29,6 +29,7 @@ from mkcheck_tools.faults import RecipeFault
 from mkcheck_tools.judge.footprints import Footprint, shown, warn_of_lost
 from mkcheck_tools.judge.late import Late, folders_of
 from mkcheck_tools.judge.locks import warn_of_locks
+from mkcheck_tools.judge.new_folders import warn_of_folders
 from mkcheck_tools.judge.notes import Kind, Note, Warn, ignore
 from mkcheck_tools.judge.refusals import listed
 from mkcheck_tools.run.folders import is_plain_path
@@ -170,6 +171,7 @@ def with_shared(
     warn_of_ports(footprints, makers.ancestors, warn)
     warn_of_processes(footprints, makers.ancestors, warn)
     warn_of_locks(footprints, makers.ancestors, warn)
+    warn_of_folders(footprints, makers.ancestors, warn)
     found = [with_sought(footprint, makers, warn) for footprint in footprints]
     return [with_modes(with_own(footprint, uses, warn), uses, warn) for footprint in found]
 
