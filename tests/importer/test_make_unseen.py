@@ -783,7 +783,9 @@ class EvaluatedTest(UnseenTestCase):
     """Macros that recipes set by `$(eval ..)`."""
 
     FRONT = "all: x y\n.PHONY: all\n"
-    USES = "    Makefile:7: the commands of y use what the recipe of another target sets by $(eval ..)"
+    USES = (
+        "    Makefile:7: the commands of y use what the recipe of another target sets by $(eval ..)"
+    )
 
     def rules(self, text: str) -> None:
         """Writes the rules for x and y."""

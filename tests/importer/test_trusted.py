@@ -83,7 +83,8 @@ class NinjaTest(NinjaFolderTest):
         rule = "rule cp\n  command = cp s x && test ! -e fail\nbuild x: cp s\n"
         self.write({"build.ninja": rule, "s": "1\n"})
         copy = self.copied("failed")
-        for files, status in (({}, 0), ({"s": "2\n", "fail": ""}, 1), ({}, 0)):
+        runs: list[tuple[dict[str, str], int]] = [({}, 0), ({"s": "2\n", "fail": ""}, 1), ({}, 0)]
+        for files, status in runs:
             (copy / "fail").unlink(missing_ok=True)
             for name, text in files.items():
                 (copy / name).write_text(text)

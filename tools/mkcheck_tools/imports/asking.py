@@ -127,7 +127,7 @@ class Asking:
         if done < len(found):
             why = TOO_LONG if done < ASKED_AT_MOST else ""
             some = ", ".join(name for one in found[:5] for name in one.users[:1])
-            self.sentences.append(
+            self.say(
                 f"the commands of several targets use what other recipes set by $(eval ..) ({some},"
                 f" ..), and whether they are others without these was asked {done} times{why}; set"
                 " macros outside of recipes"
@@ -144,11 +144,12 @@ class Asking:
             if what:
                 where, name = place_of(self.root, make, rules[0])
                 macros, setters = ", ".join(found.macros[:5]), ", ".join(found.setters[:5])
-                self.sentences.append(
+                self.say(
                     f"{where}: the commands of {name} use what the recipe of another target sets"
                     f" by $(eval ..) ({macros}; {setters}), and are others in a make that doesn't"
                     f" run it: {self.plain(what)}; that isn't judged; set the macro outside of"
-                    " recipes"
+                    " recipes",
+                    name,
                 )
 
     def compare(self, make: Make, found: list[Inherited], goals: list[str]) -> None:
