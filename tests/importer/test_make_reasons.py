@@ -219,6 +219,13 @@ class WrittenIfChangedTest(UnseenTestCase):
         self.assertEqual(answer.status, 4)
         self.assertIn("leaves flags as it is also where it holds other contents", answer.output)
 
+    def test_one_that_compares_sizes_is_not_judged(self) -> None:
+        self.flags("h flags", 'test "$$(wc -c < conf)" = "$$(cat $@ | wc -c)" || cp conf $@')
+        self.assertEqual(self.left({"conf": "2\n"}, "x"), ["1\n1\n1\n", "1\n1\n2\n"])
+        answer = self.imported(replay=True)
+        self.assertEqual(answer.status, 4)
+        self.assertIn("leaves flags as it is also where it holds other contents", answer.output)
+
 
 @can_judge
 class PrintedTest(UnseenTestCase):

@@ -499,6 +499,34 @@ class ReadingTest(UnseenTestCase):
         self.write({"Makefile": "all:\n\t$(MAKE) -f sub.mk\n.PHONY: all\n"})
         self.assertIn("sub.mk:5: x isn't", self.stays_old("x", "version").output)
 
+    def flags(self, stamp: str) -> None:
+        """A target that needs a stamp of its flags, which is written when they change."""
+        self.write(
+            {
+                "Makefile": "flags := -O\ndefs := $(shell cat defs)\n"
+                "x: a stamp\n\t{ echo $(flags) $(defs); cat a; } > x\n"
+                f"stamp: FORCE\n\t{stamp}\nFORCE:\n",
+                "a": "a\n",
+                "defs": "-D1\n",
+            }
+        )
+
+    def test_stamp_of_other_flags(self) -> None:
+        """`make -n` takes the stamp for made anew, and a real make leaves it as it is."""
+        self.flags("echo '$(flags)' | cmp -s - stamp || echo '$(flags)' > stamp")
+        self.assertEqual(self.left({"defs": "-D2\n"}, "x"), ["-O -D1\na\n", "-O -D2\na\n"])
+        self.stays_old("x", "defs")
+
+    def test_stamp_of_all_flags(self) -> None:
+        text = "$(flags) $(defs)"
+        for stamp in (
+            f"echo '{text}' | cmp -s - stamp || echo '{text}' > stamp",
+            "cmp -s defs stamp || cp defs stamp",
+        ):
+            self.flags(stamp)
+            self.assertEqual(self.left({"defs": "-D2\n"}, "x"), ["-O -D2\na\n"] * 2)
+            self.accepted()
+
     def test_macro_of_a_make_below(self) -> None:
         """The make below gets another value of a macro, and so it is started by other words."""
         self.write(

@@ -18,7 +18,7 @@ from mkcheck_tools.imports.leaving import times_in
 from mkcheck_tools.imports.make_folder import MakeFolder, MakeShown, exported_by, shown_with
 from mkcheck_tools.imports.questions import processor_time
 from mkcheck_tools.imports.readers import Started
-from mkcheck_tools.imports.readings import Readings
+from mkcheck_tools.imports.readings import Readings, run_in
 from mkcheck_tools.imports.rereading import for_makefiles, is_dependency_file, touch_sources
 from mkcheck_tools.imports.telling import ASKED
 from mkcheck_tools.imports.unchanged import left_unchanged
@@ -140,7 +140,8 @@ def built_by(asked: MakeShown) -> MakeBuilt:
     readings.find_outputs(copies.shut("built"), front.start, made)
     readings.try_all(copies.shut("asked"), front.start)
     if readings.found:
-        readings.confirm(up_to_date(front, after_times), functools.partial(ask, front, "fresh"))
+        fresh = up_to_date(front, after_times)
+        readings.confirm(fresh, functools.partial(ask, front, "fresh"), run_in(after))
     ask_unseen(shown, [built, after], made, asking, readings)
     return MakeBuilt(
         shown,

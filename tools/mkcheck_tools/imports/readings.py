@@ -15,6 +15,7 @@ from mkcheck_tools.imports.builds import Build, Kind, Node, in_folder, is_foreig
 from mkcheck_tools.imports.copies import Copies
 from mkcheck_tools.imports.database import Rule
 from mkcheck_tools.imports.gnumake import Make, Start, own_environment
+from mkcheck_tools.imports.inherited import needs_of, reached
 from mkcheck_tools.imports.questions import TOO_LONG, Questions
 from mkcheck_tools.imports.readers import ByCommand, Reader, Started
 from mkcheck_tools.imports.rereading import changed, other_needs, place_of, short
@@ -214,25 +215,43 @@ class Readings:
                 " read"
             )
 
-    def confirm(self, folder: str, run: Callable[[bool], list[Make]]) -> None:
+    def confirm(
+        self, folder: str, run: Callable[[bool], list[Make]], idle: set[tuple[str, str]]
+    ) -> None:
         """Asks make by `run`, in a folder in which all is up to date, whether it runs the recipes
-        whose commands are others when such a file is edited. Those that it runs are all right."""
+        whose commands are others when such a file is edited. Those that it runs are all right.
+
+        `idle` are those that a real make runs there. What make would run besides, though nothing
+        is edited, only follows recipes that leave their files as they are: these have to go by the
+        file.
+        """
         trial = Trial(folder, self.makefiles, self.written, run, self.printed)
         ran: dict[tuple[str, int], set[tuple[str, str]]] = {}
         files = dict.fromkeys(one.file for one in self.found)
-        self.questions.known += sum(map(trial.count, files))
+        self.questions.known += 1 + sum(map(trial.count, files))
+        try:
+            presumed = run_in(run(trial.is_confined)) - idle
+        except Fault:
+            presumed = set()
         for file in files:
             for number, makes in trial.edits(file):
-                ran[file, number] = {
-                    (make.folder, name)
-                    for make in makes
-                    for name, rules in make.base.rules.items()
-                    if any(rule.ran for rule in rules)
-                }
+                ran[file, number] = run_in(makes)
+        keys = {(one.file, one.number, one.key) for one in self.found}
         for one in self.found:
             runs = ran.get((one.file, one.number))
-            if runs is not None:
-                self.asked.setdefault(one, one.key in runs)
+            if runs is None:
+                continue
+            is_run = one.key in runs
+            if is_run and one.key in presumed:
+                is_run = any(
+                    (one.make.folder, name) in idle
+                    and (
+                        (one.file, one.number, (one.make.folder, name)) in keys
+                        or is_named(one.make, name, one.file)
+                    )
+                    for name in reached(one.make.base, needs_of(one.make.base, one.rule.name))
+                )
+            self.asked.setdefault(one, is_run)
 
     def name_unseen(self, program: str, place: Place, makes: list[Make], words: list[str]) -> None:
         """Names the files that makes read beside their makefiles, for makes that `make -n` doesn't
@@ -407,6 +426,23 @@ def is_script(path: str) -> bool:
 def has_run(make: Make) -> bool:
     """Whether a make came to any recipe."""
     return any(rule.ran for rules in make.base.rules.values() for rule in rules)
+
+
+def run_in(makes: list[Make]) -> set[tuple[str, str]]:
+    """The recipes that makes ran or would run, each by the folder of its make and its target."""
+    return {
+        (make.folder, name)
+        for make in makes
+        for name, rules in make.base.rules.items()
+        if any(rule.ran for rule in rules)
+    }
+
+
+def is_named(make: Make, name: str, file: str) -> bool:
+    """Whether the commands of a target name a file."""
+    rules = make.base.rules.get(name, [])
+    base = os.path.basename(file)
+    return any(base in command.text for rule in rules for command in rule.commands)
 
 
 def followed(build: Build, name: str) -> set[str]:

@@ -19,6 +19,8 @@ from mkcheck_tools.run.places import Place
 
 # A time that no file has that was written in a build.
 OLD = 1
+# Each byte with another one in its place, but for the ends of lines.
+TURNED = bytes(byte if byte in b"\r\n" else byte ^ 1 for byte in range(256))
 OTHER_BYTES = b"These bytes were put here by mkcheck-import, to see whether they stay.\n"
 
 
@@ -71,19 +73,31 @@ def mark_unchanged(
 
 
 def is_mended(node: Node, built: Place, environment: dict[str, str]) -> bool:
-    """Whether a recipe writes its file anew that is old and holds other bytes."""
+    """Whether a recipe writes its file anew that is old and holds other bytes, as many of them
+    too."""
     path = Path(built.folder, node.name)
     if path.is_symlink() or not path.is_file():
         return False
     before, times = path.read_bytes(), os.stat(path)
-    path.write_bytes(OTHER_BYTES)
+    is_new = all(
+        is_written(node, built, environment, text)
+        for text in dict.fromkeys((OTHER_BYTES, before.translate(TURNED)))
+        if text != before
+    )
+    path.write_bytes(before)
+    os.utime(path, ns=(times.st_atime_ns, times.st_mtime_ns))
+    return is_new
+
+
+def is_written(node: Node, built: Place, environment: dict[str, str], text: bytes) -> bool:
+    """Whether a recipe writes its file as it was, where that is old and holds a text."""
+    path = Path(built.folder, node.name)
+    before = path.read_bytes()
+    path.write_bytes(text)
     os.utime(path, (OLD, OLD))
     for command in node.commands:
         words = ["/bin/sh", "-e", "-c", shell_text(command, node.setting)]
         status, _, _ = run_here(built, words, environment)
         if status != 0 and not command.ignored:
             break
-    is_new = content(str(path)) == before
-    path.write_bytes(before)
-    os.utime(path, ns=(times.st_atime_ns, times.st_mtime_ns))
-    return is_new
+    return content(str(path)) == before
