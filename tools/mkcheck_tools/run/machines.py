@@ -15,6 +15,8 @@ from mkcheck_tools.run.paths import RealPath, SeenPath, real_in
 from mkcheck_tools.run.places import Place, mounter
 
 NAME = "mkcheck-record"
+# The space in which a machine has a name.
+NAMES = ("--uts",)
 # Where the C library finds how many processors there are, and the number of fewer ones in the form
 # of that file.
 ONLINE = "/sys/devices/system/cpu/online"
@@ -26,15 +28,10 @@ RENAMING = (
 
 def elsewhere(place: Place) -> Place:
     """A bound place, on another machine."""
-    enter, first = processors_but_one(), limits() + fewer_online()
+    first = limits() + fewer_online()
     if has_names():
-        enter, first = (*renamed(), *enter), RENAMING + first
-    return replace(place, enter=enter, first=first)
-
-
-def renamed() -> tuple[str, ...]:
-    """The words that start a command where the machine may get another name."""
-    return (shutil.which("unshare") or "unshare", "--uts", "--")
+        place, first = replace(place, spaces=NAMES), RENAMING + first
+    return replace(place, enter=processors_but_one(), first=first)
 
 
 @functools.cache
@@ -44,7 +41,7 @@ def has_names() -> bool:
         seen = SeenPath(os.path.realpath(scratch))
         folder = real_in(RealPath(seen), "folder")
         os.mkdir(folder)
-        place = Place(folder, seen, enter=renamed(), first=RENAMING)
+        place = Place(folder, seen, spaces=NAMES, first=RENAMING)
         done = subprocess.run(
             place.words(["uname", "-n"]),
             cwd=seen,

@@ -214,8 +214,8 @@ class Place:
     Both are real paths. In one that is `shut` commands can write nowhere else, where the system
     allows that and the two paths differ; but for folders for temporary files and devices. Where the
     folder lies in another mount namespace, `way` leads there, and `inner` is its path there.
-    Commands of a bound place begin after further words (`enter`) and commands of the shell
-    (`first`).
+    Commands of a bound place begin in further `spaces`, as unshare names them, after further words
+    (`enter`) and commands of the shell (`first`).
     """
 
     folder: RealPath
@@ -223,6 +223,7 @@ class Place:
     shut: bool = False
     way: Namespace | None = None
     inner: str = ""
+    spaces: tuple[str, ...] = ()
     enter: tuple[str, ...] = ()
     first: str = ""
 
@@ -241,7 +242,8 @@ class Place:
                 f"the system allows no mount namespace, so {self.folder} can't appear at"
                 f" {self.seen}"
             )
-        way = replace(way, enter=(*way.enter, *self.enter))
+        # The words of a way end with those of unshare.
+        way = replace(way, enter=(*way.enter[:-1], *self.spaces, "--", *self.enter))
         front = self.first + ((shut() if self.shut else None) or "")
         return way.words(self.inner or self.folder, self.seen, command, front)
 
