@@ -34,11 +34,11 @@ class Bare:
     folders: frozenset[Name]
 
     def once(
-        self, trial: Trial, amid: Surroundings = AS_RECORDED, back: bool = False
+        self, trial: Trial, amid: Surroundings = AS_RECORDED, kept: bool = False
     ) -> tuple[Outcome, Left]:
-        """One bare run; if `back`, where folders list their names the other way round."""
+        """One bare run; if `kept`, where folders list their names as in the recording."""
         place = self.place
-        self.runner.layout.furnish(trial, place.folder, self.folders, back)
+        self.runner.layout.furnish(trial, place.folder, self.folders, kept=kept)
         laid = stamps_of(trial, place.folder)
         outcome = self.runner.one(trial, place, BARE, laid, amid)
         left = {name: version_of(real_in(place.folder, name)) for name in trial.writes}
@@ -46,6 +46,6 @@ class Bare:
         return outcome, (outcome.failed, left)
 
     def goes_by_order(self, trial: Trial) -> bool:
-        """Whether a recipe leaves something else where folders list their names the other way
-        round."""
-        return self.once(trial)[1] != self.once(trial, back=True)[1]
+        """Whether a recipe that differs passes where folders list their names as in the
+        recording."""
+        return self.once(trial, kept=True)[0].passed

@@ -63,12 +63,18 @@ class Layout:
         return found
 
     def furnish(
-        self, trial: Trial, folder: RealPath, folders: frozenset[Name], back: bool = False
+        self,
+        trial: Trial,
+        folder: RealPath,
+        folders: frozenset[Name],
+        back: bool = False,
+        kept: bool = False,
     ) -> None:
         """Makes the folder, with what a bare run needs.
 
         Folders list what recipes made in another order than in the recording, where the file system
-        lists them by age; if `back`, they list all the other way round.
+        lists them by age; if `back`, they list all the other way round; if `kept`, all in that of
+        the recording.
         """
         os.mkdir(folder)
         inner = {*self.folders_of(trial), *folders}
@@ -78,7 +84,8 @@ class Layout:
         links = {name: goal for name, goal in trial.links.items() if name not in trial.after}
         made = {name for name, version in trial.before.items() if version != GIVEN}
         made.update(name for name in inner if name in self.world.makers)
-        names = self.listings.arranged({*inner, *links, *trial.before}, frozenset(made), back)
+        moved = frozenset() if kept else frozenset(made)
+        names = self.listings.arranged({*inner, *links, *trial.before}, moved, back)
         twins: dict[tuple[int, int], RealPath] = {}
         for name in as_laid(names, age_of(RealPath(os.path.dirname(folder)))):
             path = real_in(folder, name)
