@@ -1,7 +1,7 @@
 //! Prepares a request: goals and footprints over the makefile.
 
 ghost use Rattle.std.specs.Prelude.{◌≡◌, true, IfErr, IfOk};
-ghost use Rattle.std.specs.Option.{option_copied};
+ghost use Rattle.std.specs.Option.{is_none, option_copied};
 ghost use Rattle.mk_read.specs.Files.{IfFits, Keeps};
 ghost use Rattle.mk_core.specs.Answer.{NotesFailure};
 ghost use Rattle.mk_core.specs.Judging.{recorded};
@@ -149,11 +149,10 @@ fn reads_few(book: &Book) -> bool {
     reads <= FEW_READS
 }
 
-/// The prepared request with these footprints.
+/// The prepared request with these goals and footprints.
 fn ready_by<'m>(
     alloc: Global,
-    any_leaf: bool,
-    leaving: LeakPolicy,
+    request: &Request,
     table: &'m RuleTable<'m>,
     goals: Goals,
     book: Book,
@@ -163,16 +162,20 @@ fn ready_by<'m>(
           makefile = table.now;
           goals = goals;
           setting = setting_of table.now book;
-          any_leaf = any_leaf;
+          any_leaf = is_none request.now.book;
         }) }
 {
+    let leaving = LeakPolicy {
+        is_asked: request.leaves_memory,
+        reads_few: reads_few(&book),
+    };
     let setting = setting_of(alloc, table.makefile(), book)?;
     let more = NameTable::new(alloc, Vec::new(alloc))?;
     Ok(Ready {
         table,
         goals,
         setting,
-        any_leaf,
+        any_leaf: request.book.is_none(),
         more,
         leaving,
     })
@@ -193,12 +196,7 @@ fn ready_with<'m, F: Files>(
     ensures noted { NotesFailure (F.failed files.old) (F.failed files.new) result }
 {
     let book = book_for(alloc, files, request.book.as_ref(), &goals)?;
-    let any_leaf = request.book.is_none();
-    let leaving = LeakPolicy {
-        is_asked: request.leaves_memory,
-        reads_few: reads_few(&book),
-    };
-    let ready = ready_by(alloc, any_leaf, leaving, table, goals, book)?;
+    let ready = ready_by(alloc, request, table, goals, book)?;
     Ok(ready)
 }
 
