@@ -2,6 +2,7 @@ pub mod AnswerValue
 pub mod FaultNames
 pub mod FindingValue
 pub mod GroupValue
+pub mod GroupView
 pub mod InJsonAnswer
 pub mod NotRead
 pub mod NoValue

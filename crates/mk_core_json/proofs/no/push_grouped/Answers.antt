@@ -19,7 +19,7 @@ pub returns : goal.returns
 returns c =
     let m = c.args.makefile.now in
     let found = c.args.found.now in
-    let claims : List Claim = map claim_view c.args.claims.now in
+    let claims : List Claim = map claim_view c.args.claims.now.list.now in
     let gs : List Group = groups (joined claims) in
     let table : map group_of (groups_view c.in_ok-groups.groups.entries) ≡ gs =
     ap (map group_of) (c.in_ok-groups.ensures ∙ ap (λ (r : List (RowKey × List (List ℕ))). gathered group_key_eq (map group_pair r)) c.requires.rows) in
