@@ -20,7 +20,7 @@ use crate::freeing::freeing;
 use crate::known_files::KnownFiles;
 use crate::outcome::{Repair, Why};
 use crate::own_makefile::{names_known, own_makefile, own_name};
-use crate::rounds::{End, rounds};
+use crate::rounds::{Base, End, rounds};
 use crate::surveying::{First, JudgeFirst, Survey};
 use mk_build_needs::laws::first_cycle_cannot_be_mended;
 use mk_core::laws::yes_is_right;
@@ -66,7 +66,12 @@ fn mend<F: Files>(
     let names = names_known(alloc, own.as_str(), request, names)?;
     let known = KnownFiles::read(alloc, files, names)?;
     let own = own_makefile(alloc, own, request, &known)?;
-    rounds(alloc, request, &own, &known, words)
+    let base = Base {
+        request,
+        own: &own,
+        known: &known,
+    };
+    rounds(alloc, base, words)
 }
 
 /// What comes of mending, after the first judgement. The errors are `FileReadFailed` (35) and out
