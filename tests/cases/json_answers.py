@@ -169,10 +169,11 @@ def said_of(value: dict[str, Any], plain: Answer, ask: Asks, rest: list[str]) ->
     return list(said_of_refusal(value, plain, ask(["check", "-w", *rest])))
 
 
-def printed_of(value: dict[str, Any]) -> tuple[str, str]:
+def printed_of(value: dict[str, Any], words: Sequence[str]) -> tuple[str, str]:
     """What a command other than `check` prints on both streams, by its answer as JSON."""
     if "printed" not in value:
         output = value.get("lines", "") + value.get("text", "")
+        output += (value.get("part") or "") if "--part" in words else ""
         newline = "\n" if value["answer"] == "refused" else ""
         return output + newline, value.get("reason", "")
     if value["answer"] == "yes":
@@ -195,7 +196,7 @@ def misprinted(ask: Asks, words: Sequence[str]) -> Iterator[str]:
         yield f"`--json` ends with status {given.status}"
     value = json.loads(given.output)
     wrong = [error.message for error in form().iter_errors(value)]
-    if not wrong and printed_of(value) != (decoded(plain.output), decoded(plain.errors)):
+    if not wrong and printed_of(value, rest) != (decoded(plain.output), decoded(plain.errors)):
         wrong = ["it is another answer"]
     yield from (f"`--json` prints {given.output.decode()}{said}" for said in wrong)
 

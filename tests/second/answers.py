@@ -7,6 +7,7 @@ import json
 from judge import Finding, Subject
 from lines import Refused
 from reading import Files, Makefile
+from repair import Repair, seen_later
 from sentences import (
     PSEUDO,
     Claim,
@@ -19,7 +20,6 @@ from sentences import (
     lines,
     name_of,
     place_of,
-    seen_later,
     sentence,
     told_of,
     without_cycles,
@@ -169,11 +169,12 @@ def run_value(run: Run) -> Value:
     }
 
 
-def repair_value(text: bytes, status: int) -> Value:
+def repair_value(repair: Repair) -> Value:
     """The value of the lines that mend a makefile, or of why there are none."""
-    if status:
-        return {"answer": "no", "format": 1, "reason": decoded(text)}
-    return {"answer": "yes", "format": 1, "lines": decoded(text)}
+    if repair.reason:
+        part = decoded(repair.part) if repair.part else None
+        return {"answer": "no", "format": 1, "part": part, "reason": decoded(repair.reason)}
+    return {"answer": "yes", "format": 1, "lines": decoded(repair.text)}
 
 
 def source_of(fault: Refused, files: Files) -> str | None:

@@ -10,7 +10,7 @@ from graph import Graph, goal_names
 from judge import Finding, Subject
 from lines import Refused
 from reading import Files, Makefile
-from repair import cut, lines_between, makers, word_of, writes_its_own
+from repair import cut, hides, lines_between, makers, seen_later, word_of, writes_its_own
 
 PAGE = Path(__file__).resolve().parents[2] / "docs" / "FAULTS.md"
 FAULT = re.compile(rb"^\| (\d+) \| `([\w:]+)` \| (.*) \|$", re.MULTILINE)
@@ -521,23 +521,6 @@ def claims_text(subject: Subject, claims: list[Claim]) -> bytes:
     groups = grouped(claims)
     told = b"".join(group_text(subject.rules.makefile, group) for group in groups)
     return told + counts(claims, groups)
-
-
-def hides(findings: list[Finding]) -> bool:
-    """Whether findings hide races and stale reads."""
-    return any(finding[0] not in (b"race", b"stale") for finding in findings)
-
-
-def seen_later(subject: Subject, findings: list[Finding]) -> list[Finding]:
-    """The races and stale reads that findings hide, without those that mending these may settle."""
-    if not hides(findings):
-        return []
-    phony = [
-        finding[1]
-        for finding in findings
-        if finding[0] == b"target" and word_of(subject, finding) is not None
-    ]
-    return subject.hidden(findings, phony)
 
 
 def in_sentences(subject: Subject, findings: list[Finding]) -> bytes:

@@ -11,6 +11,7 @@ use Rattle.mk_core_sentences.specs.RefusedLine.{in_file, place_of}
 use Rattle.mk_core_text.specs.declared.fault.Fault.{Fault}
 use Rattle.mk_read_files.specs.declared.cause.Cause.{Cause}
 use Rattle.mk_core_json.specs.AnswerValue.{line_value, place_value, refusal_value, yes_value}
+use Rattle.mk_core_json.specs.OtherValues.{part_value, unmended_value}
 
 -- the answer yes
 yes_parts : (c : Certificate) (recipes reads : ℕ) → compact_text (yes_value c recipes reads)
@@ -44,3 +45,11 @@ line_has_no_float (b ∷ line) = refl
 
 pub refusal_has_no_float : (fault : Fault) (cause : Cause) (line : List ℕ) → has_float (refusal_value fault cause line) ≡ false
 refusal_has_no_float fault cause line = rw (line_has_no_float line, place_has_no_float (in_file (place_of fault))) refl
+
+-- nor has the answer of a repair that mends nothing
+part_has_no_float : (part : List ℕ) → has_float (part_value part) ≡ false
+part_has_no_float [] = refl
+part_has_no_float (byte ∷ rest) = refl
+
+pub unmended_has_no_float : (reason part : List ℕ) → has_float (unmended_value reason part) ≡ false
+unmended_has_no_float reason part = rw (part_has_no_float part) refl

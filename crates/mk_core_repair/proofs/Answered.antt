@@ -1,5 +1,5 @@
 -- The answers of `repair`, from those of its parts.
-use Rattle.std.proofs.Common.{◌≡◌, ℕ, true, true≢false, List, ◌∷◌, ◌++◌, Option, Some, None, Result, Ok, Err, inl, inr, sym, ap, subst, ◌∙◌}
+use Rattle.std.proofs.Common.{◌≡◌, ℕ, true, true≢false, List, ◌∷◌, ◌++◌, Option, Some, None, Result, Ok, Err, inl, inr, sym, ap, subst, ◌∙◌, string_bytes}
 use Rattle.std.specs.Prelude.{IfErr, IfOk}
 use Rattle.mk_foot.specs.Names.{Has}
 use Rattle.mk_read.specs.Files.{IfFits, Told}
@@ -19,8 +19,9 @@ use Rattle.mk_repair.specs.declared.obstacle.Obstacle.{Obstacle}
 use Rattle.mk_core_repair.specs.Amending.{book_names, looked_for, makefile_name, names_known}
 use Rattle.mk_core_repair.specs.Known.{IsReadFault}
 use Rattle.mk_core_repair.specs.Outcome.{Outcome, outcome_of, too_long}
-use Rattle.mk_core_repair.specs.RepairAnswer.{AnswersRepair, IsFirstOf}
-use Rattle.mk_core_repair.specs.Rounds.{AfterFirst, Rounds, max_rounds}
+use Rattle.mk_core_repair.specs.RepairAnswer.{AfterFirst, AnswersRepair, IsFirstOf}
+use Rattle.mk_core_repair.specs.Rounds.{Rounds, max_rounds}
+use Rattle.mk_core_repair.specs.Trial.{Trial, with_part}
 
 -- a failed read of a known file isn't out of memory
 pub read_fault_memory : (names : List (List ℕ)) (fault : Fault) → IsReadFault names fault → is_out_of_memory fault ≡ true → fault ≡ Memory
@@ -69,3 +70,10 @@ after_words names files request verdict words path stuck found given outcome v w
     subst (λ (x : Verdict). AfterFirst names files request x words path stuck outcome) (sym v)
     (subst (λ (x : Option (List Word)). AfterFirst names files request (No found) x path stuck outcome) (sym w)
     (subst (λ (x : Option (List (List ℕ))). AfterFirst names files request (No found) (Some given) x stuck outcome) (sym p) h))
+
+-- after a no without words the lines of the obstacle are tried
+pub after_stuck : (names : List (List ℕ)) (files : Told) (request : Request) (verdict : Verdict) (words : Option (List Word)) (path : Option (List (List ℕ))) (stuck : Obstacle) (found : List Finding) (outcome : Outcome)
+    → verdict ≡ No found → words ≡ None → Trial names files request (with_part found (string_bytes stuck.why)) (string_bytes stuck.lines) outcome → AfterFirst names files request verdict words path stuck outcome
+after_stuck names files request verdict words path stuck found outcome v w h =
+    subst (λ (x : Verdict). AfterFirst names files request x words path stuck outcome) (sym v)
+    (subst (λ (x : Option (List Word)). AfterFirst names files request (No found) x path stuck outcome) (sym w) h)

@@ -53,7 +53,7 @@ fn push_joint(out: &mut Vec<u8>, makefile: &[u8]) -> Result<(), AllocError>
 
 /// What is appended to the makefile to say the lines: a newline, another if the makefile ends in a
 /// backslash, and then the lines. The only error is out of memory.
-fn added_lines(alloc: Global, own: &OwnMakefile, lines: &str) -> Result<Vec<u8>, AllocError>
+pub fn added_lines(alloc: Global, own: &OwnMakefile, lines: &str) -> Result<Vec<u8>, AllocError>
     ensures { IfOk result (λ text. text.items ≡ added_lines own.now.text.items lines.now) }
 {
     let mut text = vec![in alloc; b'\n']?;
@@ -110,7 +110,7 @@ fn first_unknown<'a>(names: &NameTable, files: &'a Names) -> Option<&'a Name>
 
 /// What a round found.
 #[derive(Drop)]
-enum Found {
+pub enum Found {
     /// The amended makefile is right.
     Right,
     /// This file was read, which isn't known.
@@ -160,7 +160,7 @@ fn found_by(
 
 /// One round: judges the makefile with this text appended, and adds the new words. The error is the
 /// refusal of the amended makefile, or out of memory.
-fn round(alloc: Global, base: Base<'_>, words: &mut Words, added: &[u8]) -> Result<Found, Fault>
+pub fn round(alloc: Global, base: Base<'_>, words: &mut Words, added: &[u8]) -> Result<Found, Fault>
     ensures ok { IfOk result (λ found. (survey : value.Survey) ×
         IsFound base.known.now.names words.old words.new survey found ×
         ((told : Told) → IsBase told base.request.now base.own.now base.known.now →
@@ -175,7 +175,7 @@ fn round(alloc: Global, base: Base<'_>, words: &mut Words, added: &[u8]) -> Resu
 }
 
 /// Whether the makefile would be too long with this text appended.
-fn is_too_long(own: &OwnMakefile, added: &[u8]) -> bool
+pub fn is_too_long(own: &OwnMakefile, added: &[u8]) -> bool
     ensures { result ≡ nat_lt max_makefile (length (own.now.text.items ++ added.now)) }
 {
     added.len() > MAX_MAKEFILE || own.text.len() > MAX_MAKEFILE - added.len()
@@ -186,7 +186,7 @@ fn stopped(why: Why, stop: Stop) -> Why
     ensures { reason_of result ≡ stopped stop (reason_of why) }
 {
     match why {
-        Why::Untried(obstacle) => Why::Untried(obstacle),
+        Why::Untried(why, part) => Why::Untried(why, part),
         Why::TooLong => Why::TooLong,
         Why::Cycle(names) => Why::Cycle(names),
         Why::Tried(lines, after, _) => Why::Tried(lines, after, stop),
