@@ -85,8 +85,8 @@ pub struct Base<'b> {
 
 /// What `check` finds of the makefile with this text appended, among the known files.
 fn judge_amended(alloc: Global, base: Base<'_>, added: &[u8]) -> Result<Survey, Fault>
-    ensures round { (told : Told) → IsBase told base.request.now base.own.now base.known.now →
-        IsRound base.known.now.names told base.request.now added.now result }
+    ensures round { (told : Told) → IsBase told base.entry.request.now base.entry.own.now base.entry.known.now →
+        IsRound base.entry.known.now.names told base.entry.request.now added.now result }
     ensures memory { IfErr result (λ fault. is_out_of_memory fault ≡ true → fault ≡ Memory) }
 {
     let own = base.own;
@@ -162,12 +162,12 @@ fn found_by(
 /// refusal of the amended makefile, or out of memory.
 pub fn round(alloc: Global, base: Base<'_>, words: &mut Words, added: &[u8]) -> Result<Found, Fault>
     ensures ok { IfOk result (λ found. (survey : value.Survey) ×
-        IsFound base.known.now.names words.old words.new survey found ×
-        ((told : Told) → IsBase told base.request.now base.own.now base.known.now →
-        IsRound base.known.now.names told base.request.now added.now (Ok survey))) }
+        IsFound base.entry.known.now.names words.old words.new survey found ×
+        ((told : Told) → IsBase told base.entry.request.now base.entry.own.now base.entry.known.now →
+        IsRound base.entry.known.now.names told base.entry.request.now added.now (Ok survey))) }
     ensures err { IfErr result (λ fault. (told : Told) →
-        IsBase told base.request.now base.own.now base.known.now →
-        IsRound base.known.now.names told base.request.now added.now (Err fault)) }
+        IsBase told base.entry.request.now base.entry.own.now base.entry.known.now →
+        IsRound base.entry.known.now.names told base.entry.request.now added.now (Err fault)) }
     ensures memory { IfErr result (λ fault. is_out_of_memory fault ≡ true → fault ≡ Memory) }
 {
     let survey = judge_amended(alloc, base, added)?;
@@ -205,9 +205,9 @@ pub enum End {
 /// The rounds that begin with these words. The only error is out of memory.
 pub fn rounds(alloc: Global, base: Base<'_>, words: Words) -> Result<End, Fault>
     ensures answer { IfOk result (λ end. (told : Told) →
-        IsBase told base.request.now base.own.now base.known.now →
-        (first : List finding.Finding) → Rounds max_rounds base.known.now.names told
-        base.request.now first words too_long (end_outcome first end)) }
+        IsBase told base.entry.request.now base.entry.own.now base.entry.known.now →
+        (first : List finding.Finding) → Rounds max_rounds base.entry.known.now.names told
+        base.entry.request.now first words too_long (end_outcome first end)) }
     ensures memory { IfErr result (λ fault. fault ≡ Memory) }
 {
     let mut words = words;

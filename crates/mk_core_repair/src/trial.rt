@@ -51,10 +51,10 @@ fn tried(why: String, lines: String, added: Vec<u8>, found: Found) -> End
 /// error is out of memory.
 pub fn trial(alloc: Global, base: Base<'_>, why: String, lines: String) -> Result<End, Fault>
     ensures answer { IfOk result (λ end. (told : Told) →
-        IsBase told base.request.now base.own.now base.known.now →
-        (first : List finding.Finding) → Tries base.known.now.names told base.request.now
+        IsBase told base.entry.request.now base.entry.own.now base.entry.known.now →
+        (first : List finding.Finding) → Tries base.entry.known.now.names told base.entry.request.now
         (with_part first (string_bytes why)) (string_bytes lines)
-        (added_lines (makefile_text told base.request.now) (string_bytes lines))
+        (added_lines (makefile_text told base.entry.request.now) (string_bytes lines))
         (end_outcome first end)) }
     ensures memory { IfErr result (λ fault. fault ≡ Memory) }
 {
