@@ -193,9 +193,9 @@ fn after_first<F: Files>(
 /// right. Where a cycle is the answer, no makefile that has all targets, recipes and prerequisites
 /// of this one gets a yes over these footprints.
 ///
-/// Where a finding gives no word, the lines of the others are tried once. Where that doesn't mend the
-/// makefile, they are a part of the answer, unless `check` refuses the makefile with them: no line of
-/// a part closes a cycle.
+/// Where a finding gives no word, the lines of the others are tried once. Where they don't mend the
+/// makefile, they are a part of the answer, unless `check` refuses the makefile with them: no line
+/// of a part closes a cycle.
 ///
 /// The rounds read no files: what the first judgement read is read once more, and all rounds run
 /// over that. A round that would read another file counts as refused.

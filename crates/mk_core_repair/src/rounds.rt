@@ -85,7 +85,8 @@ pub struct Base<'b> {
 
 /// What `check` finds of the makefile with this text appended, among the known files.
 fn judge_amended(alloc: Global, base: Base<'_>, added: &[u8]) -> Result<Survey, Fault>
-    ensures round { (told : Told) → IsBase told base.entry.request.now base.entry.own.now base.entry.known.now →
+    ensures round { (told : Told) →
+        IsBase told base.entry.request.now base.entry.own.now base.entry.known.now →
         IsRound base.entry.known.now.names told base.entry.request.now added.now result }
     ensures memory { IfErr result (λ fault. is_out_of_memory fault ≡ true → fault ≡ Memory) }
 {
