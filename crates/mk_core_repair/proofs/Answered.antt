@@ -62,18 +62,3 @@ module _ (files : Told) (request : Request) where
 pub known_names : (files : Told) (request : Request) (read known table : List (List ℕ)) (own : List ℕ) → known ≡ table → table ≡ own ∷ (looked_for request.makefile ++ (read ++ book_names request.book)) → own ≡ makefile_name files request
     → known ≡ names_known files request read
 known_names files request read known table own k t o = k ∙ (t ∙ ap (λ (n : List ℕ). n ∷ (looked_for request.makefile ++ (read ++ book_names request.book))) o)
-
--- after a no with words and without a cycle the rounds begin
-pub after_words : (names : List (List ℕ)) (files : Told) (request : Request) (verdict : Verdict) (words : Option (List Word)) (path : Option (List (List ℕ))) (stuck : Obstacle) (found : List Finding) (given : List Word) (outcome : Outcome)
-    → verdict ≡ No found → words ≡ Some given → path ≡ None → Rounds max_rounds names files request found given too_long outcome → AfterFirst names files request verdict words path stuck outcome
-after_words names files request verdict words path stuck found given outcome v w p h =
-    subst (λ (x : Verdict). AfterFirst names files request x words path stuck outcome) (sym v)
-    (subst (λ (x : Option (List Word)). AfterFirst names files request (No found) x path stuck outcome) (sym w)
-    (subst (λ (x : Option (List (List ℕ))). AfterFirst names files request (No found) (Some given) x stuck outcome) (sym p) h))
-
--- after a no without words the lines of the obstacle are tried
-pub after_stuck : (names : List (List ℕ)) (files : Told) (request : Request) (verdict : Verdict) (words : Option (List Word)) (path : Option (List (List ℕ))) (stuck : Obstacle) (found : List Finding) (outcome : Outcome)
-    → verdict ≡ No found → words ≡ None → Trial names files request (with_part found (string_bytes stuck.why)) (string_bytes stuck.lines) outcome → AfterFirst names files request verdict words path stuck outcome
-after_stuck names files request verdict words path stuck found outcome v w h =
-    subst (λ (x : Verdict). AfterFirst names files request x words path stuck outcome) (sym v)
-    (subst (λ (x : Option (List Word)). AfterFirst names files request (No found) x path stuck outcome) (sym w) h)

@@ -32,6 +32,7 @@ use Rattle.mk_core_repair.specs.Amending.{added_lines, added_text, amended, book
 use Rattle.mk_core_repair.specs.Outcome.{Outcome, Part, Reason, right, mended, unmended, untried, taken, no_lines, refused_lines, long_lines, too_long, cycle, stopped, tried, tried_all, outcome_of, part_view}
 use Rattle.mk_core_repair.specs.RepairAnswer.{AfterFirst, AnswersRepair, CannotBeMended, IsAccepted, IsCycle, IsFirstOf, IsTaken, Mends, Suffices, TakesPart}
 use Rattle.mk_core_repair.specs.Rounds.{AfterKnown, AfterRound, AfterVerdict, IsRound, Onward, Rounds, first_unknown, max_rounds, more_words}
+use Rattle.mk_core_repair.specs.Survey.{GivesSurvey}
 use Rattle.mk_core_repair.specs.Trial.{AfterTrial, Trial, known_part, with_part}
 use Rattle.mk_core_repair.specs.Views.{IsYesVerdict}
 use Rattle.mk_core_repair.proofs.Amended.{survey_same}

@@ -1,5 +1,6 @@
 -- The trial of lines, from the judgement of the makefile with them.
 use Rattle.std.proofs.Common.{◌≡◌, ℕ, Bool, true, false, List, [], ◌∷◌, ◌++◌, length, Option, Some, None, Result, Ok, Err, inl, inr, refl, sym, ap, subst, true≢false, ◌∙◌}
+use Rattle.std.proofs.Math.Dec.{eqb-suc-zero}
 use Rattle.std.specs.Prelude.{◌==◌, nat_lt}
 use Rattle.mk_find.specs.declared.finding.Finding.{Finding}
 use Rattle.mk_read.specs.Files.{Told}
@@ -19,26 +20,6 @@ use Rattle.mk_core_repair.specs.Rounds.{IsRound, first_unknown}
 use Rattle.mk_core_repair.specs.Trial.{Trial, Tries, known_part, verdict_part}
 use Rattle.mk_core_repair.specs.Views.{IsYesVerdict}
 
--- ---- what a judgement comes to
-
-module _ (ends : Part → Outcome) (lines text : List ℕ) (names : List (List ℕ)) (survey : Survey) where
-  yes_mends : (verdict : Verdict) → IsYesVerdict verdict → mended text ≡ verdict_part ends lines text verdict
-  yes_mends (Yes certificate recipes reads) agreed = refl
-  yes_mends (No found) agreed = absurd agreed
-
-  -- the lines mend the makefile
-  pub part_right : first_unknown names survey.files ≡ None → IsYesVerdict survey.verdict → mended text ≡ known_part ends lines text survey.verdict (first_unknown names survey.files)
-  part_right none agreed = yes_mends survey.verdict agreed ∙ sym (ap (λ (o : Option (List ℕ)). known_part ends lines text survey.verdict o) none)
-
-  -- a file is read that isn't known
-  pub part_unknown : (name : List ℕ) → first_unknown names survey.files ≡ Some name → ends (refused_lines lines (FileReadFailed name)) ≡ known_part ends lines text survey.verdict (first_unknown names survey.files)
-  part_unknown name some = sym (ap (λ (o : Option (List ℕ)). known_part ends lines text survey.verdict o) some)
-
-  -- findings are left
-  pub part_lacking : (found : List Finding) → first_unknown names survey.files ≡ None → survey.verdict ≡ No found → ends (taken lines text) ≡ known_part ends lines text survey.verdict (first_unknown names survey.files)
-  part_lacking found none is_no =
-      sym (ap (λ (o : Option (List ℕ)). known_part ends lines text survey.verdict o) none ∙ ap (λ (v : Verdict). verdict_part ends lines text v) is_no)
-
 -- ---- the trial
 
 module _ (told : Told) (request : Request) (own : OwnMakefile) (known_files : KnownFiles) (base : IsBase told request own known_files) (ends : Part → Outcome)
@@ -51,10 +32,6 @@ module _ (told : Told) (request : Request) (own : OwnMakefile) (known_files : Kn
   long_is b e =
       sym (e ∙ (ap (λ (t : List ℕ). nat_lt max_makefile (length (t ++ seen))) base.is_text
       ∙ ap (λ (t : List ℕ). nat_lt max_makefile (length (makefile_text told request ++ t))) (is_seen ∙ plain)))
-
-  -- the makefile would be too long
-  pub trial_long : true ≡ nat_lt max_makefile (length (own.text.items ++ seen)) → Tries known_files.names told request ends lines (added_lines (makefile_text told request) lines) (ends long_lines)
-  trial_long e = inl (long_is true e, refl)
 
   module _ (judged_text : List ℕ) (is_judged : judged_text ≡ added) (short : false ≡ nat_lt max_makefile (length (own.text.items ++ seen))) where
     round_is : (survey : Result Survey Fault) → IsRound known_files.names told request judged_text survey → IsRound known_files.names told request (added_lines (makefile_text told request) lines) survey
@@ -71,15 +48,9 @@ module _ (told : Told) (request : Request) (own : OwnMakefile) (known_files : Kn
         → Tries known_files.names told request ends lines (added_lines (makefile_text told request) lines) (ends (refused_lines lines fault))
     trial_refused fault settled is = inr (long_is false short, (Err fault, round_is (Err fault) is, (settled, refl)))
 
--- ---- whether there are lines
+-- ---- there are lines
 
 module _ (names : List (List ℕ)) (files : Told) (request : Request) (ends : Part → Outcome) where
-  -- there are none
-  pub no_trial : (lines : List ℕ) → (length lines == 0) ≡ true → Trial names files request ends lines (ends no_lines)
-  no_trial [] e = refl
-  no_trial (byte ∷ rest) e = absurd (true≢false (sym e))
-
-  -- there are some
   pub full_trial : (lines : List ℕ) (outcome : Outcome) → (length lines == 0) ≡ false → Tries names files request ends lines (added_lines (makefile_text files request) lines) outcome → Trial names files request ends lines outcome
   full_trial [] outcome e tries = absurd (true≢false e)
   full_trial (byte ∷ rest) outcome e tries = tries
