@@ -442,11 +442,11 @@ fn with_telling<'a>(alloc: Global, command: Command<'a>) -> Result<Command<'a>, 
 }
 
 /// The command line of the program, which reads the words after the program's name: `graph [-f F]
-/// [-r] [-b BOOK] [-c] [-w] [--json] [WORD..]`, `check [-f F] [-r] -b BOOK [-c] [-w] [-e N] [--json]
-/// [WORD..]`, `repair [-f F] [-r] -b BOOK [-w] [--json] [WORD..]`, `verify [-f F] [-r] -b BOOK -k
-/// CERT [-w] [--json] [WORD..]`, `since DIR [-f F] [-r] -b BOOK [-w] [--json] [WORD..]`, `simulate
-/// [-f F] [-r] -b BOOK -p PLAN [-w] [--json] [WORD..]`, `explain [WORD..]`, `--help` and
-/// `--version`. The only error is out of memory.
+/// [-r] [-b BOOK] [-c] [-w] [--json] [WORD..]`, `check [-f F] [-r] -b BOOK [-c] [-w] [-e N]
+/// [--json] [WORD..]`, `repair [-f F] [-r] -b BOOK [--part] [-w] [--json] [WORD..]`, `verify [-f F]
+/// [-r] -b BOOK -k CERT [-w] [--json] [WORD..]`, `since DIR [-f F] [-r] -b BOOK [-w] [--json]
+/// [WORD..]`, `simulate [-f F] [-r] -b BOOK -p PLAN [-w] [--json] [WORD..]`, `explain [WORD..]`,
+/// `--help` and `--version`. The only error is out of memory.
 pub fn command_line<'a>(alloc: Global) -> Result<Command<'a>, AllocError>
     ensures app { IfOk result (λ c. app_of c ≡ command_line) }
     ensures local { IfOk result (λ c. (fields_of c).has_globals ≡ false) }

@@ -31,8 +31,8 @@ abbrev pub known_part : (Part → Outcome) → (lines text : List ℕ) → Verdi
 known_part ends lines text verdict None = verdict_part ends lines text verdict
 known_part ends lines text verdict (Some name) = ends (refused_lines lines (FileReadFailed name))
 
--- What follows the judgement of the makefile with these lines, which this text says, where the files
--- with these names are known.
+-- What follows the judgement of the makefile with these lines, which this text says, where the
+-- files with these names are known.
 abbrev pub AfterTrial : (Part → Outcome) → List (List ℕ) → (lines text : List ℕ) →
     Result Survey Fault → Outcome → Type 0
 AfterTrial ends names lines text (Ok survey) outcome =

@@ -88,8 +88,9 @@ fn all_lines(alloc: Global, subject: &Subject<'_>, found: &[Finding]) -> Result<
     other_lines(alloc, subject, found, hidden.as_slice())
 }
 
-/// Why the first of the findings without a word has none; and the lines that mend others, with races
-/// and stale reads that the findings hide, as `check -w` has them. The only error is out of memory.
+/// Why the first of the findings without a word has none; and the lines that mend others, with
+/// races and stale reads that the findings hide, as `check -w` has them. The only error is out of
+/// memory.
 pub fn stuck(
     alloc: Global,
     subject: &Subject<'_>,
