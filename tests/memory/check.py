@@ -59,7 +59,7 @@ PLACES = {
         "return Err(AllocError);",
     ): "behind the test that the fault is out of memory",
     (
-        "mk_sentences/src/wider.rt",
+        "mk_claims/src/wider.rt",
         "return Err(AllocError);",
     ): "behind the test that the fault is out of memory",
     (

@@ -14,8 +14,8 @@ use Rattle.mk_repair.specs.FindingWords as findings
 use Rattle.mk_repair.specs.Lines.{lines_text}
 use Rattle.mk_repair.specs.Obstacle.{first_wordless, why_stuck}
 use Rattle.mk_repair.specs.Word.{Word, with_word}
-use Rattle.mk_sentences.specs.Offers.{words_of}
-use Rattle.mk_sentences.specs.Text.{all_claims, is_static}
+use Rattle.mk_claims.specs.Offers.{words_of}
+use Rattle.mk_claims.specs.Shown.{all_claims, is_static}
 use Rattle.mk_repair.specs.declared.obstacle.Obstacle.{Obstacle}
 use Rattle.mk_core_repair.specs.declared.surveying.Survey.{Survey}
 use Rattle.mk_core_repair.specs.declared.surveying.First.{First}

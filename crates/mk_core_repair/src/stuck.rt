@@ -4,13 +4,13 @@ ghost use Rattle.std.specs.Prelude.{◌≡◌, [], fold, map, option_map, option
 ghost use Rattle.std.specs.String.{string_bytes};
 ghost use Rattle.mk_repair.specs.Word.{with_word};
 ghost use Rattle.mk_repair.specs.Words.{word_view};
-ghost use Rattle.mk_sentences.specs.Claims.{claim_view};
-ghost use Rattle.mk_sentences.specs.Offers.{word_of_claim, words_of};
+ghost use Rattle.mk_claims.specs.Claims.{claim_view};
+ghost use Rattle.mk_claims.specs.Offers.{word_of_claim, words_of};
 ghost use Rattle.mk_core_repair.specs.Survey.{AreOtherLines, IsStuck, other_lines};
 
+use mk_claims::{Claim, Kind, all_claims, has_static};
 use mk_find::{Finding, hidden_findings};
 use mk_repair::{Obstacle, Word, Words, lines_text, obstacle_of};
-use mk_sentences::{Claim, Kind, all_claims, has_static};
 use mk_subject::Subject;
 use std::alloc::{AllocError, Global};
 

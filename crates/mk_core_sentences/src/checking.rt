@@ -10,11 +10,12 @@ ghost use Rattle.mk_core_text.specs.declared.fault.Fault.TheVariants.{Memory};
 ghost use Rattle.mk_core_sentences.specs.InWordsAnswer.{AnswersInWords, GivesInWords, HasYes, IsInWords, Tells};
 ghost use Rattle.mk_core_sentences.specs.NotRead.{in_words_not_read};
 
+use mk_claims::has_static;
 use mk_core::laws::yes_is_right;
 use mk_core::{Fault, Judge, Request, Verdict, answer_judged, drop_or_leak, verdict_of};
 use mk_find::{Finding, hidden_findings};
 use mk_read_files::Files;
-use mk_sentences::{has_static, sentences};
+use mk_sentences::sentences;
 use mk_subject::Subject;
 use std::alloc::{AllocError, Global};
 
