@@ -26,8 +26,8 @@ later_claims x findings hidden =
 abbrev pub all_claims : Subject → (findings hidden : List Finding) → List Claim
 all_claims x findings hidden = map (claim_of x) findings ++ later_claims x findings hidden
 
--- The claims as they are shown: without the lines that would close a cycle with the other lines, the
--- graph, and what the rules say of prerequisites that the goals don't reach.
+-- The claims as they are shown: without the lines that would close a cycle with the other lines,
+-- the graph, and what the rules say of prerequisites that the goals don't reach.
 abbrev pub AreShown : Subject → (claims shown : List Claim) → Type 0
 AreShown x claims shown =
     (offers : List Offer) × AreOffers x claims offers × (shown ≡ map claim_offered offers)

@@ -1,25 +1,22 @@
 -- The text of findings in sentences.
-use Rattle.std.specs.Prelude.{◌≡◌, ℕ, Bool, true, false, List, [], ◌∷◌, ◌++◌, codes, drop, length, map, take, if◌then◌else◌}
+use Rattle.std.specs.Prelude.{◌≡◌, ℕ, List, [], ◌∷◌, ◌++◌, codes, drop, length, take, if◌then◌else◌}
 use Rattle.std.specs.List.{flat_map, list_any}
 use Rattle.mk_read.specs.Reading.{Makefile}
 use Rattle.mk_subject.specs.Subject.{Subject}
 use Rattle.mk_find.specs.declared.finding.Finding.{Finding}
-use Rattle.mk_find.specs.declared.finding.Finding.TheVariants as finding
+use Rattle.mk_claims.specs.declared.topic.Kind.{Kind}
+use Rattle.mk_claims.specs.declared.topic.Kind.TheVariants.{TwoWriters}
 use Rattle.mk_claims.specs.Topics.{Topic, kind_word}
-use Rattle.mk_claims.specs.Claims.{Claim, claim_of}
-use Rattle.mk_sentences.specs.Counts.{counts_of, counts_text}
+use Rattle.mk_claims.specs.Claims.{Claim}
 use Rattle.mk_claims.specs.Grouping.{Group, groups}
 use Rattle.mk_claims.specs.Joining.{joined}
-use Rattle.mk_claims.specs.Offers.{Offer, claim_offered}
-use Rattle.mk_claims.specs.Wider.{AreOffers}
+use Rattle.mk_claims.specs.Shown.{AreShown, all_claims, is_static}
+use Rattle.mk_sentences.specs.Counts.{counts_of, counts_text}
 use Rattle.mk_sentences.specs.Places.{first_name, head}
 use Rattle.mk_sentences.specs.Sentences.{sentence}
 use Rattle.mk_sentences.specs.Advice.{advice}
 use Rattle.mk_sentences.specs.Adding.{added_lines, lines_of}
 use Rattle.mk_sentences.specs.Listing.{left_out, who_are}
-use Rattle.mk_claims.specs.Untouched.{untouched}
-use Rattle.mk_claims.specs.declared.topic.Kind.{Kind}
-use Rattle.mk_claims.specs.declared.topic.Kind.TheVariants.{TwoWriters}
 
 -- The name at whose line a group of this kind is shown: the first of two writers, else the first
 -- name of the group.
