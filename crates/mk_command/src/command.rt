@@ -147,7 +147,7 @@ fn part_option<'a>(alloc: Global) -> Arg<'a>
     Arg::new(alloc, "part")
         .long("part")
         .action(ArgAction::Count)
-        .help("Where no lines mend all, prints those that mend the other findings")
+        .help("Where one finding gives no line, prints those for the others")
 }
 
 fn evidence_option<'a>(alloc: Global) -> Arg<'a>

@@ -88,8 +88,8 @@ Suffices files request (Ok repairs.Right) = Mends files request []
 Suffices files request (Ok (repairs.Mended text)) = Mends files request text.items
 Suffices files request answer = Unit {0}
 
--- The text is empty, or `check` has a verdict on the makefile with it at its end: then that isn't
--- refused, so no line of the text closes a cycle, whatever the others are.
+-- The text is empty, or `check` has a verdict on the makefile with it at its end, so that it isn't
+-- refused.
 abbrev pub IsTaken : Told → Request → List ℕ → Type 0
 IsTaken files request [] = Unit {0}
 IsTaken files request (first ∷ rest) =

@@ -42,7 +42,7 @@ fn tried(why: String, lines: String, added: Vec<u8>, found: Found) -> End
             let fault = Fault::FileReadFailed(name);
             untried(why, Part::Refused(lines, fault))
         }
-        Found::Lacks(..) => untried(why, Part::Taken(lines, added)),
+        Found::Lacks(left, _) => untried(why, Part::Taken(lines, added, left)),
     }
 }
 

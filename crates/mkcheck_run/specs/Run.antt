@@ -126,7 +126,7 @@ repair_status right = 0
 repair_status (mended text) = 0
 repair_status (unmended found reason) = 1
 
--- The lines for standard output: those that mend the makefile; also those that mend a part of its
+-- The lines for standard output: those that mend the makefile; also those for a part of its
 -- findings, where these are asked for.
 abbrev pub lines_printed : (part : Bool) → Outcome → List ℕ
 lines_printed part outcome = if part then outcome_part outcome else outcome_text outcome
@@ -141,7 +141,7 @@ lines_response part outcome =
       status = repair_status outcome;
     }
 
--- What comes of mending, as JSON, always with the lines that mend a part of the findings.
+-- What comes of mending, as JSON, always with the lines for a part of the findings.
 abbrev pub repair_in_json : Outcome → List ℕ
 repair_in_json right = answer_text (mended_value (outcome_text right))
 repair_in_json (mended text) = answer_text (mended_value (outcome_text (mended text)))

@@ -414,7 +414,7 @@ fn repair_status(found: &Repair) -> u8
     }
 }
 
-// What comes of mending, as JSON, always with the lines that mend a part of the findings.
+// What comes of mending, as JSON, always with the lines for a part of the findings.
 fn repair_in_json(alloc: Global, found: &Repair) -> Result<Vec<u8>, AllocError>
     ensures { IfOk result (λ text. text.items ≡ repair_in_json (outcome_of found.now)) }
 {
@@ -430,7 +430,7 @@ fn repair_in_json(alloc: Global, found: &Repair) -> Result<Vec<u8>, AllocError>
     }
 }
 
-// The lines for standard output, also those that mend a part of the findings where these are asked
+// The lines for standard output, also those for a part of the findings where these are asked
 // for.
 fn lines_printed(alloc: Global, found: &Repair, part: bool) -> Result<Vec<u8>, AllocError>
     ensures { IfOk result (λ text. text.items ≡ lines_printed part (outcome_of found.now)) }
