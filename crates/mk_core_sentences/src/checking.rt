@@ -28,8 +28,13 @@ pub enum InWords {
     No(Vec<u8>),
 }
 
-/// The findings of a no in sentences, with the races and stale reads that they hide.
-fn told(alloc: Global, subject: &Subject<'_>, found: &[Finding]) -> Result<Vec<u8>, AllocError>
+/// The findings of a no in sentences, with the races and stale reads that they hide, as `sentences`
+/// of mk_sentences tells them. The only error is out of memory.
+pub fn in_sentences(
+    alloc: Global,
+    subject: &Subject<'_>,
+    found: &[Finding],
+) -> Result<Vec<u8>, AllocError>
     ensures { IfOk result (λ text. Tells subject.now found.now text.items) }
 {
     if !has_static(found) {
@@ -51,7 +56,7 @@ fn in_words(
     match &verdict {
         Verdict::Yes { .. } => Ok(InWords::Yes(verdict)),
         Verdict::No(found) => {
-            let text = told(alloc, subject, found.as_slice())?;
+            let text = in_sentences(alloc, subject, found.as_slice())?;
             drop_or_leak(verdict, leaves_memory);
             Ok(InWords::No(text))
         }
