@@ -1,16 +1,15 @@
 -- Lines of which none gives a node a further prerequisite close no cycle.
-use Rattle.std.proofs.Common.{◌≡◌, ◌∙◌, ℕ, ◌<◌, ◌≤◌, List, [], ◌++◌, length, None, ⊎_elim, ap, subst, sym, append-nil, arith}
+use Rattle.std.proofs.Common.{◌≡◌, ◌∙◌, ℕ, ◌≤◌, List, [], ◌++◌, length, None, ⊎_elim, ap, subst, sym, append-nil, arith}
 use Rattle.std.specs.List.{flat_map}
 use Rattle.std.proofs.lemmas.Bool.{cases_lt}
 use Rattle.std.proofs.lemmas.List.{get_or_past}
 use Rattle.mk_graph.specs.declared.node.Node.{Node}
 use Rattle.mk_graph.specs.Build.{WalksAll}
-use Rattle.mk_graph.specs.Graph.{Graph, HasPath, IsGraph, no_node, node, one, prerequisites, then}
+use Rattle.mk_graph.specs.Graph.{Graph, HasPath, IsGraph, no_node, one, prerequisites, then}
 use Rattle.mk_graph.specs.Laws.{ClosesOnlyCycles, GoesAlong, WalkHasAnEnd, further, step}
 use Rattle.mk_graph.specs.Walk.{Closes, Through, WalkEnd, Walks}
 use Rattle.mk_graph.proofs.Acyclic.{no_node_leads_to_itself}
 use Rattle.mk_build_needs.specs.NeedsGraph.{IsFirstCycle, with_prerequisites}
-use Rattle.mk_subject.specs.Subject.{Subject}
 use Rattle.mk_repair.specs.Word.{Word}
 use Rattle.mk_claims.specs.Offers.{graph_with, needed_in, steps_of}
 use Rattle.mk_claims.proofs.WiderGraphs.{count_is, needs_are}
@@ -46,10 +45,10 @@ module _ (g : Graph) (given : ℕ → List ℕ) (same : (n : ℕ) → given n �
   walk_stays finished w = subst (λ (needs : ℕ → List ℕ). Walks needs [] [] g.goals (Through finished)) (λ i n. sym (needs_stay n) i) w
 
 -- without steps there is no cycle
-pub no_steps : ClosesOnlyCycles → WalkHasAnEnd → (x : Subject) → IsGraph x.graph → (words : List Word) → steps_of x words ≡ [] → IsFirstCycle (graph_with x words) None
-no_steps closes ends x is words none =
-    let whole = completes closes ends x.graph is in (
+pub no_steps : ClosesOnlyCycles → WalkHasAnEnd → (g : Graph) → IsGraph g → (words : List Word) → steps_of g words ≡ [] → IsFirstCycle (graph_with g words) None
+no_steps closes ends g is words none =
+    let whole = completes closes ends g is in (
       whole.0,
-      walk_stays x.graph (λ n. prerequisites x.graph n ++ needed_in n (steps_of x words))
-          (λ n. ap (λ (l : List (ℕ × ℕ)). prerequisites x.graph n ++ needed_in n l) none ∙ append-nil (prerequisites x.graph n)) whole.0 whole.1,
+      walk_stays g (λ n. prerequisites g n ++ needed_in n (steps_of g words))
+          (λ n. ap (λ (l : List (ℕ × ℕ)). prerequisites g n ++ needed_in n l) none ∙ append-nil (prerequisites g n)) whole.0 whole.1,
     )

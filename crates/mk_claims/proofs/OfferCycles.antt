@@ -1,23 +1,22 @@
 -- On a cycle in the graph with the lines of offers stands one of these lines.
-use Rattle.std.proofs.Common.{◌≡◌, ◌∙◌, ℕ, ◌+◌, ◌<◌, ◌≤◌, ◌==◌, ◌&&◌, ◌||◌, ◌⊎◌, Bool, true, false, cond, List, [], ◌∷◌, ◌++◌, length, map, Option, None, Some, inl, inr, ⊎_elim, refl, sym, ap, subst, arith, append_assoc, append-nil, length-append}
+use Rattle.std.proofs.Common.{◌≡◌, ◌∙◌, ℕ, ◌+◌, ◌<◌, ◌≤◌, ◌==◌, ◌&&◌, ◌||◌, ◌⊎◌, Bool, true, false, cond, List, [], ◌∷◌, ◌++◌, get_or, length, map, Option, None, Some, inl, inr, ⊎_elim, refl, sym, ap, subst, arith, append_assoc, append-nil, length-append}
 use Rattle.std.specs.Prelude.{nat_lt, option_to_list}
 use Rattle.std.specs.Str.{bytes_eq}
 use Rattle.std.proofs.lemmas.Bool.{eqb-true, ltb-true}
+use Rattle.std.proofs.lemmas.List.{get_or-map, length-map}
+use Rattle.std.proofs.lemmas.List.Sums.{passes_at_first}
 use Rattle.std.proofs.lemmas.Slice.Eq.{bytes_eq-Decides}
 use Rattle.mk_lemmas.proofs.Members.{Has-cases, Has-from_then}
 use Rattle.mk_lines.specs.Names.{number_of}
 use Rattle.mk_graph.specs.declared.node.Node.{Node}
-use Rattle.mk_graph.specs.Graph.{Graph, HasNoCycle, HasPath, IsGraph, node, one, prerequisites, then}
+use Rattle.mk_graph.specs.Graph.{Graph, HasNoCycle, HasPath, IsGraph, no_node, node, one, prerequisites, then}
 use Rattle.mk_graph.specs.Laws.{ClosesOnlyCycles, GoesAlong, IsCycle, further, step}
 use Rattle.mk_graph.specs.Membership.{Has}
 use Rattle.mk_graph.proofs.Acyclic.{no_node_leads_to_itself}
 use Rattle.mk_build_needs.specs.NeedsGraph.{IsFirstCycle, with_prerequisites}
 use Rattle.mk_claims.proofs.WiderGraphs.{node_is, prerequisites_within}
-use Rattle.mk_subject.specs.FileInfo.{all_names}
-use Rattle.mk_subject.specs.Subject.{Subject, name_of}
-use Rattle.mk_subject.proofs.Numbers.{number_names}
 use Rattle.mk_repair.specs.Word.{Word, needs, phony}
-use Rattle.mk_claims.specs.Offers.{Offer, cycle_text, graph_with, has_step, is_on, needed_in, open_word, open_words, stand_after, step_between, step_of, steps_of, without_step}
+use Rattle.mk_claims.specs.Offers.{Offer, cycle_text, graph_with, has_step, is_on, names_in, needed_in, open_word, open_words, stand_after, step_of, steps_of, without_step}
 use Rattle.mk_claims.proofs.OfferRows.{needed-append, steps_joined}
 
 -- the name of a node
@@ -102,19 +101,27 @@ found_beside : (f : ℕ → List ℕ) (n p : ℕ) (previous : List ℕ) (front b
 found_beside f n p previous [] back = or_right (bytes_eq previous (f n) && bytes_eq (f n) (f p)) _ (or_left (bytes_eq (f n) (f n) && bytes_eq (f p) (f p)) _ (is_itself (f n) (f p)))
 found_beside f n p previous (a ∷ front) back = or_right (bytes_eq previous (f n) && bytes_eq (f a) (f p)) _ (found_beside f n p (f a) front back)
 
-module _ (x : Subject) (f : ℕ → List ℕ) (same : (n : ℕ) → n < length x.graph.nodes → f n ≡ name_of x n) where
+-- at a number that is a node's stands the name
+number_names : (g : Graph) (f : List ℕ) → number_of (names_in g) f < length g.nodes → name_in g (number_of (names_in g) f) ≡ f
+number_names g f low =
+    let name = λ (n : Node). n.name in
+    let within : number_of (names_in g) f < length (names_in g) = omega (arith, length-map g.nodes name) in
+    let passes : bytes_eq f (get_or (names_in g) (number_of (names_in g) f) []) ≡ true = passes_at_first (λ other. bytes_eq f other) (names_in g) [] within in
+    sym (get_or-map name g.nodes (number_of (names_in g) f) no_node [] low) ∙ sym ((bytes_eq-Decides f (get_or (names_in g) (number_of (names_in g) f) [])).0 passes)
+
+module _ (g : Graph) (f : ℕ → List ℕ) (same : (n : ℕ) → n < length g.nodes → f n ≡ name_in g n) where
   abbrev count : ℕ
-  count = length x.graph.nodes
+  count = length g.nodes
 
   -- the word that gives a node a prerequisite says so of their names
-  step_named : (target prerequisite : List ℕ) (n p : ℕ) → Has (needed_in n (step_of x count (needs target prerequisite))) p → (f n ≡ target) × (f p ≡ prerequisite)
+  step_named : (target prerequisite : List ℕ) (n p : ℕ) → Has (needed_in n (step_of g count (needs target prerequisite))) p → (f n ≡ target) × (f p ≡ prerequisite)
   step_named target prerequisite n p h = at (nat_lt t count) (nat_lt q count) refl refl h
     where
       t : ℕ
-      t = number_of (all_names x) target
+      t = number_of (names_in g) target
 
       q : ℕ
-      q = number_of (all_names x) prerequisite
+      q = number_of (names_in g) prerequisite
 
       at : (a b : Bool) → nat_lt t count ≡ a → nat_lt q count ≡ b → Has (needed_in n (cond (a && b) ((t, q) ∷ []) [])) p → (f n ≡ target) × (f p ≡ prerequisite)
       at true true d e k =
@@ -123,20 +130,20 @@ module _ (x : Subject) (f : ℕ → List ℕ) (same : (n : ℕ) → n < length x
           let needed_here : q ≡ p = elim here.1 [ inl is ↦ is | inr none ↦ absurd none ] in
           let low : t < count = ltb-true t count d in
           let down : q < count = ltb-true q count e in
-          (ap f (sym node_here) ∙ (same t low ∙ number_names x target low), ap f (sym needed_here) ∙ (same q down ∙ number_names x prerequisite down))
+          (ap f (sym node_here) ∙ (same t low ∙ number_names g target low), ap f (sym needed_here) ∙ (same q down ∙ number_names g prerequisite down))
       at true false d e k = absurd k
       at false b d e k = absurd k
 
   -- so it is on the cycle
-  word_on : (names : List (List ℕ)) (w : Word) (n p : ℕ) → stand_after [] names (f n) (f p) ≡ true → Has (needed_in n (step_of x count w)) p → has_step names w ≡ true
+  word_on : (names : List (List ℕ)) (w : Word) (n p : ℕ) → stand_after [] names (f n) (f p) ≡ true → Has (needed_in n (step_of g count w)) p → has_step names w ≡ true
   word_on names (phony target) n p beside h = absurd h
   word_on names (needs target prerequisite) n p beside h =
       let named = step_named target prerequisite n p h in
       sym (ap (λ (t : List ℕ). stand_after [] names t (f p)) named.0 ∙ ap (λ (q : List ℕ). stand_after [] names target q) named.1) ∙ beside
 
-  some_word_on : (names : List (List ℕ)) (w : Option Word) (n p : ℕ) → stand_after [] names (f n) (f p) ≡ true → Has (needed_in n (steps_of x (option_to_list w))) p → is_on names w ≡ true
+  some_word_on : (names : List (List ℕ)) (w : Option Word) (n p : ℕ) → stand_after [] names (f n) (f p) ≡ true → Has (needed_in n (steps_of g (option_to_list w))) p → is_on names w ≡ true
   some_word_on names None n p beside h = absurd h
-  some_word_on names (Some w) n p beside h = word_on names w n p beside (subst (λ (l : List (ℕ × ℕ)). Has (needed_in n l) p) (append-nil (step_of x count w)) h)
+  some_word_on names (Some w) n p beside h = word_on names w n p beside (subst (λ (l : List (ℕ × ℕ)). Has (needed_in n l) p) (append-nil (step_of g count w)) h)
 
 -- how many lines an offer has
 abbrev size : Option Word → ℕ
@@ -180,33 +187,33 @@ none_more names (o ∷ offers) =
     omega (arith, counted o offers, counted (without_step names o) (map (without_step names) offers))
 
 -- a round leaves fewer lines
-module _ (x : Subject) (f : ℕ → List ℕ) (same : (n : ℕ) → n < length x.graph.nodes → f n ≡ name_of x n) (names : List (List ℕ)) (n p : ℕ) (beside : stand_after [] names (f n) (f p) ≡ true) where
-  fewer : (offers : List Offer) → Has (needed_in n (steps_of x (open_words offers))) p → length (open_words (map (without_step names) offers)) < length (open_words offers)
+module _ (g : Graph) (f : ℕ → List ℕ) (same : (n : ℕ) → n < length g.nodes → f n ≡ name_in g n) (names : List (List ℕ)) (n p : ℕ) (beside : stand_after [] names (f n) (f p) ≡ true) where
+  fewer : (offers : List Offer) → Has (needed_in n (steps_of g (open_words offers))) p → length (open_words (map (without_step names) offers)) < length (open_words offers)
   fewer [] h = absurd h
   fewer (o ∷ offers) h =
       let front = option_to_list (open_word o) in
-      let parts : needed_in n (steps_of x (open_words (o ∷ offers))) ≡ needed_in n (steps_of x front) ++ needed_in n (steps_of x (open_words offers)) =
-      ap (needed_in n) (steps_joined x front (open_words offers)) ∙ needed-append n (steps_of x front) (steps_of x (open_words offers)) in
+      let parts : needed_in n (steps_of g (open_words (o ∷ offers))) ≡ needed_in n (steps_of g front) ++ needed_in n (steps_of g (open_words offers)) =
+      ap (needed_in n) (steps_joined g front (open_words offers)) ∙ needed-append n (steps_of g front) (steps_of g (open_words offers)) in
       let all = counted o offers in
       let new = counted (without_step names o) (map (without_step names) offers) in
       ⊎_elim
       (λ here.
-      let less = one_less names o (some_word_on x f same names (open_word o) n p beside here) in
+      let less = one_less names o (some_word_on g f same names (open_word o) n p beside here) in
       let rest = none_more names offers in
       omega (arith, all, new, less, rest))
       (λ later.
       let rest = fewer offers later in
       let kept = not_more names o (is_on names (open_word o)) refl in
       omega (arith, all, new, kept, rest))
-      (Has-cases (needed_in n (steps_of x front)) (needed_in n (steps_of x (open_words offers))) p (subst (λ (l : List ℕ). Has l p) parts h))
+      (Has-cases (needed_in n (steps_of g front)) (needed_in n (steps_of g (open_words offers))) p (subst (λ (l : List ℕ). Has l p) parts h))
 
-pub round_falls : ClosesOnlyCycles → (x : Subject) → IsGraph x.graph → (offers : List Offer) (names : List (List ℕ)) → IsFirstCycle (graph_with x (open_words offers)) (Some names)
+pub round_falls : ClosesOnlyCycles → (g : Graph) → IsGraph g → (offers : List Offer) (names : List (List ℕ)) → IsFirstCycle (graph_with g (open_words offers)) (Some names)
     → length (open_words (map (without_step names) offers)) < length (open_words offers)
-round_falls closes x is offers names (path, walks, e) =
-    let more : ℕ → List ℕ = λ n. needed_in n (steps_of x (open_words offers)) in
-    let used = cycle_uses x.graph more is.no_cycle path (closes (graph_with x (open_words offers)) path walks) in
-    let f : ℕ → List ℕ = name_in (graph_with x (open_words offers)) in
+round_falls closes g is offers names (path, walks, e) =
+    let more : ℕ → List ℕ = λ n. needed_in n (steps_of g (open_words offers)) in
+    let used = cycle_uses g more is.no_cycle path (closes (graph_with g (open_words offers)) path walks) in
+    let f : ℕ → List ℕ = name_in (graph_with g (open_words offers)) in
     let beside : stand_after [] names (f used.number) (f used.needed) ≡ true =
     ap (λ (l : List (List ℕ)). stand_after [] l (f used.number) (f used.needed)) (e ∙ ap (map f) used.beside.split)
     ∙ found_beside f used.number used.needed [] used.beside.front used.beside.back in
-    fewer x f (λ n low. same_name x.graph more n low) names used.number used.needed beside offers used.there
+    fewer g f (λ n low. same_name g more n low) names used.number used.needed beside offers used.there

@@ -1,18 +1,16 @@
 -- The rows of lines that are offered.
 use Rattle.std.proofs.Common.{◌≡◌, ◌≢◌, ◌∙◌, ℕ, ◌+◌, ◌<◌, ◌≤◌, ◌==◌, ◌&&◌, Bool, true, false, cond, List, [], ◌∷◌, ◌++◌, length, map, get_or, set, take, Vec, Global, inl, inr, ⊎_elim, refl, sym, ap, subst, arith, append-nil}
 use Rattle.std.specs.Prelude.{nat_lt}
-use Rattle.std.specs.List.{flat_map}
 use Rattle.std.proofs.lemmas.Bool.{cases_eq, cases_lt, eq-eqb, eqb-true, ltb-true, ne_eqb}
 use Rattle.std.proofs.lemmas.List.{get_or-set_other, get_or-set_same, get_or_past, length-map, map-append, map-set, take_more}
 use Rattle.std.proofs.lemmas.List.Concat.{flat_map-append}
 use Rattle.mk_graph.specs.declared.node.Node.{Node}
+use Rattle.mk_graph.specs.Graph.{Graph}
 use Rattle.mk_graph.specs.Membership.{Has}
 use Rattle.mk_graph.specs.Progress.{row}
-use Rattle.mk_subject.specs.Subject.{Subject}
 use Rattle.mk_repair.specs.Word.{Word, needs, phony}
 use Rattle.mk_lines.specs.Names.{number_of}
-use Rattle.mk_subject.specs.FileInfo.{all_names}
-use Rattle.mk_claims.specs.Offers.{needed_in, step_between, step_of, step_view, steps_of}
+use Rattle.mk_claims.specs.Offers.{names_in, needed_in, step_between, step_of, step_view, steps_of}
 use Rattle.mk_claims.specs.declared.offer.Step.{Step}
 
 -- both numbers of a step are those of nodes
@@ -28,17 +26,17 @@ between_within count t p = at (nat_lt t count) (nat_lt p count) refl refl
     at true false d e = tt
     at false b d e = tt
 
-word_within : (x : Subject) (count : ℕ) (w : Word) → AreWithin count (step_of x count w)
-word_within x count (phony target) = tt
-word_within x count (needs target prerequisite) = between_within count (number_of (all_names x) target) (number_of (all_names x) prerequisite)
+word_within : (g : Graph) (count : ℕ) (w : Word) → AreWithin count (step_of g count w)
+word_within g count (phony target) = tt
+word_within g count (needs target prerequisite) = between_within count (number_of (names_in g) target) (number_of (names_in g) prerequisite)
 
 both_within : (count : ℕ) (a b : List (ℕ × ℕ)) → AreWithin count a → AreWithin count b → AreWithin count (a ++ b)
 both_within count [] b h k = k
 both_within count (s ∷ a) b h k = (h.0, h.1, both_within count a b h.2 k)
 
-words_within : (x : Subject) (words : List Word) → AreWithin (length x.graph.nodes) (steps_of x words)
-words_within x [] = tt
-words_within x (w ∷ words) = both_within (length x.graph.nodes) (step_of x (length x.graph.nodes) w) (steps_of x words) (word_within x (length x.graph.nodes) w) (words_within x words)
+words_within : (g : Graph) (words : List Word) → AreWithin (length g.nodes) (steps_of g words)
+words_within g [] = tt
+words_within g (w ∷ words) = both_within (length g.nodes) (step_of g (length g.nodes) w) (steps_of g words) (word_within g (length g.nodes) w) (words_within g words)
 
 -- what the steps give a node is a node
 needed_within : (count n p : ℕ) (steps : List (ℕ × ℕ)) → AreWithin count steps → Has (needed_in n steps) p → p < count
@@ -63,21 +61,21 @@ none_past count n (s ∷ steps) h past = at (s.0 == n) refl (none_past count n s
     at false e ih = ih
 
 -- the rows of all numbers
-pub rows_are : (x : Subject) (words : List Word) (rows : List (Vec ℕ Global)) → length rows ≡ length x.graph.nodes → ((n : ℕ) → n < length x.graph.nodes → row rows n ≡ needed_in n (steps_of x words)) → (n : ℕ) → row rows n ≡ needed_in n (steps_of x words)
-rows_are x words rows count same n =
+pub rows_are : (g : Graph) (words : List Word) (rows : List (Vec ℕ Global)) → length rows ≡ length g.nodes → ((n : ℕ) → n < length g.nodes → row rows n ≡ needed_in n (steps_of g words)) → (n : ℕ) → row rows n ≡ needed_in n (steps_of g words)
+rows_are g words rows count same n =
     ⊎_elim (λ low. same n low)
     (λ past. get_or_past (map (λ (r : Vec ℕ Global). r.items) rows) n [] (omega (arith, past, count, length-map rows (λ (r : Vec ℕ Global). r.items)))
-    ∙ sym (none_past (length x.graph.nodes) n (steps_of x words) (words_within x words) past)) (cases_lt n (length x.graph.nodes))
+    ∙ sym (none_past (length g.nodes) n (steps_of g words) (words_within g words) past)) (cases_lt n (length g.nodes))
 
 -- the same, where the nodes and the steps are seen otherwise
-pub rows_given : (x : Subject) (words : List Word) (rows : List (Vec ℕ Global)) (nodes : List Node) (steps : List (ℕ × ℕ)) → length rows ≡ length nodes → ((n : ℕ) → n < length nodes → row rows n ≡ needed_in n steps) → nodes ≡ x.graph.nodes → steps ≡ steps_of x words → (n : ℕ) → row rows n ≡ needed_in n (steps_of x words)
-rows_given x words rows nodes steps count low e d =
-    rows_are x words rows (count ∙ ap (λ (l : List Node). length l) e)
+pub rows_given : (g : Graph) (words : List Word) (rows : List (Vec ℕ Global)) (nodes : List Node) (steps : List (ℕ × ℕ)) → length rows ≡ length nodes → ((n : ℕ) → n < length nodes → row rows n ≡ needed_in n steps) → nodes ≡ g.nodes → steps ≡ steps_of g words → (n : ℕ) → row rows n ≡ needed_in n (steps_of g words)
+rows_given g words rows nodes steps count low e d =
+    rows_are g words rows (count ∙ ap (λ (l : List Node). length l) e)
     (λ n lt. low n (subst (λ (l : List Node). n < length l) (sym e) lt) ∙ ap (λ (l : List (ℕ × ℕ)). needed_in n l) d)
 
 -- what stands in the rows is a node
-pub rows_within : (x : Subject) (words : List Word) (rows : List (Vec ℕ Global)) → ((n : ℕ) → row rows n ≡ needed_in n (steps_of x words)) → (n p : ℕ) → Has (row rows n) p → p < length x.graph.nodes
-rows_within x words rows are n p h = needed_within (length x.graph.nodes) n p (steps_of x words) (words_within x words) (subst (λ (l : List ℕ). Has l p) (are n) h)
+pub rows_within : (g : Graph) (words : List Word) (rows : List (Vec ℕ Global)) → ((n : ℕ) → row rows n ≡ needed_in n (steps_of g words)) → (n p : ℕ) → Has (row rows n) p → p < length g.nodes
+rows_within g words rows are n p h = needed_within (length g.nodes) n p (steps_of g words) (words_within g words) (subst (λ (l : List ℕ). Has l p) (are n) h)
 
 -- what steps in two parts give a node
 pub needed-append : (n : ℕ) (front back : List (ℕ × ℕ)) → needed_in n (front ++ back) ≡ needed_in n front ++ needed_in n back
@@ -126,5 +124,5 @@ row_kept rows k p n past low =
     sym (append-nil (row rows n)) ∙ ap (λ (l : List ℕ). row rows n ++ l) (sym (gives_none k p n apart))
 
 -- the steps of words in two parts
-pub steps_joined : (x : Subject) (front back : List Word) → steps_of x (front ++ back) ≡ steps_of x front ++ steps_of x back
-steps_joined x front back = flat_map-append (step_of x (length x.graph.nodes)) front back
+pub steps_joined : (g : Graph) (front back : List Word) → steps_of g (front ++ back) ≡ steps_of g front ++ steps_of g back
+steps_joined g front back = flat_map-append (step_of g (length g.nodes)) front back

@@ -1,16 +1,15 @@
 -- What offers come to closes no cycle.
-use Rattle.std.proofs.Common.{◌≡◌, ◌∙◌, ℕ, Bool, true, false, cond, List, [], ◌∷◌, ◌++◌, map, Option, None, Some, refl, sym, ap, subst}
+use Rattle.std.proofs.Common.{◌≡◌, ◌∙◌, Bool, true, false, cond, List, [], ◌∷◌, ◌++◌, map, Option, None, refl, sym, ap, subst}
 use Rattle.std.specs.Prelude.{option_to_list}
 use Rattle.std.specs.Str.{bytes_eq}
 use Rattle.mk_build_needs.specs.NeedsGraph.{IsFirstCycle}
-use Rattle.mk_subject.specs.Subject.{Subject}
+use Rattle.mk_graph.specs.Graph.{Graph}
 use Rattle.mk_repair.specs.Word.{Word}
-use Rattle.mk_claims.specs.Claims.{Claim}
 use Rattle.mk_claims.specs.Laws.{ShownCloseNoCycle}
 use Rattle.mk_claims.specs.Offers.{Offer, Settles, claim_offered, goes_on, graph_with, open_word, open_words, stays, word_of_claim, words_of}
 
 -- the lines that are left close none
-left_close_none : {x : Subject} {offers settled : List Offer} → Settles x offers settled → IsFirstCycle (graph_with x (open_words settled)) None
+left_close_none : {g : Graph} {offers settled : List Offer} → Settles g offers settled → IsFirstCycle (graph_with g (open_words settled)) None
 left_close_none (stays none) = none
 left_close_none (goes_on first later) = left_close_none later
 
@@ -29,5 +28,5 @@ same_words (o ∷ offers) =
     ∙ ap (λ (l : List Word). option_to_list (open_word o) ++ l) (same_words offers)
 
 pub shown_close_none : ShownCloseNoCycle
-shown_close_none x claims shown (offers, (w, over, settles), e) =
-    (w, over, subst (λ (l : List Word). IsFirstCycle (graph_with w l) None) (sym (ap words_of e ∙ same_words offers)) (left_close_none settles))
+shown_close_none x claims shown (offers, (g, over, settles), e) =
+    (g, over, subst (λ (l : List Word). IsFirstCycle (graph_with g l) None) (sym (ap words_of e ∙ same_words offers)) (left_close_none settles))

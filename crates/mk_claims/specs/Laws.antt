@@ -2,6 +2,7 @@
 use Rattle.std.specs.Prelude.{ℕ, List, map, None, IsPermutation}
 use Rattle.std.specs.List.{flat_map}
 use Rattle.mk_build_needs.specs.NeedsGraph.{IsFirstCycle}
+use Rattle.mk_graph.specs.Graph.{Graph}
 use Rattle.mk_subject.specs.Subject.{Subject}
 use Rattle.mk_claims.specs.Topics.{Topic}
 use Rattle.mk_claims.specs.Claims.{Claim}
@@ -25,8 +26,8 @@ GroupsHoldAll =
     (claims : List Claim) → IsPermutation (flat_map claims_in (groups claims)) claims
 
 -- The lines that are shown close no cycle, with the graph of the goals and of the names in lines
--- which rules make.
+-- which rules make, once the lines are added.
 abbrev pub ShownCloseNoCycle : Type 0
 ShownCloseNoCycle =
     (x : Subject) (claims shown : List Claim) → AreShown x claims shown →
-    (w : Subject) × IsWidest x claims w × IsFirstCycle (graph_with w (words_of shown)) None
+    (g : Graph) × IsWidest x claims g × IsFirstCycle (graph_with g (words_of shown)) None

@@ -1,13 +1,12 @@
 -- The lines that claims ask for, without those that would close a cycle.
-use Rattle.std.specs.Prelude.{◌==◌, ℕ, Bool, true, false, ◌&&◌, ◌||◌, nat_lt, List, [], ◌∷◌, ◌++◌, length, map, option_to_list, Option, None, Some, if◌then◌else◌}
+use Rattle.std.specs.Prelude.{◌==◌, ℕ, Bool, false, ◌&&◌, ◌||◌, nat_lt, List, [], ◌∷◌, ◌++◌, length, map, option_to_list, Option, None, Some, if◌then◌else◌}
 use Rattle.std.specs.List.{flat_map}
 use Rattle.std.specs.Str.{bytes_eq}
 use Rattle.std.specs.String.{string_bytes}
 use Rattle.mk_lines.specs.Names.{number_of}
+use Rattle.mk_graph.specs.declared.node.Node.{Node}
 use Rattle.mk_graph.specs.Graph.{Graph, prerequisites}
 use Rattle.mk_build_needs.specs.NeedsGraph.{IsFirstCycle, with_prerequisites}
-use Rattle.mk_subject.specs.FileInfo.{all_names}
-use Rattle.mk_subject.specs.Subject.{Subject}
 use Rattle.mk_repair.specs.Word.{Word, needs, phony}
 use Rattle.mk_claims.specs.Claims.{Claim, claim_view}
 use Rattle.mk_claims.specs.declared.offer.Offer as borrowed
@@ -56,6 +55,10 @@ open_word o = if bytes_eq o.cycle [] then word_of_claim o.claim else None
 abbrev pub open_words : List Offer → List Word
 open_words offers = flat_map (λ o. option_to_list (open_word o)) offers
 
+-- The names of the nodes, each at its number.
+abbrev pub names_in : Graph → List (List ℕ)
+names_in g = map (λ (n : Node). n.name) g.nodes
+
 -- The numbers, where both are those of nodes; there are `count` nodes.
 abbrev pub step_between : (count target prerequisite : ℕ) → List (ℕ × ℕ)
 step_between count target prerequisite =
@@ -63,14 +66,14 @@ step_between count target prerequisite =
 
 -- The numbers of the target and the prerequisite of a line that says this word, where both are
 -- nodes.
-abbrev pub step_of : Subject → (count : ℕ) → Word → List (ℕ × ℕ)
-step_of x count (phony target) = []
-step_of x count (needs target prerequisite) =
-    step_between count (number_of (all_names x) target) (number_of (all_names x) prerequisite)
+abbrev pub step_of : Graph → (count : ℕ) → Word → List (ℕ × ℕ)
+step_of g count (phony target) = []
+step_of g count (needs target prerequisite) =
+    step_between count (number_of (names_in g) target) (number_of (names_in g) prerequisite)
 
 -- The numbers of the targets and prerequisites of lines that say these words.
-abbrev pub steps_of : Subject → List Word → List (ℕ × ℕ)
-steps_of x words = flat_map (step_of x (length x.graph.nodes)) words
+abbrev pub steps_of : Graph → List Word → List (ℕ × ℕ)
+steps_of g words = flat_map (step_of g (length g.nodes)) words
 
 -- The pair that the code's step stands for.
 abbrev pub step_view : borrowed_step.Step → ℕ × ℕ
@@ -83,10 +86,9 @@ needed_in n (step ∷ steps) =
     if step.0 == n then step.1 ∷ needed_in n steps else needed_in n steps
 
 -- The graph with lines that say these words.
-abbrev pub graph_with : Subject → List Word → Graph
-graph_with x words =
-    with_prerequisites x.graph (λ n.
-    prerequisites x.graph n ++ needed_in n (steps_of x words))
+abbrev pub graph_with : Graph → List Word → Graph
+graph_with g words =
+    with_prerequisites g (λ n. prerequisites g n ++ needed_in n (steps_of g words))
 
 -- The names, each after a space.
 abbrev pub cycle_text : List (List ℕ) → List ℕ
@@ -117,14 +119,14 @@ without_step names o =
 
 -- What offers come to: as long as there is a cycle in the graph with their lines, the lines on the
 -- first one are taken back.
-pub data Settles (x : Subject) : (offers settled : List Offer) → Type 0 where
+pub data Settles (g : Graph) : (offers settled : List Offer) → Type 0 where
   -- There is no cycle.
-  stays : {offers : List Offer} → IsFirstCycle (graph_with x (open_words offers)) None →
-      Settles x offers offers
+  stays : {offers : List Offer} → IsFirstCycle (graph_with g (open_words offers)) None →
+      Settles g offers offers
   -- The lines on the first cycle are taken back.
   goes_on : {offers settled : List Offer} {names : List (List ℕ)} →
-      IsFirstCycle (graph_with x (open_words offers)) (Some names) →
-      Settles x (map (without_step names) offers) settled → Settles x offers settled
+      IsFirstCycle (graph_with g (open_words offers)) (Some names) →
+      Settles g (map (without_step names) offers) settled → Settles g offers settled
 
 -- The claim of an offer: without a line where that would close a cycle.
 abbrev pub claim_offered : Offer → Claim

@@ -1,10 +1,11 @@
--- The subject whose graph has the names that lines add, too.
+-- The graph that has the names that lines add, too.
 use Rattle.std.specs.Prelude.{◌≡◌, ℕ, Bool, false, ◌||◌, List, [], ◌++◌, filter, fold, map, option_to_list, Option, None, Some, Result, Ok, Err, if◌then◌else◌}
 use Rattle.std.specs.List.{flat_map}
 use Rattle.mk_lines.specs.Names.{has_name, with_name}
 use Rattle.mk_graph.specs.Graph.{Graph}
 use Rattle.mk_infer.specs.Goals.{goal_names}
 use Rattle.mk_infer.specs.Inference.{choice}
+use Rattle.mk_infer.specs.Laws.{with_more}
 use Rattle.mk_infer.specs.Selection.{Selects}
 use Rattle.mk_infer.specs.Steps.{is_out_of_memory}
 use Rattle.mk_infer.specs.Targets.{is_target}
@@ -15,8 +16,7 @@ use Rattle.mk_read.specs.Reading.{Makefile}
 use Rattle.mk_read.specs.Rules.{has_some}
 use Rattle.mk_repair.specs.Word.{Word, needs, phony}
 use Rattle.mk_subject.specs.FileInfo.{all_names}
-use Rattle.mk_subject.specs.NodeRow.{IsFaultOf}
-use Rattle.mk_subject.specs.Subject.{Subject, name_of, subject_of}
+use Rattle.mk_subject.specs.Subject.{Subject, name_of}
 use Rattle.mk_claims.specs.Claims.{Claim}
 use Rattle.mk_claims.specs.Offers.{Offer, Settles, offer_of, word_of_claim}
 
@@ -35,13 +35,32 @@ unreached_by x c = option_to_list (unreached_in x (word_of_claim c))
 abbrev pub unreached_names : Subject → List Claim → List (List ℕ)
 unreached_names x claims = fold with_name [] (flat_map (unreached_by x) claims)
 
+-- The target of a line that says this word.
+abbrev pub target_in : Option Word → Option (List ℕ)
+target_in None = None
+target_in (Some (phony target)) = None
+target_in (Some (needs target prerequisite)) = Some target
+
+-- The target of a line that mends the claim, as a list.
+abbrev pub target_by : Claim → List (List ℕ)
+target_by c = option_to_list (target_in (word_of_claim c))
+
+-- The targets in the lines of claims.
+abbrev pub line_targets : List Claim → List (List ℕ)
+line_targets claims = flat_map target_by claims
+
+-- What is there once the lines of claims are added: their targets, too.
+abbrev pub there_with : Subject → List Claim → Exists
+there_with x claims = with_more x.there (line_targets claims)
+
 -- A target rule or an inference rule makes the name.
 abbrev pub is_made : Makefile → Exists → List ℕ → Bool
 is_made m e name = is_target m name || has_some (choice m e name)
 
--- The prerequisites in the lines of claims which rules make, and which the goals don't reach.
+-- The prerequisites in the lines of claims which rules make, once the lines are added, and which the
+-- goals don't reach.
 abbrev pub far_names : Subject → List Claim → List (List ℕ)
-far_names x claims = filter (is_made x.makefile x.there) (unreached_names x claims)
+far_names x claims = filter (is_made x.makefile (there_with x claims)) (unreached_names x claims)
 
 -- The prerequisites in the lines of claims which are targets that the goals don't reach.
 abbrev pub far_targets : Subject → List Claim → List (List ℕ)
@@ -59,54 +78,42 @@ Leads m e goals (Err Memory) = Unit {0}
 Leads m e (Ok goals) answer = Selects m e goals answer
 Leads m e (Err fault) answer = answer ≡ Err fault
 
--- The answer is the graph of the goals and these names, or its first fault; or it is `Memory`.
-abbrev pub LeadsTo : Subject → (names : List (List ℕ)) → Result Graph InferFault → Type 0
-LeadsTo x names answer =
-    Leads x.makefile x.there (goal_names x.makefile (goals_with x names)) answer
-
--- The subject with this graph.
-abbrev pub over_graph : Subject → Graph → Subject
-over_graph x g = subject_of x.makefile x.there g x.setting
-
--- The commands of this graph have a fault that isn't out of memory.
-abbrev pub HasCommandFault : Subject → Graph → Type 0
-HasCommandFault x g =
-    (fault : InferFault) × (is_out_of_memory fault ≡ false) × IsFaultOf (over_graph x g) fault
+-- The answer is the graph of the goals and these names, once the lines of claims are added, without
+-- what these lines say of prerequisites; or its first fault; or it is `Memory`.
+abbrev pub LeadsTo : Subject → List Claim → (names : List (List ℕ)) →
+    Result Graph InferFault → Type 0
+LeadsTo x claims names answer =
+    Leads x.makefile (there_with x claims) (goal_names x.makefile (goals_with x names)) answer
 
 -- The goals and these names lead to a fault that isn't out of memory.
-pub data LeadsNowhere (x : Subject) (names : List (List ℕ)) : Type 0 where
-  -- They have no graph.
-  no_graph : (fault : InferFault) → is_out_of_memory fault ≡ false →
-      LeadsTo x names (Err fault) → LeadsNowhere x names
-  -- The commands of their graph have a fault.
-  no_commands : (g : Graph) → LeadsTo x names (Ok g) → HasCommandFault x g → LeadsNowhere x names
+abbrev pub LeadsNowhere : Subject → List Claim → (names : List (List ℕ)) → Type 0
+LeadsNowhere x claims names =
+    (fault : InferFault) × (is_out_of_memory fault ≡ false) × LeadsTo x claims names (Err fault)
 
--- The subject whose graph has the names in the lines of claims, too, which rules make; where these
--- lead to a fault, the one whose graph has the targets among them; else the subject itself.
-pub data IsWidest (x : Subject) (claims : List Claim) : Subject → Type 0 where
+-- The graph that has the names in the lines of claims, too, which rules make; where these lead to a
+-- fault, the one that has the targets among them; else the graph of the goals.
+pub data IsWidest (x : Subject) (claims : List Claim) : Graph → Type 0 where
   -- There are no such names.
-  no_names : far_names x claims ≡ [] → IsWidest x claims x
+  no_names : far_names x claims ≡ [] → IsWidest x claims x.graph
   -- They have a graph.
-  with_names : (g : Graph) → LeadsTo x (far_names x claims) (Ok g) →
-      IsWidest x claims (over_graph x g)
+  with_names : (g : Graph) → LeadsTo x claims (far_names x claims) (Ok g) → IsWidest x claims g
   -- Only the targets among them have one.
-  with_targets : (g : Graph) → LeadsNowhere x (far_names x claims) →
-      LeadsTo x (far_targets x claims) (Ok g) → IsWidest x claims (over_graph x g)
+  with_targets : (g : Graph) → LeadsNowhere x claims (far_names x claims) →
+      LeadsTo x claims (far_targets x claims) (Ok g) → IsWidest x claims g
   -- The targets have none, either.
-  alone : LeadsNowhere x (far_names x claims) → LeadsNowhere x (far_targets x claims) →
-      IsWidest x claims x
+  alone : LeadsNowhere x claims (far_names x claims) →
+      LeadsNowhere x claims (far_targets x claims) → IsWidest x claims x.graph
 
 -- What claims come to, with their lines, but for those that would close a cycle with this graph and
 -- the other lines.
-abbrev pub AreOn : Subject → Graph → List Claim → List Offer → Type 0
-AreOn x g claims offers = Settles (over_graph x g) (map offer_of claims) offers
+abbrev pub AreOn : Graph → List Claim → List Offer → Type 0
+AreOn g claims offers = Settles g (map offer_of claims) offers
 
 -- What claims come to with the graph of the goals and these names.
 abbrev pub AreOver : Subject → (names : List (List ℕ)) → List Claim → List Offer → Type 0
 AreOver x names claims offers =
-    (g : Graph) × LeadsTo x names (Ok g) × AreOn x g claims offers
+    (g : Graph) × LeadsTo x claims names (Ok g) × AreOn g claims offers
 
 -- What claims come to.
 abbrev pub AreOffers : Subject → List Claim → List Offer → Type 0
-AreOffers x claims offers =
-    (w : Subject) × IsWidest x claims w × Settles w (map offer_of claims) offers
+AreOffers x claims offers = (g : Graph) × IsWidest x claims g × AreOn g claims offers

@@ -6,15 +6,15 @@ ghost use Rattle.mk_graph.specs.Progress.{row};
 ghost use Rattle.mk_build_needs.specs.NeedsGraph.{IsFirstCycle};
 ghost use Rattle.mk_repair.specs.Words.{word_view};
 ghost use Rattle.mk_claims.specs.Claims.{claim_view};
-ghost use Rattle.mk_claims.specs.Offers.{Settles, claim_offered, cycle_text, graph_with, has_step, is_on, needed_in, offer_of, offer_view, open_word, open_words, stand_after, step_of, step_view, steps_of, without_step, word_of_claim};
+ghost use Rattle.mk_claims.specs.Offers.{Settles, claim_offered, cycle_text, graph_with, has_step, is_on, needed_in, offer_of, offer_view, open_word, open_words, stand_after, step_of, step_view, steps_of, without_step, names_in, word_of_claim};
 
 use crate::claim::Claim;
 use crate::topic::{Kind, Topic};
 use mk_build_needs::first_cycle;
+use mk_graph::Graph;
 use mk_graph::laws::{closes_only_cycles, walk_has_an_end};
-use mk_lines::{Name, Names};
+use mk_lines::{BorrowedNames, Name, Names};
 use mk_repair::Word;
-use mk_subject::Subject;
 use std::alloc::{AllocError, Global};
 
 /// A claim, and the names along the cycle that its line would close, each after a space; empty
@@ -66,9 +66,15 @@ fn open_word<'a>(offer: &Offer<'a>) -> Option<Word<'a>>
 
 /// Adds the numbers of a line's target and prerequisite, where both are nodes. The only error is
 /// out of memory.
-fn push_step(steps: &mut Vec<Step>, subject: &Subject<'_>, word: Word<'_>) -> Result<(), AllocError>
+fn push_step(
+    steps: &mut Vec<Step>,
+    graph: &Graph,
+    names: &BorrowedNames<'_>,
+    word: Word<'_>,
+) -> Result<(), AllocError>
+    requires { names.now ≡ names_in graph.now }
     ensures { OnOk result (map step_view steps.new.items ≡ map step_view steps.old.items ++
-        step_of subject.now (length subject.now.graph.nodes) (word_view word.entry)) }
+        step_of graph.now (length graph.now.nodes) (word_view word.entry)) }
 {
     let Word::Needs {
         target,
@@ -77,12 +83,12 @@ fn push_step(steps: &mut Vec<Step>, subject: &Subject<'_>, word: Word<'_>) -> Re
     else {
         return Ok(());
     };
-    let count = subject.graph().nodes().len();
-    let prerequisite = subject.names().number_of(prerequisite);
+    let count = graph.nodes().len();
+    let prerequisite = names.number_of(prerequisite);
     if count <= prerequisite {
         return Ok(());
     }
-    let target = subject.names().number_of(target);
+    let target = names.number_of(target);
     if target < count {
         steps.push(Step {
             target,
@@ -96,14 +102,16 @@ fn push_step(steps: &mut Vec<Step>, subject: &Subject<'_>, word: Word<'_>) -> Re
 /// memory.
 fn push_offered(
     steps: &mut Vec<Step>,
-    subject: &Subject<'_>,
+    graph: &Graph,
+    names: &BorrowedNames<'_>,
     offer: &Offer<'_>,
 ) -> Result<(), AllocError>
+    requires { names.now ≡ names_in graph.now }
     ensures { OnOk result (map step_view steps.new.items ≡ map step_view steps.old.items ++
-        steps_of subject.now (option_to_list (open_word (offer_view offer.now)))) }
+        steps_of graph.now (option_to_list (open_word (offer_view offer.now)))) }
 {
     match open_word(offer) {
-        Some(word) => push_step(steps, subject, word),
+        Some(word) => push_step(steps, graph, names, word),
         None => Ok(()),
     }
 }
@@ -111,15 +119,17 @@ fn push_offered(
 /// The numbers of the targets and prerequisites of the lines of offers.
 fn steps_of(
     alloc: Global,
-    subject: &Subject<'_>,
+    graph: &Graph,
+    names: &BorrowedNames<'_>,
     offers: &[Offer<'_>],
 ) -> Result<Vec<Step>, AllocError>
+    requires { names.now ≡ names_in graph.now }
     ensures { IfOk result (λ steps. map step_view steps.items ≡
-        steps_of subject.now (open_words (map offer_view offers.now))) }
+        steps_of graph.now (open_words (map offer_view offers.now))) }
 {
     let mut steps = Vec::new(alloc);
     for offer in offers {
-        push_offered(&mut steps, subject, offer)?;
+        push_offered(&mut steps, graph, names, offer)?;
     }
     Ok(steps)
 }
@@ -165,20 +175,22 @@ fn rows_of_steps(alloc: Global, steps: &[Step], count: usize) -> Result<Vec<Vec<
 /// only error is out of memory.
 fn cycle_with(
     alloc: Global,
-    subject: &Subject<'_>,
+    graph: &Graph,
+    names: &BorrowedNames<'_>,
     offers: &[Offer<'_>],
 ) -> Result<Option<Names>, AllocError>
+    requires { names.now ≡ names_in graph.now }
     ensures { IfOk result (λ cycle.
-        IsFirstCycle (graph_with subject.now (open_words (map offer_view offers.now))) cycle) }
+        IsFirstCycle (graph_with graph.now (open_words (map offer_view offers.now))) cycle) }
 {
-    let graph = subject.graph();
-    let steps = steps_of(alloc, subject, offers)?;
+    let nodes = graph.nodes();
+    let steps = steps_of(alloc, graph, names, offers)?;
     if steps.is_empty() {
         closes_only_cycles();
         walk_has_an_end();
         return Ok(None);
     }
-    let rows = rows_of_steps(alloc, &steps, graph.nodes().len())?;
+    let rows = rows_of_steps(alloc, &steps, nodes.len())?;
     first_cycle(alloc, graph, &rows)
 }
 
@@ -287,17 +299,19 @@ fn first_offers<'a>(alloc: Global, claims: &[Claim<'a>]) -> Result<Vec<Offer<'a>
 /// out of memory.
 pub fn settled<'a>(
     alloc: Global,
-    subject: &Subject<'_>,
+    graph: &Graph,
+    names: &BorrowedNames<'_>,
     claims: &[Claim<'a>],
 ) -> Result<Vec<Offer<'a>>, AllocError>
-    ensures { IfOk result (λ offers. Settles subject.now
+    requires { names.now ≡ names_in graph.now }
+    ensures { IfOk result (λ offers. Settles graph.now
         (map offer_of (map claim_view claims.now)) (map offer_view offers.items)) }
 {
     closes_only_cycles();
-    let _graph = subject.graph();
+    let _nodes = graph.nodes();
     let mut offers = first_offers(alloc, claims)?;
-    while let Some(names) = cycle_with(alloc, subject, &offers)? {
-        offers = without_steps(alloc, names.as_slice(), &offers)?;
+    while let Some(path) = cycle_with(alloc, graph, names, &offers)? {
+        offers = without_steps(alloc, path.as_slice(), &offers)?;
     }
     Ok(offers)
 }

@@ -2,6 +2,7 @@
 //! goals, and of the names in lines that the goals don't reach.
 
 ghost use Rattle.std.specs.Prelude.{◌≡◌, ◌++◌, false, filter, fold, map, option_map, None, Some, Ok, IfOk, MatchOption, OnOk};
+ghost use Rattle.std.specs.String.{string_bytes};
 ghost use Rattle.mk_infer.specs.Goals.{goal_names};
 ghost use Rattle.mk_infer.specs.Steps.{is_out_of_memory};
 ghost use Rattle.mk_infer.specs.Targets.{is_target};
@@ -9,21 +10,18 @@ ghost use Rattle.mk_lines.specs.Names.{with_name};
 ghost use Rattle.mk_repair.specs.Rows.{names_view};
 ghost use Rattle.mk_repair.specs.Words.{word_view};
 ghost use Rattle.mk_claims.specs.Claims.{claim_view};
-ghost use Rattle.mk_claims.specs.Offers.{offer_view, word_of_claim};
-ghost use Rattle.mk_claims.specs.Wider.{AreOffers, AreOn, AreOver, HasCommandFault, Leads, LeadsNowhere, goals_with, is_made, unreached_by, unreached_in, unreached_names};
+ghost use Rattle.mk_claims.specs.Offers.{names_in, offer_view, word_of_claim};
+ghost use Rattle.mk_claims.specs.Wider.{AreOffers, AreOn, AreOver, Leads, LeadsNowhere, goals_with, is_made, line_targets, target_by, target_in, there_with, unreached_by, unreached_in, unreached_names};
 ghost use Rattle.mk_subject.specs.Subject.{name_of};
-ghost use Rattle.mk_build.specs.Setting as build;
-ghost use Rattle.mk_infer.specs.Selection.{Selects};
 
 use crate::claim::Claim;
 use crate::offer::{Offer, settled, word_of_claim};
 use mk_graph::Graph;
 use mk_infer::{Choices, Exists, InferFault, RuleTable, choice};
 use mk_infer_select::{goal_names, select};
-use mk_lines::{BorrowedNames, Name};
+use mk_lines::{BorrowedNames, Name, NameTable};
 use mk_repair::Word;
 use mk_subject::Subject;
-use mk_subject::laws::selected_goals;
 use std::alloc::{AllocError, Global};
 
 /// The prerequisite of a line that says this word, where the goals don't reach it.
@@ -166,6 +164,18 @@ fn graph_of<'m>(
     select(alloc, choices, &goals)
 }
 
+/// The names of the nodes, each at its number. The only error is out of memory.
+fn node_names<'a>(alloc: Global, graph: &'a Graph) -> Result<BorrowedNames<'a>, AllocError>
+    ensures { IfOk result (λ names. names ≡ names_in graph.now) }
+{
+    let nodes = graph.nodes();
+    let mut names = BorrowedNames::with_capacity(alloc, nodes.len())?;
+    for node in nodes {
+        names.insert(node.name.as_str())?;
+    }
+    Ok(names)
+}
+
 /// No lines, where the fault isn't out of memory, which is the only error.
 fn none_for<'a>(fault: &InferFault) -> Result<Option<Vec<Offer<'a>>>, AllocError>
     ensures { IfOk result (λ found. (found ≡ None) × (is_out_of_memory fault.now ≡ false)) }
@@ -176,33 +186,30 @@ fn none_for<'a>(fault: &InferFault) -> Result<Option<Vec<Offer<'a>>>, AllocError
     Ok(None)
 }
 
-/// The claims with their lines, without those that would close a cycle with this graph; `None` where
-/// its commands have a fault. The only error is out of memory.
+/// The claims with their lines, without those that would close a cycle with this graph. The only
+/// error is out of memory.
 fn settled_on<'a>(
     alloc: Global,
-    subject: &Subject<'_>,
     graph: &Graph,
     claims: &[Claim<'a>],
-) -> Result<Option<Vec<Offer<'a>>>, AllocError>
-    requires { Selects subject.now.makefile subject.now.there
-        (map (build.name graph.now) graph.now.goals) (Ok graph.now) }
-    ensures { IfOk result (λ found. MatchOption found (HasCommandFault subject.now graph.now)
-        (λ offers. AreOn subject.now graph.now
-        (map claim_view claims.now) (map offer_view offers.items))) }
+) -> Result<Vec<Offer<'a>>, AllocError>
+    ensures { IfOk result (λ offers. AreOn graph.now
+        (map claim_view claims.now) (map offer_view offers.items)) }
 {
-    let _graph = subject.graph();
-    let there = subject.there();
-    let exists = Exists {
-        any_leaf: there.any_leaf,
-        sources: there.sources,
-        fixed: there.fixed,
-        texts: there.texts,
-        more: there.more,
-    };
-    match Subject::new(alloc, subject.table(), exists, graph, subject.setting()) {
-        Ok(wider) => Ok(Some(settled(alloc, &wider, claims)?)),
-        Err(fault) => none_for(&fault),
-    }
+    let names = node_names(alloc, graph)?;
+    settled(alloc, graph, &names, claims)
+}
+
+/// The same with the graph of the goals.
+fn settled_alone<'a>(
+    alloc: Global,
+    subject: &Subject<'_>,
+    claims: &[Claim<'a>],
+) -> Result<Vec<Offer<'a>>, AllocError>
+    ensures { IfOk result (λ offers. AreOn subject.now.graph
+        (map claim_view claims.now) (map offer_view offers.items)) }
+{
+    settled(alloc, subject.graph(), subject.names(), claims)
 }
 
 /// The claims with their lines, without those that would close a cycle with the graph of the goals
@@ -215,23 +222,94 @@ fn settled_with<'a>(
     claims: &[Claim<'a>],
 ) -> Result<Option<Vec<Offer<'a>>>, AllocError>
     requires makefile { choices.now.makefile ≡ subject.now.makefile }
-    requires exists { choices.now.exists ≡ subject.now.there }
+    requires exists { choices.now.exists ≡ there_with subject.now (map claim_view claims.now) }
     ensures { IfOk result (λ found. MatchOption found
-        (LeadsNowhere subject.now (names_view names.now))
+        (LeadsNowhere subject.now (map claim_view claims.now) (names_view names.now))
         (λ offers. AreOver subject.now (names_view names.now)
         (map claim_view claims.now) (map offer_view offers.items))) }
 {
-    selected_goals();
     let goals = goals_with(alloc, subject, names)?;
     match graph_of(alloc, choices, goals.as_slice()) {
-        Ok(graph) => settled_on(alloc, subject, &graph, claims),
+        Ok(graph) => {
+            let offers = settled_on(alloc, &graph, claims)?;
+            Ok(Some(offers))
+        }
         Err(fault) => none_for(&fault),
     }
 }
 
+/// The target in the line that mends a claim.
+fn target_in<'a>(claim: &Claim<'a>) -> Option<&'a str>
+    ensures { option_map (λ name. name.now) result ≡
+        target_in (word_of_claim (claim_view claim.now)) }
+{
+    match word_of_claim(claim) {
+        Some(Word::Needs { target, .. }) => Some(target),
+        Some(Word::Phony { .. }) => None,
+        None => None,
+    }
+}
+
+/// Adds the target in the line that mends a claim. The only error is out of memory.
+fn push_target(
+    alloc: Global,
+    targets: &mut Vec<String>,
+    claim: &Claim<'_>,
+) -> Result<(), AllocError>
+    ensures { OnOk result (map string_bytes targets.new.items ≡
+        map string_bytes targets.old.items ++ target_by (claim_view claim.now)) }
+{
+    if let Some(target) = target_in(claim) {
+        targets.push(String::from_str(alloc, target)?)?;
+    }
+    Ok(())
+}
+
+/// The targets in the lines of claims. The only error is out of memory.
+fn line_targets(alloc: Global, claims: &[Claim<'_>]) -> Result<NameTable, AllocError>
+    ensures { IfOk result (λ targets. targets ≡ line_targets (map claim_view claims.now)) }
+{
+    let mut targets = Vec::new(alloc);
+    for claim in claims {
+        push_target(alloc, &mut targets, claim)?;
+    }
+    NameTable::new(alloc, targets)
+}
+
 /// The claims with their lines, without those that would close a cycle with the other lines, the
-/// graph, and what the rules say of prerequisites that the goals don't reach. The only error is out
-/// of memory.
+/// graph, and what the rules say of these names, which are all that the goals don't reach. The only
+/// error is out of memory.
+fn offers_over<'a>(
+    alloc: Global,
+    subject: &Subject<'_>,
+    choices: &Choices<'_>,
+    unreached: &[&str],
+    claims: &[Claim<'a>],
+) -> Result<Vec<Offer<'a>>, AllocError>
+    requires makefile { choices.now.makefile ≡ subject.now.makefile }
+    requires exists { choices.now.exists ≡ there_with subject.now (map claim_view claims.now) }
+    requires names { names_view unreached.now ≡
+        unreached_names subject.now (map claim_view claims.now) }
+    ensures { IfOk result (λ offers. AreOffers subject.now
+        (map claim_view claims.now) (map offer_view offers.items)) }
+{
+    let made = made_among(alloc, choices, unreached)?;
+    if made.is_empty() {
+        return settled_alone(alloc, subject, claims);
+    }
+    if let Some(offers) = settled_with(alloc, subject, choices, &made, claims)? {
+        return Ok(offers);
+    }
+    let targets = targets_among(alloc, choices.table(), unreached)?;
+    if let Some(offers) = settled_with(alloc, subject, choices, &targets, claims)? {
+        return Ok(offers);
+    }
+    settled_alone(alloc, subject, claims)
+}
+
+/// The claims with their lines, without those that would close a cycle with the other lines, the
+/// graph, and what the rules say of prerequisites that the goals don't reach, once the lines are
+/// added. The only error is out of memory.
 pub fn offers_of<'a>(
     alloc: Global,
     subject: &Subject<'_>,
@@ -242,19 +320,17 @@ pub fn offers_of<'a>(
 {
     let unreached = unreached_names(alloc, subject, claims)?;
     if unreached.as_slice().is_empty() {
-        return settled(alloc, subject, claims);
+        return settled_alone(alloc, subject, claims);
     }
-    let choices = Choices::new(alloc, subject.table(), subject.there())?;
-    let made = made_among(alloc, &choices, unreached.as_slice())?;
-    if made.is_empty() {
-        return settled(alloc, subject, claims);
-    }
-    if let Some(offers) = settled_with(alloc, subject, &choices, &made, claims)? {
-        return Ok(offers);
-    }
-    let targets = targets_among(alloc, subject.table(), unreached.as_slice())?;
-    if let Some(offers) = settled_with(alloc, subject, &choices, &targets, claims)? {
-        return Ok(offers);
-    }
-    settled(alloc, subject, claims)
+    let targets = line_targets(alloc, claims)?;
+    let there = subject.there();
+    let exists = Exists {
+        any_leaf: there.any_leaf,
+        sources: there.sources,
+        fixed: there.fixed,
+        texts: there.texts,
+        more: &targets,
+    };
+    let choices = Choices::new(alloc, subject.table(), &exists)?;
+    offers_over(alloc, subject, &choices, unreached.as_slice(), claims)
 }

@@ -1,4 +1,4 @@
-use Rattle.std.proofs.Common.{◌≡◌, ◌∙◌, ◌≤◌, ℕ, List, [], ap, sym, drop, length, map}
+use Rattle.std.proofs.Common.{◌≡◌, ◌∙◌, ◌≤◌, ℕ, List, [], ap, sym, length, map}
 use Rattle.std.specs.Prelude.{fold}
 use Rattle.mk_lines.specs.Names.{has_name, with_name}
 use Rattle.mk_lines.proofs.NameSets.{all_held}

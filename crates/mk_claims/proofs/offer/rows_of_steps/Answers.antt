@@ -1,4 +1,4 @@
-use Rattle.std.proofs.Common.{◌≡◌, ◌∙◌, ◌<◌, ◌++◌, ◌∷◌, [], ℕ, List, get_or, length, map, take, ap, sym, arith}
+use Rattle.std.proofs.Common.{◌∙◌, ◌<◌, ◌++◌, ◌∷◌, [], ℕ, List, get_or, length, ap, sym, arith}
 use Rattle.mk_claims.specs.Offers.{needed_in, step_view}
 use Rattle.mk_claims.specs.declared.offer.Step.{Step}
 use Rattle.mk_claims.proofs.OfferRows.{needed_more}
