@@ -48,7 +48,7 @@ fn is_plain(byte: u8) -> bool
 }
 
 /// Whether the text stands in a JSON text as it is.
-fn is_plain_text(text: &str) -> bool
+pub fn is_plain_text(text: &str) -> bool
     ensures { result ≡ list_all is_plain text.now }
 {
     text.as_bytes().iter().all(|byte| is_plain(*byte))
