@@ -172,6 +172,10 @@ plain_parts number group found p =
         regroup_end : (a b c d e : List ℕ) → (((a ++ b) ++ c) ++ d) ++ e ≡ a ++ (b ++ (c ++ (d ++ e)))
         regroup_end a b c d e = simp append_assoc
 
+-- a number behind a text
+pub number_joined : (out text begun all : List ℕ) (number : ℕ) → begun ≡ out ++ text → all ≡ begun ++ decimal number → all ≡ out ++ (text ++ decimal number)
+number_joined out text begun all number p q = q ∙ (ap (λ (l : List ℕ). l ++ decimal number) p ∙ append_assoc out text (decimal number))
+
 pub plain_joined : (number group : ℕ) (found : Finding) (names : List (List ℕ)) (out a b c d e f all : List ℕ) → names ≡ names_of found → list_all (list_all is_plain) names ≡ true
     → a ≡ out ++ (codes "{\"group\":" ++ decimal group) → b ≡ a ++ key_text (kind_of found) → c ≡ b ++ put_between (codes "\",\"") false names
     → d ≡ c ++ (codes "\"],\"number\":" ++ decimal number) → e ≡ d ++ line_text (kind_of found) → f ≡ e ++ put_between (codes " ") false names → all ≡ f ++ codes "\"}"

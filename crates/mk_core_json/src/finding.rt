@@ -13,7 +13,7 @@ ghost use Rattle.mk_core_json.specs.FindingValue.{finding_value, finding_values,
 ghost use Rattle.mk_core_json.specs.PlainText.{is_plain};
 
 use crate::names::{are_plain, push_between, push_names};
-use crate::writing::{push_comma, push_text};
+use crate::writing::{push_comma, push_number, push_text};
 use mk_find::Finding;
 use std::alloc::{AllocError, Global};
 
@@ -175,12 +175,12 @@ fn push_plain(
     ensures { OnOk result (string_bytes out.new ≡ string_bytes out.old ++
         compact_text (finding_value numbers.own numbers.group finding.now)) }
 {
-    let group = numbers.group;
-    let number = numbers.own;
-    write!(out, "{{\"group\":{group}")?;
+    out.push_str("{\"group\":")?;
+    push_number(out, numbers.group)?;
     out.push_str(key_of(finding))?;
     push_between(out, "\",\"", names)?;
-    write!(out, "\"],\"number\":{number}")?;
+    out.push_str("\"],\"number\":")?;
+    push_number(out, numbers.own)?;
     out.push_str(line_of(finding))?;
     push_between(out, " ", names)?;
     out.push_str("\"}")
