@@ -268,7 +268,7 @@ def first_cycle(subject: Subject) -> list[bytes] | None:
 
 class Repair(NamedTuple):
     """The text that mends the makefile, empty where it is right; or why nothing does, and the text
-    that mends a part of its findings."""
+    of the lines for a part of its findings."""
 
     text: bytes
     reason: bytes = b""
@@ -320,7 +320,8 @@ def tried_once(
         return Repair(b"", said + NO_OTHERS + tried + SAYS + fault.line() + b"\n")
     if not subject.findings():
         return Repair(text)
-    return Repair(b"", said + OTHERS + b"".join(b"  add: " + line for line in lines), text)
+    added = b"".join(b"  add: " + line for line in lines)
+    return Repair(b"", said + OTHERS + added + SAYS + told(subject.findings()), text)
 
 
 def told(findings: list[Finding], limit: bytes = b"") -> bytes:

@@ -29,8 +29,9 @@ abbrev pub without_dot : Text → Text
 without_dot name =
     unwrap_or (option_and_then below (option_and_then (strip_byte 47) (strip_byte 46 name))) name
 
--- The request for this makefile, whose name may begin with `./`, with the macro operands and goals among these words, with the
--- default text, without footprints and without commands; memory may be leaked at exit.
+-- The request for this makefile, whose name may begin with `./`, with the macro operands and goals
+-- among these words, with the default text, without footprints and without commands; memory may be
+-- leaked at exit.
 abbrev pub asking : Option (List ℕ) → List Text → Request
 asking makefile words =
     record {

@@ -20,7 +20,7 @@ macro_rules! with_statuses {
 
 /// What `--version` prints behind the program's name. `tools/quick.py`, which builds the program
 /// without proving it, compiles another text in its place.
-const VERSION: &str = "0.2.0 (proved with rattle-kit-13f logic dac8208d650f15bf)";
+const VERSION: &str = "0.2.0 (proved with rattle-kit-13b logic dac8208d650f15bf)";
 
 const BEHIND_ALL: &str = with_statuses!("Example: mkcheck check -b footprints.json prog\n\n");
 
@@ -147,7 +147,7 @@ fn part_option<'a>(alloc: Global) -> Arg<'a>
     Arg::new(alloc, "part")
         .long("part")
         .action(ArgAction::Count)
-        .help("Where no lines mend all, prints those that mend the other findings")
+        .help("Where one finding gives no line, prints those for the others")
 }
 
 fn evidence_option<'a>(alloc: Global) -> Arg<'a>
@@ -442,11 +442,11 @@ fn with_telling<'a>(alloc: Global, command: Command<'a>) -> Result<Command<'a>, 
 }
 
 /// The command line of the program, which reads the words after the program's name: `graph [-f F]
-/// [-r] [-b BOOK] [-c] [-w] [--json] [WORD..]`, `check [-f F] [-r] -b BOOK [-c] [-w] [-e N] [--json]
-/// [WORD..]`, `repair [-f F] [-r] -b BOOK [-w] [--json] [WORD..]`, `verify [-f F] [-r] -b BOOK -k
-/// CERT [-w] [--json] [WORD..]`, `since DIR [-f F] [-r] -b BOOK [-w] [--json] [WORD..]`, `simulate
-/// [-f F] [-r] -b BOOK -p PLAN [-w] [--json] [WORD..]`, `explain [WORD..]`, `--help` and
-/// `--version`. The only error is out of memory.
+/// [-r] [-b BOOK] [-c] [-w] [--json] [WORD..]`, `check [-f F] [-r] -b BOOK [-c] [-w] [-e N]
+/// [--json] [WORD..]`, `repair [-f F] [-r] -b BOOK [--part] [-w] [--json] [WORD..]`, `verify [-f F]
+/// [-r] -b BOOK -k CERT [-w] [--json] [WORD..]`, `since DIR [-f F] [-r] -b BOOK [-w] [--json]
+/// [WORD..]`, `simulate [-f F] [-r] -b BOOK -p PLAN [-w] [--json] [WORD..]`, `explain [WORD..]`,
+/// `--help` and `--version`. The only error is out of memory.
 pub fn command_line<'a>(alloc: Global) -> Result<Command<'a>, AllocError>
     ensures app { IfOk result (λ c. app_of c ≡ command_line) }
     ensures local { IfOk result (λ c. (fields_of c).has_globals ≡ false) }

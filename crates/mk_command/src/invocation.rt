@@ -56,7 +56,7 @@ pub enum Invocation {
         request: Request,
         /// How the answer is printed.
         form: Form,
-        /// Whether lines are printed that mend a part of the findings, where nothing mends all.
+        /// Whether lines for the other findings are printed where one gives no line.
         part: bool,
     },
     /// `verify`: says whether the certificate in this file shows that the build is right.

@@ -1,7 +1,7 @@
 -- Groups of findings, as the code of this crate holds them.
 use Rattle.mk_repair.specs.Rows.{names_view}
-use Rattle.mk_sentences.specs.Grouping.{Group}
-use Rattle.mk_sentences.specs.Topics.{topic_view}
+use Rattle.mk_claims.specs.Grouping.{Group}
+use Rattle.mk_claims.specs.Topics.{topic_view}
 use Rattle.mk_core_json.specs.declared.group.Group as borrowed
 
 -- The group of borrowed names.

@@ -16,7 +16,8 @@ printed_value text =
 
 -- The answer of `simulate`: what the lines of the plan print; where a line is refused, the files
 -- that are left, the number of that line, and the fault in words and with numbers.
-abbrev pub run_value : (printed : List ℕ) → (refused : Option (ℕ × StepFault)) → (left : List ℕ) → Data
+abbrev pub run_value : (printed : List ℕ) → (refused : Option (ℕ × StepFault)) →
+    (left : List ℕ) → Data
 run_value printed None left =
     object_of ((codes "answer", string (codes "yes")) ∷
     (codes "format", number (unsigned 1)) ∷

@@ -11,20 +11,19 @@ ghost use Rattle.mk_repair.specs.Lines.{line_text};
 ghost use Rattle.mk_repair.specs.Rows.{names_view};
 ghost use Rattle.mk_sentences.specs.Adding.{lines_of};
 ghost use Rattle.mk_sentences.specs.Advice.{advice};
-ghost use Rattle.mk_sentences.specs.Grouping.{group_of};
+ghost use Rattle.mk_claims.specs.Grouping.{group_of};
 ghost use Rattle.mk_sentences.specs.Places.{rule_shown};
 ghost use Rattle.mk_sentences.specs.Sentences.{sentence};
-ghost use Rattle.mk_sentences.specs.Tables.{groups_view};
-ghost use Rattle.mk_sentences.specs.Topics.{topic_view};
+ghost use Rattle.mk_claims.specs.Tables.{groups_view};
+ghost use Rattle.mk_claims.specs.Topics.{topic_view};
 ghost use Rattle.mk_core_json.specs.AnswerValue.{place_value};
 ghost use Rattle.mk_core_json.specs.GroupView.{group_view};
 ghost use Rattle.mk_core_json.specs.GroupValue.{added_value, also_of, files_of, first_word, group_value, targets_of, to_do_value, writers_of};
 
 use crate::names::names_value;
 use crate::writing::{push_comma, push_value};
-use mk_sentences::{
-    Groups, Kind, Places, Topic, kind_word, push_advice, push_lines, push_sentence, shown_name,
-};
+use mk_claims::{Groups, Kind, Topic, kind_word};
+use mk_sentences::{Places, push_advice, push_lines, push_sentence, shown_name};
 use serde_json::{Value, json};
 use std::alloc::{AllocError, Global};
 

@@ -5,22 +5,23 @@ ghost use Rattle.std.specs.String.{string_bytes};
 ghost use Rattle.serde_json.specs.View.{items_of, view};
 ghost use Rattle.serde_json.specs.Written.{compact_text, items_text};
 ghost use Rattle.mk_repair.specs.Gathering.{gathered};
-ghost use Rattle.mk_sentences.specs.Claims.{claim_view};
-ghost use Rattle.mk_sentences.specs.Grouping.{group_key_eq, group_of, group_pair, groups, rows};
-ghost use Rattle.mk_sentences.specs.Joining.{JoinsAlike, joined};
-ghost use Rattle.mk_sentences.specs.Tables.{groups_view, rows_view};
+ghost use Rattle.mk_claims.specs.Claims.{claim_view};
+ghost use Rattle.mk_claims.specs.Grouping.{group_key_eq, group_of, group_pair, groups, rows};
+ghost use Rattle.mk_claims.specs.Joining.{JoinsAlike, joined};
+ghost use Rattle.mk_claims.specs.Tables.{groups_view, rows_view};
 ghost use Rattle.mk_core_json.specs.InJsonAnswer.{ShowsClaims};
 ghost use Rattle.mk_core_json.specs.NoValue.{counts_value, found_text, groups_values, no_value};
 
 use crate::finding::push_findings;
 use crate::group::push_groups;
 use crate::writing::{line_of, push_value};
+use mk_claims::{
+    Claim, ClaimSet, Groups, Rows, all_claims, claim_set, claims_offered, group_numbers, groups_of,
+    joined_rows, offers_of,
+};
 use mk_find::Finding;
 use mk_read::Makefile;
-use mk_sentences::{
-    Claim, ClaimSet, Counts, Groups, Places, Rows, all_claims, claim_set, claims_offered,
-    counts_of, group_numbers, groups_of, joined_rows, offers_of,
-};
+use mk_sentences::{Counts, Places, counts_of};
 use mk_subject::Subject;
 use serde_json::{Value, json};
 use std::alloc::{AllocError, Global};

@@ -113,11 +113,11 @@ module _ (right_law : YesIsRight) (law : OnlyNamedFilesCount) (files : Told) (re
           let same : text ≡ added_lines (makefile_text files request) lines = cc in
           subst (λ (t : List ℕ). Mends files request t) (sym same) (round_right (added_lines (makefile_text files request) lines) survey is none (subst IsYesVerdict (sym is_yes) tt))
 
-      tried_takes : (found : List Finding) (reason shown : List ℕ) (o : Option (List ℕ)) → first_unknown names survey.files ≡ o → (verdict : Verdict)
-          → unmended found (untried reason (taken shown text)) ≡ known_part (with_part first why) lines (added_lines (makefile_text files request) lines) verdict o → IsTaken files request text
-      tried_takes found reason shown (Some name) some verdict e = absurd cc
-      tried_takes found reason shown None none (Yes certificate recipes reads) e = absurd cc
-      tried_takes found reason shown None none (No others) e =
+      tried_takes : (found left : List Finding) (reason shown : List ℕ) (o : Option (List ℕ)) → first_unknown names survey.files ≡ o → (verdict : Verdict)
+          → unmended found (untried reason (taken shown text left)) ≡ known_part (with_part first why) lines (added_lines (makefile_text files request) lines) verdict o → IsTaken files request text
+      tried_takes found left reason shown (Some name) some verdict e = absurd cc
+      tried_takes found left reason shown None none (Yes certificate recipes reads) e = absurd cc
+      tried_takes found left reason shown None none (No others) e =
           let same : text ≡ added_lines (makefile_text files request) lines = cc in
           let read = round_read (added_lines (makefile_text files request) lines) survey is none in
           subst (λ (t : List ℕ). IsTaken files request t) (sym same) (survey.verdict, survey_checks (amended files request (added_lines (makefile_text files request) lines)) request (Ok survey) read)
@@ -128,12 +128,12 @@ module _ (right_law : YesIsRight) (law : OnlyNamedFilesCount) (files : Told) (re
     trial_mends (byte ∷ rest) (inr (short, (Err fault, is, (settled, e)))) = absurd cc
     trial_mends (byte ∷ rest) (inr (short, (Ok survey, is, e))) = tried_mends (byte ∷ rest) survey is (first_unknown names survey.files) refl survey.verdict refl e
 
-    pub trial_takes : (found : List Finding) (reason shown : List ℕ) (lines : List ℕ) → Trial names files request (with_part first why) lines (unmended found (untried reason (taken shown text))) → IsTaken files request text
-    trial_takes found reason shown [] e = absurd cc
-    trial_takes found reason shown (byte ∷ rest) (inl (long, e)) = absurd cc
-    trial_takes found reason shown (byte ∷ rest) (inr (short, (Err fault, is, (settled, e)))) = absurd cc
-    trial_takes found reason shown (byte ∷ rest) (inr (short, (Ok survey, is, e))) =
-        tried_takes (byte ∷ rest) survey is found reason shown (first_unknown names survey.files) refl survey.verdict e
+    pub trial_takes : (found left : List Finding) (reason shown : List ℕ) (lines : List ℕ) → Trial names files request (with_part first why) lines (unmended found (untried reason (taken shown text left))) → IsTaken files request text
+    trial_takes found left reason shown [] e = absurd cc
+    trial_takes found left reason shown (byte ∷ rest) (inl (long, e)) = absurd cc
+    trial_takes found left reason shown (byte ∷ rest) (inr (short, (Err fault, is, (settled, e)))) = absurd cc
+    trial_takes found left reason shown (byte ∷ rest) (inr (short, (Ok survey, is, e))) =
+        tried_takes (byte ∷ rest) survey is found left reason shown (first_unknown names survey.files) refl survey.verdict e
 
 -- ---- a cycle is that of the first judgement, and so are findings without a word
 
@@ -216,7 +216,7 @@ module _ (names : List (List ℕ)) (files : Told) (request : Request) (found : L
 
   tried_no_cycle : (first : List Finding) (why lines text : List ℕ) (verdict : Verdict) (o : Option (List ℕ)) → ¬ (unmended found (cycle path) ≡ known_part (with_part first why) lines text verdict o)
   tried_no_cycle first why lines text verdict (Some name) e = no_cycle first (untried why (refused_lines lines (FileReadFailed name))) tt e
-  tried_no_cycle first why lines text (No others) None e = no_cycle first (untried why (taken lines text)) tt e
+  tried_no_cycle first why lines text (No others) None e = no_cycle first (untried why (taken lines text others)) tt e
   tried_no_cycle first why lines text (Yes certificate recipes reads) None e = absurd cc
 
   trial_no_cycle : (first : List Finding) (why lines : List ℕ) → ¬ (Trial names files request (with_part first why) lines (unmended found (cycle path)))
@@ -291,14 +291,14 @@ module _ (right_law : YesIsRight) (law : OnlyNamedFilesCount) (files : Told) (re
         rounds_suffice right_law law files request (names_known files request first.survey.files) (λ name e. book_known files request first.survey.files name e) found text max_rounds words too_long r
 
     -- the lines of a part are taken
-    first_takes : (found : List Finding) (reason shown text : List ℕ) (verdict : Verdict) (words : Option (List Word)) (o : Option (List (List ℕ))) (stuck : Obstacle)
-        → AfterFirst (names_known files request first.survey.files) files request verdict words o stuck (unmended found (untried reason (taken shown text))) → IsTaken files request text
-    first_takes found reason shown text (Yes certificate recipes reads) words o stuck e = absurd cc
-    first_takes found reason shown text (No others) None o stuck e =
-        trial_takes right_law law files request (names_known files request first.survey.files) (λ name k. book_known files request first.survey.files name k) others text (string_bytes stuck.why) found reason shown (string_bytes stuck.lines) e
-    first_takes found reason shown text (No others) (Some words) (Some path) stuck e = absurd cc
-    first_takes found reason shown text (No others) (Some words) None stuck r =
-        absurd (rounds_have_words (names_known files request first.survey.files) files request found reason (taken shown text) max_rounds others words too_long tt r)
+    first_takes : (found left : List Finding) (reason shown text : List ℕ) (verdict : Verdict) (words : Option (List Word)) (o : Option (List (List ℕ))) (stuck : Obstacle)
+        → AfterFirst (names_known files request first.survey.files) files request verdict words o stuck (unmended found (untried reason (taken shown text left))) → IsTaken files request text
+    first_takes found left reason shown text (Yes certificate recipes reads) words o stuck e = absurd cc
+    first_takes found left reason shown text (No others) None o stuck e =
+        trial_takes right_law law files request (names_known files request first.survey.files) (λ name k. book_known files request first.survey.files name k) others text (string_bytes stuck.why) found left reason shown (string_bytes stuck.lines) e
+    first_takes found left reason shown text (No others) (Some words) (Some path) stuck e = absurd cc
+    first_takes found left reason shown text (No others) (Some words) None stuck r =
+        absurd (rounds_have_words (names_known files request first.survey.files) files request found reason (taken shown text left) max_rounds others words too_long tt r)
 
   pub repair_suffices : (answer : Result Repair Fault) → AnswersRepair files request answer → Suffices files request answer
   repair_suffices (Ok (repairs.Mended text)) (first, is, after) = first_mends first is text.items first.survey.verdict first.survey.words first.cycle first.obstacle after
@@ -317,8 +317,8 @@ module _ (right_law : YesIsRight) (law : OnlyNamedFilesCount) (files : Told) (re
   pub repair_takes : (answer : Result Repair Fault) → AnswersRepair files request answer → TakesPart files request answer
   repair_takes (Ok repairs.Right) a = tt
   repair_takes (Ok (repairs.Mended text)) a = mended_taken files request text.items (repair_suffices right_law law files request (Ok (repairs.Mended text)) a)
-  repair_takes (Ok (repairs.Unmended found (whys.Untried why (parts.Taken lines text)))) (first, is, after) =
-      first_takes right_law law files request first is found (string_bytes why) (string_bytes lines) text.items first.survey.verdict first.survey.words first.cycle first.obstacle after
+  repair_takes (Ok (repairs.Unmended found (whys.Untried why (parts.Taken lines text left)))) (first, is, after) =
+      first_takes right_law law files request first is found left (string_bytes why) (string_bytes lines) text.items first.survey.verdict first.survey.words first.cycle first.obstacle after
   repair_takes (Ok (repairs.Unmended found (whys.Untried why parts.NoLines))) a = tt
   repair_takes (Ok (repairs.Unmended found (whys.Untried why (parts.Refused lines fault)))) a = tt
   repair_takes (Ok (repairs.Unmended found (whys.Untried why parts.TooLong))) a = tt

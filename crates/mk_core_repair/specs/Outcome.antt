@@ -12,12 +12,12 @@ use Rattle.mk_core_repair.specs.declared.outcome.Part.TheVariants as parts
 use Rattle.mk_core_repair.specs.declared.outcome.Why.{Why}
 use Rattle.mk_core_repair.specs.declared.outcome.Why.TheVariants as whys
 
--- What comes of the lines for those findings that give some: none gives one; or with these lines
--- `check` has findings, and this text at the makefile's end says them; or with these lines `check`
--- refuses the makefile; or it would be too long with the lines.
+-- What comes of the lines for those findings that give some: none gives one; or this text has these
+-- lines, and with it at the makefile's end `check` has these findings; or with these lines `check`
+-- refuses the makefile; or the makefile would be too long with the lines.
 pub data Part : Type 0 where
   no_lines : Part
-  taken : (lines text : List ℕ) → Part
+  taken : (lines text : List ℕ) → (left : List Finding) → Part
   refused_lines : (lines : List ℕ) → Fault → Part
   long_lines : Part
 
@@ -51,7 +51,7 @@ pub data Outcome : Type 0 where
 -- What comes of the lines, as the code has it.
 abbrev pub part_view : declared.Part → Part
 part_view parts.NoLines = no_lines
-part_view (parts.Taken lines text) = taken (string_bytes lines) text.items
+part_view (parts.Taken lines text left) = taken (string_bytes lines) text.items left
 part_view (parts.Refused lines fault) = refused_lines (string_bytes lines) fault
 part_view parts.TooLong = long_lines
 

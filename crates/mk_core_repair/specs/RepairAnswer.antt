@@ -41,10 +41,10 @@ IsReadAgain files request name =
     (first : First) × IsFirstOf files request first ×
     Has (names_known files request first.survey.files) name
 
--- What follows the judgement of the makefile as it is, over the files with these names. A yes is the
--- outcome. Where one of the findings gives no word, the lines of the others are tried once. Where
--- what the nodes need has a cycle, the findings are the outcome. Else the rounds begin with the
--- words of the findings.
+-- What follows the judgement of the makefile as it is, over the files with these names. A yes is
+-- the outcome. Where one of the findings gives no word, the lines of the others are tried once.
+-- Where what the nodes need has a cycle, the findings are the outcome. Else the rounds begin with
+-- the words of the findings.
 abbrev pub AfterFirst : List (List ℕ) → Told → Request → Verdict → Option (List Word) →
     Option (List (List ℕ)) → Obstacle → Outcome → Type 0
 AfterFirst names files request (Yes certificate recipes reads) words path o outcome =
@@ -88,8 +88,8 @@ Suffices files request (Ok repairs.Right) = Mends files request []
 Suffices files request (Ok (repairs.Mended text)) = Mends files request text.items
 Suffices files request answer = Unit {0}
 
--- The text is empty, or `check` has a verdict on the makefile with it at its end: then that isn't
--- refused, so no line of the text closes a cycle, whatever the others are.
+-- The text is empty, or `check` has a verdict on the makefile with it at its end, so that it isn't
+-- refused.
 abbrev pub IsTaken : Told → Request → List ℕ → Type 0
 IsTaken files request [] = Unit {0}
 IsTaken files request (first ∷ rest) =

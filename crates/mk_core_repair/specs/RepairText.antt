@@ -42,12 +42,14 @@ record_again (Ok found) =
     then codes "these lines change commands: append them, and record again\n" else []
 record_again (Err fault) = []
 
--- What comes of the lines for those findings that give some: the lines; or those that were tried,
--- and the refusal; or that it would be too long with them.
+-- What comes of the lines for those findings that give some: the lines, and what `check` prints with
+-- them; or those that were tried, and the refusal; or that the makefile would be too long with them.
 abbrev pub others_text : Part → List ℕ
 others_text no_lines = []
-others_text (taken lines text) =
-    codes "lines for the other findings:\n" ++ led (codes "  add: ") true lines
+others_text (taken lines text left) =
+    codes "lines for the other findings:\n" ++ (led (codes "  add: ") true lines ++
+    (codes "with these lines mkcheck check says:\n" ++
+    (checked_text (Ok left) ++ record_again (Ok left))))
 others_text (refused_lines lines fault) =
     codes "no lines for the other findings:\n" ++ (led (codes "tried ") true lines ++
     (codes "with these lines mkcheck check says:\n" ++ checked_text (Err fault)))
@@ -82,7 +84,7 @@ outcome_text (unmended found reason) = []
 
 -- What `mkcheck repair --part` prints of the reason: the text of the lines for the other findings.
 abbrev pub reason_part : Reason → List ℕ
-reason_part (untried why (taken lines text)) = text
+reason_part (untried why (taken lines text left)) = text
 reason_part reason = []
 
 -- What `mkcheck repair --part` prints on standard output: the text that mends the makefile; else

@@ -18,21 +18,21 @@ use Rattle.mk_core_repair.specs.Rounds.{IsRound, first_unknown}
 abbrev pub with_part : List Finding → (why : List ℕ) → Part → Outcome
 with_part found why part = unmended found (untried why part)
 
--- The outcome by the verdict on the makefile with these lines, which this text says: after a yes
--- they mend it; after a no they are a part.
+-- The outcome by the verdict on the makefile with this text of the lines at its end: after a yes they
+-- mend it; after a no they are a part.
 abbrev pub verdict_part : (Part → Outcome) → (lines text : List ℕ) → Verdict → Outcome
 verdict_part ends lines text (Yes certificate recipes reads) = mended text
-verdict_part ends lines text (No found) = ends (taken lines text)
+verdict_part ends lines text (No left) = ends (taken lines text left)
 
--- The same, where the file with this name was read, which isn't known: it counts as one that can't
--- be read.
+-- That outcome; but where a file was read that isn't known, with this name, it counts as one that
+-- can't be read.
 abbrev pub known_part : (Part → Outcome) → (lines text : List ℕ) → Verdict → Option (List ℕ) →
     Outcome
 known_part ends lines text verdict None = verdict_part ends lines text verdict
 known_part ends lines text verdict (Some name) = ends (refused_lines lines (FileReadFailed name))
 
--- What follows the judgement of the makefile with these lines, which this text says, where the files
--- with these names are known.
+-- What follows the judgement of the makefile with this text of the lines, where the files with these
+-- names are known.
 abbrev pub AfterTrial : (Part → Outcome) → List (List ℕ) → (lines text : List ℕ) →
     Result Survey Fault → Outcome → Type 0
 AfterTrial ends names lines text (Ok survey) outcome =
@@ -40,7 +40,7 @@ AfterTrial ends names lines text (Ok survey) outcome =
 AfterTrial ends names lines text (Err fault) outcome =
     (is_out_of_memory fault ≡ false) × (outcome ≡ ends (refused_lines lines fault))
 
--- The lines are judged, which this text says, unless the makefile would be too long with it.
+-- The makefile is judged with this text of the lines, unless it would be too long.
 abbrev pub Tries : List (List ℕ) → Told → Request → (Part → Outcome) → (lines text : List ℕ) →
     Outcome → Type 0
 Tries names files request ends lines text outcome =

@@ -32,8 +32,9 @@ pub enum Why {
 pub enum Part {
     /// No finding gives a line.
     NoLines,
-    /// With these lines `check` has findings. This text says them at the makefile's end.
-    Taken(String, Vec<u8>),
+    /// These lines, the text that has them at the makefile's end, and the findings that `check` has
+    /// with it.
+    Taken(String, Vec<u8>, Findings),
     /// With these lines `check` refuses the makefile.
     Refused(String, Fault),
     /// With the lines the makefile would be too long.

@@ -1,9 +1,10 @@
 //! The printed text of what comes of mending a makefile.
 
-ghost use Rattle.std.specs.Prelude.{◌≡◌, ◌∷◌, ◌++◌, ℕ, List, codes, true, IfOk, OnOk};
+ghost use Rattle.std.specs.Prelude.{◌≡◌, ◌∷◌, ◌++◌, ℕ, List, codes, true, Ok, IfOk, OnOk};
 ghost use Rattle.std.specs.List.{flat_map, list_any};
 ghost use Rattle.std.specs.String.{string_bytes};
 ghost use Rattle.mk_core_text.specs.FaultText.{fault_text};
+ghost use Rattle.mk_core_text.specs.VerdictText.{findings_text};
 ghost use Rattle.mk_core_repair.specs.Outcome.{outcome_of, part_view, reason_of, untried};
 ghost use Rattle.mk_core_repair.specs.RepairText.{checked_text, cycle_line, is_other_commands, lead, led, others_text, outcome_message, outcome_part, outcome_text, reason_part, reason_text, record_again, stop_text};
 
@@ -86,18 +87,23 @@ fn changes_commands(after: &[Finding]) -> bool
     after.iter().any(|finding| is_other_commands(finding))
 }
 
+/// What to do where lines change commands, by the findings with them; empty where they don't.
+fn recording_again(found: &[Finding]) -> &'static str
+    ensures { result.now ≡ record_again (Ok found.now) }
+{
+    if changes_commands(found) {
+        "these lines change commands: append them, and record again\n"
+    } else {
+        ""
+    }
+}
+
 /// What to do where lines change commands; empty where they don't.
 fn record_again(after: &Result<Findings, Fault>) -> &'static str
     ensures { result.now ≡ record_again after.now }
 {
     match after {
-        Ok(found) => {
-            if changes_commands(found.as_slice()) {
-                "these lines change commands: append them, and record again\n"
-            } else {
-                ""
-            }
-        }
+        Ok(found) => recording_again(found.as_slice()),
         Err(_) => "",
     }
 }
@@ -147,13 +153,35 @@ fn push_after(
     push_advice(out, after, stop)
 }
 
-/// Appends the lines for the other findings. The only error is out of memory.
-fn push_taken(out: &mut Vec<u8>, lines: &str) -> Result<(), AllocError>
+/// Appends what `check` prints of these findings, and what to do where lines change commands. The
+/// only error is out of memory.
+fn push_left(alloc: Global, out: &mut Vec<u8>, left: &[Finding]) -> Result<(), AllocError>
     ensures { OnOk result (out.new.items ≡ out.old.items ++
-        (codes "lines for the other findings:\n" ++ led (codes "  add: ") true lines.now)) }
+        (codes "with these lines mkcheck check says:\n" ++
+        (findings_text left.now ++ record_again (Ok left.now)))) }
+{
+    let text = findings_text(alloc, left)?;
+    out.extend_from_slice(b"with these lines mkcheck check says:\n")?;
+    out.extend_from_slice(&text)?;
+    out.extend_from_slice(recording_again(left).as_bytes())
+}
+
+/// Appends the lines for the other findings, and what `check` prints with them. The only error is
+/// out of memory.
+fn push_taken(
+    alloc: Global,
+    out: &mut Vec<u8>,
+    lines: &str,
+    left: &[Finding],
+) -> Result<(), AllocError>
+    ensures { OnOk result (out.new.items ≡ out.old.items ++
+        (codes "lines for the other findings:\n" ++ (led (codes "  add: ") true lines.now ++
+        (codes "with these lines mkcheck check says:\n" ++
+        (findings_text left.now ++ record_again (Ok left.now)))))) }
 {
     out.extend_from_slice(b"lines for the other findings:\n")?;
-    push_led(out, "  add: ", lines)
+    push_led(out, "  add: ", lines)?;
+    push_left(alloc, out, left)
 }
 
 /// Appends the refusal of the makefile with the lines for the other findings. The only error is out
@@ -192,7 +220,7 @@ fn push_others(alloc: Global, out: &mut Vec<u8>, part: &Part) -> Result<(), Allo
 {
     match part {
         Part::NoLines => Ok(()),
-        Part::Taken(lines, _) => push_taken(out, lines.as_str()),
+        Part::Taken(lines, _, left) => { push_taken(alloc, out, lines.as_str(), left.as_slice()) }
         Part::Refused(lines, fault) => push_refused(alloc, out, lines.as_str(), fault),
         Part::TooLong => out.extend_from_slice(
             b"with lines for the other findings the makefile would have more than 16777216 bytes\n",
@@ -245,7 +273,7 @@ fn taken_text(part: &Part) -> &[u8]
     ensures { (why : List ℕ) → result.now ≡ reason_part (untried why (part_view part.now)) }
 {
     match part {
-        Part::Taken(_, text) => text.as_slice(),
+        Part::Taken(_, text, _) => text.as_slice(),
         Part::NoLines | Part::Refused(..) | Part::TooLong => &[],
     }
 }

@@ -194,8 +194,7 @@ fn after_first<F: Files>(
 /// of this one gets a yes over these footprints.
 ///
 /// Where a finding gives no word, the lines of the others are tried once. Where they don't mend the
-/// makefile, they are a part of the answer, unless `check` refuses the makefile with them: no line
-/// of a part closes a cycle.
+/// makefile, they are a part of the answer, unless `check` refuses the makefile with them.
 ///
 /// The rounds read no files: what the first judgement read is read once more, and all rounds run
 /// over that. A round that would read another file counts as refused.

@@ -164,7 +164,8 @@ fn found_by(
 pub fn round(alloc: Global, base: Base<'_>, words: &mut Words, added: &[u8]) -> Result<Found, Fault>
     ensures ok { IfOk result (λ found. (survey : value.Survey) ×
         IsFound base.entry.known.now.names words.old words.new survey found ×
-        ((told : Told) → IsBase told base.entry.request.now base.entry.own.now base.entry.known.now →
+        ((told : Told) →
+        IsBase told base.entry.request.now base.entry.own.now base.entry.known.now →
         IsRound base.entry.known.now.names told base.entry.request.now added.now (Ok survey))) }
     ensures err { IfErr result (λ fault. (told : Told) →
         IsBase told base.entry.request.now base.entry.own.now base.entry.known.now →

@@ -4,13 +4,13 @@ ghost use Rattle.std.specs.Prelude.{◌≡◌, [], fold, map, option_map, option
 ghost use Rattle.std.specs.String.{string_bytes};
 ghost use Rattle.mk_repair.specs.Word.{with_word};
 ghost use Rattle.mk_repair.specs.Words.{word_view};
-ghost use Rattle.mk_sentences.specs.Claims.{claim_view};
-ghost use Rattle.mk_sentences.specs.Offers.{word_of_claim, words_of};
+ghost use Rattle.mk_claims.specs.Claims.{claim_view};
+ghost use Rattle.mk_claims.specs.Offers.{word_of_claim, words_of};
 ghost use Rattle.mk_core_repair.specs.Survey.{AreOtherLines, IsStuck, other_lines};
 
+use mk_claims::{Claim, Kind, all_claims, has_static};
 use mk_find::{Finding, hidden_findings};
 use mk_repair::{Obstacle, Word, Words, lines_text, obstacle_of};
-use mk_sentences::{Claim, Kind, all_claims, has_static};
 use mk_subject::Subject;
 use std::alloc::{AllocError, Global};
 
@@ -60,7 +60,7 @@ fn words_in(alloc: Global, claims: &[Claim<'_>]) -> Result<Words, AllocError>
     Ok(words)
 }
 
-/// The lines that mend these findings and those that they hide, but for what mending the findings
+/// The lines for these findings and for those that they hide, but for what mending the findings
 /// touches. The only error is out of memory.
 fn other_lines(
     alloc: Global,
@@ -76,8 +76,8 @@ fn other_lines(
     lines_text(alloc, &words)
 }
 
-/// The lines that mend these findings, and races and stale reads that they hide. The only error is
-/// out of memory.
+/// The lines for these findings, and for races and stale reads that they hide. The only error is out
+/// of memory.
 fn all_lines(alloc: Global, subject: &Subject<'_>, found: &[Finding]) -> Result<String, AllocError>
     ensures { IfOk result (λ lines. AreOtherLines subject.now found.now (string_bytes lines)) }
 {
@@ -88,8 +88,9 @@ fn all_lines(alloc: Global, subject: &Subject<'_>, found: &[Finding]) -> Result<
     other_lines(alloc, subject, found, hidden.as_slice())
 }
 
-/// Why the first of the findings without a word has none; and the lines that mend others, with races
-/// and stale reads that the findings hide, as `check -w` has them. The only error is out of memory.
+/// Why the first of the findings without a word has none; and the lines for others, and for races
+/// and stale reads that the findings hide, as `check -w` has them. The only error is out of
+/// memory.
 pub fn stuck(
     alloc: Global,
     subject: &Subject<'_>,

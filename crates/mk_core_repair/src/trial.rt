@@ -42,7 +42,7 @@ fn tried(why: String, lines: String, added: Vec<u8>, found: Found) -> End
             let fault = Fault::FileReadFailed(name);
             untried(why, Part::Refused(lines, fault))
         }
-        Found::Lacks(..) => untried(why, Part::Taken(lines, added)),
+        Found::Lacks(left, _) => untried(why, Part::Taken(lines, added, left)),
     }
 }
 
@@ -52,7 +52,8 @@ fn tried(why: String, lines: String, added: Vec<u8>, found: Found) -> End
 pub fn trial(alloc: Global, base: Base<'_>, why: String, lines: String) -> Result<End, Fault>
     ensures answer { IfOk result (λ end. (told : Told) →
         IsBase told base.entry.request.now base.entry.own.now base.entry.known.now →
-        (first : List finding.Finding) → Tries base.entry.known.now.names told base.entry.request.now
+        (first : List finding.Finding) →
+        Tries base.entry.known.now.names told base.entry.request.now
         (with_part first (string_bytes why)) (string_bytes lines)
         (added_lines (makefile_text told base.entry.request.now) (string_bytes lines))
         (end_outcome first end)) }

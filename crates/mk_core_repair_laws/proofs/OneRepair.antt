@@ -28,10 +28,10 @@ use Rattle.mk_core.proofs.Seen.{fault_same}
 use Rattle.mk_core_laws.specs.AnswerLaws.{IsSettled, VerdictIsOne}
 use Rattle.mk_repair.specs.Lines.{lines_text}
 use Rattle.mk_repair.specs.Word.{Word, with_word}
-use Rattle.mk_sentences.specs.Claims.{Claim, claim_of}
-use Rattle.mk_sentences.specs.Offers.{words_of}
-use Rattle.mk_sentences.specs.Text.{is_static}
-use Rattle.mk_sentences.specs.Untouched.{untouched}
+use Rattle.mk_claims.specs.Claims.{Claim, claim_of}
+use Rattle.mk_claims.specs.Offers.{words_of}
+use Rattle.mk_claims.specs.Shown.{is_static}
+use Rattle.mk_claims.specs.Untouched.{untouched}
 use Rattle.mk_repair.specs.declared.obstacle.Obstacle.{Obstacle}
 use Rattle.mk_core_repair.specs.declared.outcome.Repair.{Repair}
 use Rattle.mk_core_repair.specs.declared.surveying.First.{First}

@@ -217,7 +217,8 @@ pub fn refusal_in(
     file: &Name,
     line: usize,
 ) -> Result<Vec<u8>, AllocError>
-    ensures { IfOk result (λ text. text.items ≡ refusal_in printer.form number name.now file.now line) }
+    ensures { IfOk result (λ text. text.items ≡
+        refusal_in printer.form number name.now file.now line) }
 {
     let file = file.as_str();
     let place = format!(in printer.alloc; "{file}:{line}")?;

@@ -90,7 +90,8 @@ fn failed_read_text(
     name: &Name,
 ) -> Result<Vec<u8>, AllocError>
     ensures { IfOk result (λ text. text.items ≡
-        refusal printer.form 35 (codes "ReadFailed") (option_map place_text place.now) (name.now ∷ [])) }
+        refusal printer.form 35 (codes "ReadFailed") (option_map place_text place.now)
+        (name.now ∷ [])) }
 {
     let name = name.as_str().as_bytes();
     match place {

@@ -126,7 +126,7 @@ repair_status right = 0
 repair_status (mended text) = 0
 repair_status (unmended found reason) = 1
 
--- The lines for standard output: those that mend the makefile; also those that mend a part of its
+-- The lines for standard output: those that mend the makefile; also those for a part of its
 -- findings, where these are asked for.
 abbrev pub lines_printed : (part : Bool) → Outcome → List ℕ
 lines_printed part outcome = if part then outcome_part outcome else outcome_text outcome
@@ -141,7 +141,7 @@ lines_response part outcome =
       status = repair_status outcome;
     }
 
--- What comes of mending, as JSON, always with the lines that mend a part of the findings.
+-- What comes of mending, as JSON, always with the lines for a part of the findings.
 abbrev pub repair_in_json : Outcome → List ℕ
 repair_in_json right = answer_text (mended_value (outcome_text right))
 repair_in_json (mended text) = answer_text (mended_value (outcome_text (mended text)))
@@ -169,14 +169,14 @@ run_status run = if is_some run.refused then 2 else 0
 -- The status of what comes of `since`: 1 for findings, 2 for a refusal of the old build.
 abbrev pub since_status : Found → ℕ
 since_status (since.Named names) = 0
-since_status (since.No found) = 1
+since_status (since.No found text) = 1
 since_status (since.Unsure found) = 1
 since_status (since.Refused fault) = 2
 
 -- What comes of `since`, as JSON; a refusal with this cause of a failed read.
 abbrev pub since_in_json : Cause → Found → List ℕ
 since_in_json cause (since.Named names) = answer_text (named_value names)
-since_in_json cause (since.No found) = answer_text (told_values (codes "new") found)
+since_in_json cause (since.No found text) = answer_text (told_values (codes "new") found)
 since_in_json cause (since.Unsure found) = answer_text (told_values (codes "old") found)
 since_in_json cause (since.Refused fault) = answer_text (old_refusal_value fault cause)
 
@@ -189,6 +189,11 @@ since_lines folder cause found =
       err = since_message folder cause found;
       status = since_status found;
     }
+
+-- The form is that of words.
+abbrev pub is_words : Form → Bool
+is_words Words = true
+is_words form = false
 
 -- The response with what comes of `since` in this form, with this cause of a failed read.
 abbrev pub since_response : Form → Cause → List ℕ → Found → Response
@@ -300,7 +305,7 @@ AnswersInvocation files (Since request folder form) answer = ⊥
 abbrev pub AnswersOver : Told → Told → Invocation → Result Response Fault → Type 0
 AnswersOver was files (Since request folder form) answer =
     (found : Result Found Fault) ×
-    AnswersSince was files folder request found ×
+    AnswersSince (is_words form) was files folder request found ×
     ((cause : Cause) × (answer ≡ seen (since_response form cause folder) found))
 AnswersOver was files asked answer = AnswersInvocation files asked answer
 

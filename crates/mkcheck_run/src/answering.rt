@@ -12,7 +12,7 @@ ghost use Rattle.mk_cert_text.specs.Writing.{value_of};
 ghost use Rattle.serde_json.specs.Written.{compact_text};
 ghost use Rattle.mk_command.specs.Invocation.{request_in};
 ghost use Rattle.mk_core_repair.specs.Outcome.{outcome_of};
-ghost use Rattle.mkcheck_run.specs.Run.{AnswersInvocation, AnswersOver, Promises, evidence_response, form_response, plan_response, lines_response, repair_in_json, repair_response, repair_status, lines_printed, explain_response, explained_response, first_explained, first_near, instead_text, near, printed_response, json_response, noted_response, run_printed, run_response, run_status, since_response, since_status, text_response, unknown_text, verdict_response, words_response, response_without_plan, since_in_json, since_lines, yes_note};
+ghost use Rattle.mkcheck_run.specs.Run.{AnswersInvocation, AnswersOver, Promises, evidence_response, form_response, plan_response, lines_response, repair_in_json, repair_response, repair_status, lines_printed, explain_response, explained_response, first_explained, first_near, instead_text, is_words, near, printed_response, json_response, noted_response, run_printed, run_response, run_status, since_response, since_status, text_response, unknown_text, verdict_response, words_response, response_without_plan, since_in_json, since_lines, yes_note};
 ghost use Rattle.mk_command.specs.declared.invocation.Invocation.TheVariants.{Check, CheckInJson, CheckInWords, Explain, Graph, Repair as Mend, Simulate, Since as Compare, Verify};
 
 use crate::running::{DONE, NO, REFUSED};
@@ -414,7 +414,7 @@ fn repair_status(found: &Repair) -> u8
     }
 }
 
-// What comes of mending, as JSON, always with the lines that mend a part of the findings.
+// What comes of mending, as JSON, always with the lines for a part of the findings.
 fn repair_in_json(alloc: Global, found: &Repair) -> Result<Vec<u8>, AllocError>
     ensures { IfOk result (λ text. text.items ≡ repair_in_json (outcome_of found.now)) }
 {
@@ -430,7 +430,7 @@ fn repair_in_json(alloc: Global, found: &Repair) -> Result<Vec<u8>, AllocError>
     }
 }
 
-// The lines for standard output, also those that mend a part of the findings where these are asked
+// The lines for standard output, also those for a part of the findings where these are asked
 // for.
 fn lines_printed(alloc: Global, found: &Repair, part: bool) -> Result<Vec<u8>, AllocError>
     ensures { IfOk result (λ text. text.items ≡ lines_printed part (outcome_of found.now)) }
@@ -559,7 +559,7 @@ fn since_status(found: &Since) -> u8
 {
     match found {
         Since::Named(_) => DONE,
-        Since::No(_) | Since::Unsure(_) => NO,
+        Since::No(..) | Since::Unsure(_) => NO,
         Since::Refused(_) => REFUSED,
     }
 }
@@ -570,7 +570,7 @@ fn since_in_json(alloc: Global, found: &Since, cause: Cause) -> Result<Vec<u8>, 
 {
     match found {
         Since::Named(names) => named_in_json(alloc, names.as_slice()),
-        Since::No(found) => told_in_json(alloc, "new", found.as_slice()),
+        Since::No(found, _) => told_in_json(alloc, "new", found.as_slice()),
         Since::Unsure(found) => told_in_json(alloc, "old", found.as_slice()),
         Since::Refused(fault) => old_refusal_in_json(alloc, fault, cause),
     }
@@ -614,6 +614,13 @@ fn since_response(
     }
 }
 
+// Whether the form is that of words.
+fn is_words(form: Form) -> bool
+    ensures { result ≡ is_words form }
+{
+    matches!(form, Form::Words)
+}
+
 // Carries out `since`.
 fn answer_since<F: Files, B: Folder>(
     alloc: Global,
@@ -631,7 +638,7 @@ fn answer_since<F: Files, B: Folder>(
     ensures untouched { OnErr (macros_for change.now.request.now) (files.new ≡ files.old) }
 {
     below.enter(alloc, change.folder)?;
-    let found = since(alloc, below, files, change)?;
+    let found = since(alloc, below, files, change, is_words(form))?;
     let shown = since_response(alloc, form, below.cause(), &found, change.folder)?;
     drop_or_leak(found, change.request.leaves_memory);
     Ok(shown)

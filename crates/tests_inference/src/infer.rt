@@ -356,7 +356,7 @@ fn expect_there(
 
 /// The names that are given, each set as words.
 #[derive(Drop)]
-struct Given<'g> {
+struct GivenNames<'g> {
     /// The sources.
     sources: &'g str,
     /// The prefixes of fixed names.
@@ -366,7 +366,12 @@ struct Given<'g> {
 }
 
 /// Checks a table of rows where these names are given.
-fn expect_given(rt: &impl Abort, alloc: Global, given: &Given<'_>, rows: &str) -> Result<(), Fail> {
+fn expect_given(
+    rt: &impl Abort,
+    alloc: Global,
+    given: &GivenNames<'_>,
+    rows: &str,
+) -> Result<(), Fail> {
     let tables = tables(alloc, given.sources, given.fixed)?;
     let seen = expect_there(rt, alloc, &tables, given.any_leaf, rows);
     drop(tables);
@@ -376,7 +381,7 @@ fn expect_given(rt: &impl Abort, alloc: Global, given: &Given<'_>, rows: &str) -
 /// Checks a table of rows without sources and fixed prefixes, where each name without a rule is
 /// given.
 fn expect_anywhere(rt: &impl Abort, alloc: Global, rows: &str) -> Result<(), Fail> {
-    let given = Given {
+    let given = GivenNames {
         sources: "",
         fixed: "",
         any_leaf: true,
@@ -424,7 +429,7 @@ p: /usr/a.o¶/usr/a.c:‖p| /usr/a.o¶/usr/a.o¶
 
 #[test]
 fn minds_what_is_given(rt: HostRuntime) -> Result<(), Fail> {
-    let given = Given {
+    let given = GivenNames {
         sources: "a.c",
         fixed: "/usr/",
         any_leaf: false,

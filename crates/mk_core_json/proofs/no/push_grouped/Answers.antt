@@ -3,12 +3,12 @@ use Rattle.std.proofs.lemmas.Result.{on_ok_weaker}
 use Rattle.serde_json.specs.View.{items_of}
 use Rattle.serde_json.specs.Written.{compact_text, items_text}
 use Rattle.mk_repair.specs.Gathering.{gathered}
-use Rattle.mk_sentences.specs.Claims.{Claim, claim_view}
+use Rattle.mk_claims.specs.Claims.{Claim, claim_view}
 use Rattle.mk_sentences.specs.Counts.{counts_of}
-use Rattle.mk_sentences.specs.Grouping.{Group, RowKey, group_key_eq, group_of, group_pair, groups, rows}
-use Rattle.mk_sentences.specs.Joining.{joined, joined_claim}
-use Rattle.mk_sentences.specs.Numbering.{group_number}
-use Rattle.mk_sentences.specs.Tables.{groups_view}
+use Rattle.mk_claims.specs.Grouping.{Group, RowKey, group_key_eq, group_of, group_pair, groups, rows}
+use Rattle.mk_claims.specs.Joining.{joined, joined_claim}
+use Rattle.mk_claims.specs.Numbering.{group_number}
+use Rattle.mk_claims.specs.Tables.{groups_view}
 use Rattle.mk_sentences.specs.declared.counts.Counts.{Counts}
 use Rattle.mk_core_json.specs.FindingValue.{finding_values}
 use Rattle.mk_core_json.specs.NoValue.{counts_value, group_numbers, groups_values}

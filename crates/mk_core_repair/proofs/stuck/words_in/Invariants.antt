@@ -1,7 +1,7 @@
 use Rattle.std.proofs.Common.{◌≡◌, [], drop, fold, map}
 use Rattle.mk_repair.specs.Word.{with_word}
-use Rattle.mk_sentences.specs.Claims.{claim_view}
-use Rattle.mk_sentences.specs.Offers.{words_of}
+use Rattle.mk_claims.specs.Claims.{claim_view}
+use Rattle.mk_claims.specs.Offers.{words_of}
 use Rattle.mk_core_repair.proofs.stuck.words_in.Given as goal
 
 -- the words so far, with those of the claims that are left
