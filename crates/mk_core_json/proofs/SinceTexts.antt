@@ -1,5 +1,5 @@
 -- The texts of the answers of `since` by their parts.
-use Rattle.std.proofs.Common.{◌≡◌, ◌∙◌, ℕ, List, [], ◌∷◌, ◌++◌, Bool, false, codes, map, refl, sym, ap, append_assoc}
+use Rattle.std.proofs.Common.{◌≡◌, ◌∙◌, ℕ, List, ◌++◌, Bool, false, codes, map, refl, sym, ap, append_assoc}
 use Rattle.std.specs.Prelude.{◌||◌}
 use Rattle.std.specs.Fmt.{digits}
 use Rattle.serde_json.specs.Data.{string}

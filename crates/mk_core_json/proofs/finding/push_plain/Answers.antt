@@ -1,7 +1,6 @@
 use Rattle.std.proofs.Common.{◌∙◌, ◌++◌, List, ℕ, ap, string_bytes}
 use Rattle.std.proofs.lemmas.Result.{on_ok_weaker}
 use Rattle.mk_repair.specs.Rows.{names_view}
-use Rattle.mk_core_json.specs.FindingValue.{key_text, line_text}
 use Rattle.mk_core_json.proofs.Appended.{on_ok_if}
 use Rattle.mk_core_json.proofs.PlainFindings.{number_joined, plain_joined}
 use Rattle.mk_core_json.proofs.finding.push_plain.Goals as goal
