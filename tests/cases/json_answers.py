@@ -156,6 +156,26 @@ def said_of_refusal(value: dict[str, Any], plain: Answer, told: Answer) -> Itera
         yield "its text has another place"
     if not place and told.output.count(b"\n") > 1:
         yield "it has no place"
+    yield from misnamed(value, text, sentence)
+
+
+def misnamed(value: dict[str, Any], text: str, sentence: str) -> Iterator[str]:
+    """What is wrong about the names, the argument and the word of a refusal, by its text and its
+    sentence."""
+    names, argument, word = value["names"], value["argument"], value["word"]
+    if text.split()[len(text.split()) - len(names) :] != names:
+        yield "its names are others"
+    if value["name"] in ("NoRule", "Cycle") and not names:
+        yield "it has no names"
+    has_argument = text.split()[2:3] == [argument and f"{argument['kind']}:{argument['number']}"]
+    if argument and (value["place"] or not has_argument):
+        yield "its argument is another"
+    if value["name"] in ("BadGoal", "GoalIsMember") and not argument:
+        yield "it has no argument"
+    if word is not None and f": {word}: " not in sentence:
+        yield "its word is another"
+    if value["name"] in ("BadName", "ArchiveMember") and word is None:
+        yield "it has no word"
 
 
 def said_of(value: dict[str, Any], plain: Answer, ask: Asks, rest: list[str]) -> list[str]:

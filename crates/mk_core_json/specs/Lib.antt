@@ -1,5 +1,6 @@
 pub mod AnswerValue
 pub mod FaultNames
+pub mod FaultWords
 pub mod FindingValue
 pub mod GroupValue
 pub mod GroupView
