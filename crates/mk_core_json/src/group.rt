@@ -41,8 +41,8 @@ struct Group<'g> {
 /// Makes the JSON value of the targets that a group is about.
 fn targets_value(alloc: Global, group: Group<'_>) -> Result<Value, AllocError>
     ensures { IfOk result (λ value. view value ≡ names_value
-        (targets_of (group_view group).topic.kind (group_view group).topic.first
-        (group_view group).topic.second (group_view group).who)) }
+        (targets_of (group_view group.entry).topic.kind (group_view group.entry).topic.first
+        (group_view group.entry).topic.second (group_view group.entry).who)) }
 {
     let topic = group.topic;
     match topic.kind {
@@ -54,7 +54,8 @@ fn targets_value(alloc: Global, group: Group<'_>) -> Result<Value, AllocError>
 /// Makes the JSON value of the files that a group is about.
 fn files_value(alloc: Global, group: Group<'_>) -> Result<Value, AllocError>
     ensures { IfOk result (λ value. view value ≡ names_value
-        (files_of (group_view group).topic.kind (group_view group).who (group_view group).what)) }
+        (files_of (group_view group.entry).topic.kind (group_view group.entry).who
+        (group_view group.entry).what)) }
 {
     match group.topic.kind {
         Kind::TwoWriters | Kind::Loose | Kind::OwnPrerequisite => names_value(alloc, group.who),
@@ -68,8 +69,8 @@ fn files_value(alloc: Global, group: Group<'_>) -> Result<Value, AllocError>
 /// them.
 fn writers_value(alloc: Global, group: Group<'_>) -> Result<Value, AllocError>
     ensures { IfOk result (λ value. view value ≡ names_value
-        (writers_of (group_view group).topic.kind (group_view group).topic.first
-        (group_view group).topic.second (group_view group).what)) }
+        (writers_of (group_view group.entry).topic.kind (group_view group.entry).topic.first
+        (group_view group.entry).topic.second (group_view group.entry).what)) }
 {
     let topic = group.topic;
     match topic.kind {
@@ -103,7 +104,7 @@ fn also_value(alloc: Global, kind: Kind) -> Result<Value, AllocError>
 
 /// Makes the JSON value of the lines that mend a group.
 fn added_value(alloc: Global, group: Group<'_>) -> Result<Value, AllocError>
-    ensures { IfOk result (λ value. view value ≡ added_value (group_view group)) }
+    ensures { IfOk result (λ value. view value ≡ added_value (group_view group.entry)) }
 {
     if !group.topic.has_line {
         return Ok(Value::Null);
@@ -115,7 +116,7 @@ fn added_value(alloc: Global, group: Group<'_>) -> Result<Value, AllocError>
 
 /// Makes the JSON value of what to do about a group that no line mends.
 fn to_do_value(alloc: Global, group: Group<'_>) -> Result<Value, AllocError>
-    ensures { IfOk result (λ value. view value ≡ to_do_value (group_view group)) }
+    ensures { IfOk result (λ value. view value ≡ to_do_value (group_view group.entry)) }
 {
     if group.topic.has_line {
         return Ok(Value::Null);
@@ -144,7 +145,8 @@ fn shown_value(alloc: Global, places: &Places<'_>, name: &str) -> Result<Value, 
 /// The sentence of a group.
 fn sentence_of(alloc: Global, group: Group<'_>) -> Result<String, AllocError>
     ensures { IfOk result (λ text. string_bytes text ≡
-        sentence (group_view group).topic (group_view group).who (group_view group).what) }
+        sentence (group_view group.entry).topic (group_view group.entry).who
+        (group_view group.entry).what) }
 {
     let mut text = String::new(alloc);
     push_sentence(alloc, &mut text, group.topic, group.who, group.what)?;
@@ -153,7 +155,7 @@ fn sentence_of(alloc: Global, group: Group<'_>) -> Result<String, AllocError>
 
 /// Makes the JSON value of a group.
 fn group_value(alloc: Global, places: &Places<'_>, group: Group<'_>) -> Result<Value, AllocError>
-    ensures { IfOk result (λ value. view value ≡ group_value places.now (group_view group)) }
+    ensures { IfOk result (λ value. view value ≡ group_value places.now (group_view group.entry)) }
 {
     let added = added_value(alloc, group)?;
     let also = also_value(alloc, group.topic.kind)?;
@@ -184,7 +186,7 @@ fn push_group(
     group: Group<'_>,
 ) -> Result<(), AllocError>
     ensures { OnOk result (string_bytes out.new ≡ string_bytes out.old ++ compact_text
-        (group_value places.now (group_view group))) }
+        (group_value places.now (group_view group.entry))) }
 {
     let value = group_value(alloc, places, group)?;
     push_value(alloc, out, &value)
