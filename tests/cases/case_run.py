@@ -174,10 +174,13 @@ def broken_promises(
     program: Path, folder: Path, words: Sequence[str], answer: Answer
 ) -> Iterator[str]:
     """What is wrong about an answer that must lead to another one: with the lines of `repair` the
-    answer is yes, `verify` accepts the certificate of a yes, but not for other goals, and
-    each command says with `--json` what it says without it."""
+    answer is yes, with those of `repair --part` it is no, `verify` accepts the certificate of a
+    yes, but not for other goals, and each command says with `--json` what it says without it."""
     if words[0] == "repair" and answer.status == 0 and answer.output and "--json" not in words:
-        yield from repaired(program, folder, words, answer.output)
+        yield from repaired(program, folder, words, answer.output, 0)
+    if words[0] == "repair" and answer.status == 1:
+        part = ask(program, ["repair", "--part", *without(words[1:], "--json")], folder)
+        yield from repaired(program, folder, words, part.output, 1)
     if words[0] == "check" and answer.output.startswith(b"yes "):
         yield from certified(program, folder, words, answer.output.splitlines()[0])
     if words[0] == "check":
@@ -186,15 +189,22 @@ def broken_promises(
         yield from misprinted(lambda words: ask(program, words, folder), words)
 
 
-def repaired(program: Path, folder: Path, words: Sequence[str], lines: bytes) -> Iterator[str]:
-    """What is wrong about the lines that `repair` printed."""
+def without(words: Sequence[str], *others: str) -> list[str]:
+    """The words but these others."""
+    return [word for word in words if word not in others]
+
+
+def repaired(
+    program: Path, folder: Path, words: Sequence[str], lines: bytes, status: int
+) -> Iterator[str]:
+    """What is wrong about the lines that `repair` printed, by the status of `check` with them."""
     named = words[words.index("-f") + 1] if "-f" in words else "makefile"
     makefile = folder / named if (folder / named).exists() else folder / "Makefile"
     text = makefile.read_bytes()
     makefile.write_bytes(text + lines)
-    checked = ask(program, ["check", *words[1:]], folder)
+    checked = ask(program, ["check", *without(words[1:], "--part", "--json", "-w")], folder)
     makefile.write_bytes(text)
-    if not checked.output.startswith(b"yes ") or checked.status != 0:
+    if not checked.output.startswith((b"yes ", b"no ")[status]) or checked.status != status:
         yield f"with these lines `check` answers {checked.output.decode()}"
 
 

@@ -156,6 +156,26 @@ def said_of_refusal(value: dict[str, Any], plain: Answer, told: Answer) -> Itera
         yield "its text has another place"
     if not place and told.output.count(b"\n") > 1:
         yield "it has no place"
+    yield from misnamed(value, text, sentence)
+
+
+def misnamed(value: dict[str, Any], text: str, sentence: str) -> Iterator[str]:
+    """What is wrong about the names, the argument and the word of a refusal, by its text and its
+    sentence."""
+    names, argument, word = value["names"], value["argument"], value["word"]
+    if text.split()[len(text.split()) - len(names) :] != names:
+        yield "its names are others"
+    if value["name"] in ("NoRule", "Cycle") and not names:
+        yield "it has no names"
+    has_argument = text.split()[2:3] == [argument and f"{argument['kind']}:{argument['number']}"]
+    if argument and (value["place"] or not has_argument):
+        yield "its argument is another"
+    if value["name"] in ("BadGoal", "GoalIsMember") and not argument:
+        yield "it has no argument"
+    if word is not None and f": {word}: " not in sentence:
+        yield "its word is another"
+    if value["name"] in ("BadName", "ArchiveMember") and word is None:
+        yield "it has no word"
 
 
 def said_of(value: dict[str, Any], plain: Answer, ask: Asks, rest: list[str]) -> list[str]:
@@ -169,10 +189,11 @@ def said_of(value: dict[str, Any], plain: Answer, ask: Asks, rest: list[str]) ->
     return list(said_of_refusal(value, plain, ask(["check", "-w", *rest])))
 
 
-def printed_of(value: dict[str, Any]) -> tuple[str, str]:
+def printed_of(value: dict[str, Any], words: Sequence[str]) -> tuple[str, str]:
     """What a command other than `check` prints on both streams, by its answer as JSON."""
     if "printed" not in value:
         output = value.get("lines", "") + value.get("text", "")
+        output += (value.get("part") or "") if "--part" in words else ""
         newline = "\n" if value["answer"] == "refused" else ""
         return output + newline, value.get("reason", "")
     if value["answer"] == "yes":
@@ -195,7 +216,7 @@ def misprinted(ask: Asks, words: Sequence[str]) -> Iterator[str]:
         yield f"`--json` ends with status {given.status}"
     value = json.loads(given.output)
     wrong = [error.message for error in form().iter_errors(value)]
-    if not wrong and printed_of(value) != (decoded(plain.output), decoded(plain.errors)):
+    if not wrong and printed_of(value, rest) != (decoded(plain.output), decoded(plain.errors)):
         wrong = ["it is another answer"]
     yield from (f"`--json` prints {given.output.decode()}{said}" for said in wrong)
 

@@ -250,9 +250,10 @@ EXAMPLES = {
         {"makefile": "x\n", "B": BOTH},
         ["check", "--json", "-b", "B"],
         2,
-        '{"answer":"refused","format":1,"name":"NotALine","number":25,"place":{"file":"makefile",'
-        '"line":1},"sentence":"makefile:1: NotALine (25): no rule, macro or include line, as'
-        ' `ifdef`; commands need a tab","text":"refused 25 makefile:1"}\n',
+        '{"answer":"refused","argument":null,"format":1,"name":"NotALine","names":[],"number":25,'
+        '"place":{"file":"makefile","line":1},"sentence":"makefile:1: NotALine (25): no rule, macro'
+        ' or include line, as `ifdef`; commands need a tab","source":"x","text":"refused 25'
+        ' makefile:1","word":null}\n',
     ),
     "a mended makefile": (
         {"makefile": TRIED_RULES, "B": TRIED},

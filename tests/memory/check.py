@@ -52,6 +52,10 @@ PLACES = {
         "mk_core_repair/src/rounds.rt",
         "return Err(Fault::Memory);",
     ): "behind the test that the fault is out of memory",
+    (
+        "mk_core_repair/src/trial.rt",
+        "return Err(Fault::Memory);",
+    ): "behind the test that the fault is out of memory",
     ("mkcheck_run/src/starting.rt", "Err(_) => Err(Stop::Memory),"): "the call has no other error",
     ("mk_core_since/src/words.rt", "Err(_) => Fault::Memory,"): "the call has no other error",
     (
@@ -59,7 +63,7 @@ PLACES = {
         "return Err(AllocError);",
     ): "behind the test that the fault is out of memory",
     (
-        "mk_sentences/src/wider.rt",
+        "mk_claims/src/wider.rt",
         "return Err(AllocError);",
     ): "behind the test that the fault is out of memory",
     (

@@ -16,7 +16,7 @@ CHECK_USAGE = (
     "\n\nUsage: mkcheck check [-f F] [-r] -b BOOK [-c] [-w] [-e N] [--json] [WORD]..." + HINT
 )
 GRAPH_USAGE = "\n\nUsage: mkcheck graph [-f F] [-r] [-b BOOK] [-c] [-w] [--json] [WORD]..." + HINT
-REPAIR_USAGE = "\n\nUsage: mkcheck repair [-f F] [-r] -b BOOK [-w] [--json] [WORD]..." + HINT
+REPAIR_USAGE = "\n\nUsage: mkcheck repair [-f F] [-r] -b BOOK [--part] [-w] [--json] [WORD]..." + HINT
 VERIFY_USAGE = "\n\nUsage: mkcheck verify [-f F] [-r] -b BOOK -k CERT [-w] [--json] [WORD]..." + HINT
 SIMULATE_USAGE = "\n\nUsage: mkcheck simulate [-f F] [-r] -b BOOK -p PLAN [-w] [--json] [WORD]..." + HINT
 UNEXPECTED = "error: unexpected argument '{0}' found"
@@ -43,6 +43,7 @@ REJECTED = [
     Run(["check", "-w", "-b", "B", "-x"], 2, err=UNEXPECTED.format("-x") + CHECK_USAGE),
     Run(["check", "-b", "B", "--", "-x", "-j"], 2, "refused 41 -x\n"),
     Run(["graph", "-e"], 2, err=UNEXPECTED.format("-e") + GRAPH_USAGE),
+    Run(["check", "-b", "B", "--part"], 2, err=UNEXPECTED.format("--part") + CHECK_USAGE),
     Run(["check", "-b", "B", "-e", "x"], 2, err=BAD_NUMBER),
     Run(["check", "-b", "B", "-e", "0"], 2, err=BAD_NUMBER),
     Run(["repair"], 2, err=MISSING + "-b <BOOK>" + REPAIR_USAGE),
@@ -77,6 +78,11 @@ check -b B -k K
 verify -k K
 verify -b B -k K -c
 verify -b B -k K -e 1
+verify -b B -k K --part
+simulate -b B -p P --part
+since D -b B --part
+graph --part
+explain --part
 repair p
 repair -b
 repair -b B -c

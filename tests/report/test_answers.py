@@ -10,7 +10,7 @@ from tempfile import TemporaryDirectory
 
 from mkcheck_tools.answers.checkers import Reply
 from mkcheck_tools.answers.findings import Answer, answer_of
-from mkcheck_tools.answers.refusals import Refusal
+from mkcheck_tools.answers.refusals import Refusal, Refused
 from mkcheck_tools.faults import Fault
 
 Value = dict[str, object]
@@ -36,9 +36,9 @@ def line(file: str, number: int) -> Value:
 
 def refused(text: str, name: str, sentence: str, **more: object) -> Refusal:
     """A refusal as it is read."""
-    value: Value = {"answer": "refused", "format": 1, "place": None, "name": name, "text": text}
-    number = text.split()[1]
-    value |= {"number": int(number) if number.isdecimal() else 0, "sentence": sentence, **more}
+    value: Value = {"answer": "refused", "format": 1, "name": name, "text": text}
+    value |= {"argument": None, "names": [], "place": None, "word": None}
+    value |= {"number": int(text.split()[1]), "sentence": sentence, **more}
     found = answer_of(Reply(2, json.dumps(value).encode())).refusal
     assert found is not None
     return found
@@ -162,63 +162,73 @@ class GroupsTest(unittest.TestCase):
 
 
 class RefusalsTest(unittest.TestCase):
-    """Refusals: the place, the words and the word that is no name."""
+    """Refusals: the place, the names and the word that is no name."""
 
     def test_at_a_line(self) -> None:
         said = "a.mk:7: NotALine (25): no line"
         found = refused("refused 25 a.mk:7", "NotALine", said, place=line("a.mk", 7))
         self.assertEqual((found.file, found.line), ("a.mk", 7))
-        self.assertEqual((found.words, found.sentence), ("", said))
+        self.assertEqual((found.names, found.sentence), ((), said))
         self.assertTrue(found.is_of_file)
 
     def test_with_the_word_that_is_no_name(self) -> None:
-        said = "m:1: BadName (27): ./b: it is no name: no"
-        found = refused("refused 27 m:1", "BadName", said, place=line("m", 1))
-        self.assertEqual((found.words, found.bad_name), ("", "./b"))
-        other = refused("refused 27 goal:1", "BadGoal", "goal:1: BadGoal (27): it is no name")
-        self.assertEqual(other.bad_name, "")
+        said = "m:1: BadName (27): a: b: it is no name: no"
+        found = refused("refused 27 m:1", "BadName", said, place=line("m", 1), word="a: b")
+        self.assertEqual((found.names, found.bad_name), ((), "a: b"))
+        said = "m:1: ArchiveMember (28): l(m): it is a member"
+        other = refused("refused 28 m:1", "ArchiveMember", said, place=line("m", 1), word="l(m)")
+        self.assertEqual((other.word, other.bad_name), ("l(m)", ""))
 
-    def test_with_words_at_a_line(self) -> None:
-        said = "m:1: NoInclude (32): x.mk: it isn't there"
-        found = refused("refused 32 m:1 x.mk", "NoInclude", said, place=line("m", 1))
-        self.assertEqual((found.file, found.line, found.words), ("m", 1, "x.mk"))
+    def test_with_names_at_a_line(self) -> None:
+        said = "m:1: IncludeMissing (32): x.mk: it isn't there"
+        place = line("m", 1)
+        found = refused("refused 32 m:1 x.mk", "IncludeMissing", said, place=place, names=["x.mk"])
+        self.assertEqual((found.file, found.line, found.names), ("m", 1, ("x.mk",)))
 
-    def test_words_that_look_like_a_place(self) -> None:
+    def test_names_that_look_like_a_place(self) -> None:
         for number, name in ((38, "NoFile"), (27, "BadMakefileName")):
-            for words in ("d:5", "goal:1", "operand:1"):
-                said = f"{name} ({number}): {words}: it isn't there"
-                found = refused(f"refused {number} {words}", name, said)
-                self.assertEqual((found.file, found.line, found.words), (None, None, words))
+            for file in ("d:5", "goal:1", "operand:1"):
+                said = f"{name} ({number}): {file}: it isn't there"
+                found = refused(f"refused {number} {file}", name, said, names=[file])
+                self.assertEqual((found.file, found.line, found.names), (None, None, (file,)))
 
     def test_without_a_place(self) -> None:
-        found = refused("refused 42 a b a", "Cycle", "Cycle (42): a b a: they form a cycle")
-        self.assertEqual((found.file, found.words, found.is_of_file), (None, "a b a", False))
-        bare = refused("refused 51", "NotJson", "NotJson (51): it is no JSON")
-        self.assertEqual(bare.words, "")
+        said = "Cycle (42): a b a: they form a cycle"
+        found = refused("refused 42 a b a", "Cycle", said, names=["a", "b", "a"])
+        self.assertEqual((found.file, found.names), (None, ("a", "b", "a")))
+        self.assertFalse(found.is_of_file)
+
+    def test_the_name_that_is_missing(self) -> None:
+        found = refused("refused 41 a", "NoRule", "NoRule (41): a: nothing makes it", names=["a"])
+        self.assertEqual(Refused(found).missing, "a")
+        with self.assertRaisesRegex(Fault, "in which names is no list of a name"):
+            refused("refused 41 a", "NoRule", "NoRule (41): a: nothing makes it")
 
     def test_of_a_word_of_the_command_line(self) -> None:
         for text, name, kind in (
             ("refused 27 goal:2", "BadGoal", "goal"),
             ("refused 11 operand:2", "BadMacroName", "operand"),
         ):
-            found = refused(text, name, f"{kind}:2: {name}: it is no name")
-            self.assertEqual((found.file, found.line, found.words), (kind, 2, ""))
+            argument = {"kind": kind, "number": 2}
+            found = refused(text, name, f"{kind}:2: {name}: it is no name", argument=argument)
+            self.assertEqual((found.file, found.line, found.names), (kind, 2, ()))
             self.assertEqual((found.is_of_word, found.is_of_file), (True, False))
             self.assertEqual(found.shown("makefile"), "")
+
+    def test_of_a_word_of_another_kind(self) -> None:
+        with self.assertRaisesRegex(Fault, "in which kind is no goal or operand"):
+            argument = {"kind": "option", "number": 1}
+            refused("refused 27 option:1", "BadGoal", "it is no name", argument=argument)
 
     def test_a_makefile_that_is_called_like_such_a_word(self) -> None:
         said = "operand:1: NotALine (25): no line"
         found = refused("refused 25 operand:1", "NotALine", said, place=line("operand", 1))
         self.assertEqual((found.is_of_word, found.is_of_file), (False, True))
 
-    def test_a_text_that_no_refusal_has(self) -> None:
-        for text, name, number in (
-            ("refused 25 m:1", "NotJson", 51),
-            ("no stale a b", "NotJson", 51),
-            ("refused 27 a", "BadGoal", 27),
-        ):
-            with self.assertRaisesRegex(Fault, "in which text is no refusal"):
-                refused(text, name, "", number=number)
+    def test_members_that_are_missing_or_of_another_kind(self) -> None:
+        for key, value, kind in (("names", "a", "list"), ("word", 1, "text"), ("number", "1", "n")):
+            with self.assertRaisesRegex(Fault, f"in which {key} is no {kind}"):
+                refused("refused 25 m:1", "NotALine", "", **{key: value})
 
     def test_its_line(self) -> None:
         """The line of the makefile or of a file below its folder; none of another file, which may

@@ -7,6 +7,7 @@ import json
 from judge import Finding, Subject
 from lines import Refused
 from reading import Files, Makefile
+from repair import Repair, seen_later
 from sentences import (
     PSEUDO,
     Claim,
@@ -19,7 +20,6 @@ from sentences import (
     lines,
     name_of,
     place_of,
-    seen_later,
     sentence,
     told_of,
     without_cycles,
@@ -28,6 +28,8 @@ from world import Run
 
 # An object of JSON.
 Value = dict[str, object]
+# The refusals whose words are names of targets and files.
+WITH_NAMES = (27, 31, 32, 35, 37, 38, 41, 42, 54, 56, 74, 75)
 
 
 def shown(value: Value) -> bytes:
@@ -169,11 +171,12 @@ def run_value(run: Run) -> Value:
     }
 
 
-def repair_value(text: bytes, status: int) -> Value:
+def repair_value(repair: Repair) -> Value:
     """The value of the lines that mend a makefile, or of why there are none."""
-    if status:
-        return {"answer": "no", "format": 1, "reason": decoded(text)}
-    return {"answer": "yes", "format": 1, "lines": decoded(text)}
+    if repair.reason:
+        part = decoded(repair.part) if repair.part else None
+        return {"answer": "no", "format": 1, "part": part, "reason": decoded(repair.reason)}
+    return {"answer": "yes", "format": 1, "lines": decoded(repair.text)}
 
 
 def source_of(fault: Refused, files: Files) -> str | None:
@@ -182,15 +185,35 @@ def source_of(fault: Refused, files: Files) -> str | None:
     return decoded(line[2:-1]) if line else None
 
 
+def names_in(fault: Refused) -> list[bytes]:
+    """The names of targets and files in the text of a refusal."""
+    if fault.number == 76:
+        return fault.words[1:]
+    return fault.words if fault.number in WITH_NAMES else []
+
+
+def argument_of(fault: Refused) -> Value | None:
+    """The goal or the operand that has the fault, if one has."""
+    kind, _, number = (fault.where or b"").rpartition(b":")
+    if kind == b"goal" and fault.name in ("BadGoal", "GoalIsMember"):
+        return {"kind": "goal", "number": int(number)}
+    if kind == b"operand" and fault.number in range(11, 18):
+        return {"kind": "operand", "number": int(number)}
+    return None
+
+
 def refusal_value(fault: Refused, files: Files) -> Value:
     """The value of a refusal."""
     return {
         "answer": "refused",
+        "argument": argument_of(fault),
         "format": 1,
         "name": name_of(fault).decode("utf-8"),
+        "names": [name.decode("utf-8") for name in names_in(fault)],
         "number": fault.number,
         "place": place_of_fault(fault),
         "sentence": decoded(in_words_with_cause(fault, files)),
         "source": source_of(fault, files),
         "text": decoded(fault.line()),
+        "word": None if fault.about is None else decoded(fault.about),
     }

@@ -283,6 +283,7 @@ def lacking_case(rng: Random, wrong: float = 0.2) -> Case:
     others = other_words(rng, project, True)
     words += ["-b", "B"]
     project.files[b"B"] = true_book(truth, WithoutFolders(project), words + others)
+    words += ["--part"] * rng.choice([0, 0, 1])
     if rng.random() < 0.01:
         broken_word(rng, project.files, words)
     return Case(project.files, mixed(rng, words, others))

@@ -192,7 +192,7 @@ class Comparer:
             print(f"fuzz: {sum(self.tried.values())} cases so far", file=sys.stderr, flush=True)
         self.sorts[command][sort_of(second)] += 1
         if first == second:
-            if case.words[:1] == ["repair"] and first[0].startswith(b"\n"):
+            if case.words[:1] == ["repair"] and first[1] == 0 and first[0].startswith(b"\n"):
                 self.compare_amended(label, case, first[0])
             return
         if "-e" in case.words and second[1] == 1 and shows(first, second, case.words, disk):
@@ -208,7 +208,7 @@ class Comparer:
             path = os.path.join(self.folder, "Makefile")
         with open(path, "ab") as file:
             file.write(lines)
-        words = ["check", *case.words[1:]]
+        words = ["check", *(word for word in case.words[1:] if word != "--part")]
         first = asked(self.program, words, self.folder)
         second = answered(words, Disk(self.folder))
         if first != second or second[1] != 0:

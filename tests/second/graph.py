@@ -32,11 +32,17 @@ class There:
         fixed: Iterable[bytes] = (),
         texts: Iterable[bytes] = (),
         any_leaf: bool = False,
+        more: Iterable[bytes] = (),
     ) -> None:
         self.sources = set(sources)
         self.fixed = list(fixed)
         self.texts = set(texts)
         self.any_leaf = any_leaf
+        self.more = set(more)
+
+    def with_more(self, more: Iterable[bytes]) -> There:
+        """The same, where these names count as there, too, but not as given."""
+        return There(self.sources, self.fixed, self.texts, self.any_leaf, more)
 
     def is_fixed(self, name: bytes) -> bool:
         return any(name.startswith(front) for front in self.fixed)
@@ -125,6 +131,7 @@ class Rules:
                 made_from in there.sources
                 or made_from in there.texts
                 or made_from in self.targets
+                or made_from in there.more
                 or made_from in more
             )
             if suffix + ending in self.commands and is_there:

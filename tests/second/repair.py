@@ -13,6 +13,11 @@ from request import FILE_LIMIT, Request, prepared
 JUDGEMENTS = 64
 ADVICE = b"; mkcheck check -w says what to do\n"
 OTHERS = b"lines for the other findings:\n"
+NO_OTHERS = b"no lines for the other findings:\n"
+OTHERS_TOO_LONG = (
+    b"with lines for the other findings the makefile would have more than 16777216 bytes\n"
+)
+SAYS = b"with these lines mkcheck check says:\n"
 UNWRITABLE = b"a makefile can't hold its names"
 # Why no line mends a finding of this kind.
 CAUSES = {
@@ -196,12 +201,32 @@ def lines_of(words: list[Word]) -> list[bytes]:
 
 
 def obstacle(subject: Subject, findings: list[Finding]) -> bytes:
-    """Why the first finding without a word has none, and the lines of the others."""
+    """Why the first finding without a word has none."""
     stuck = next(finding for finding in findings if word_of(subject, finding) is None)
     cause = CAUSES[stuck[0]] if word_for(subject, stuck) is None else UNWRITABLE
-    said = b"no line mends `" + b" ".join([b"no"] + stuck) + b"`: " + cause + ADVICE
-    lines = lines_of(some_words(subject, findings))
-    return said + (OTHERS + b"".join(b"  add: " + line for line in lines) if lines else b"")
+    return b"no line mends `" + b" ".join([b"no"] + stuck) + b"`: " + cause + ADVICE
+
+
+def hides(findings: list[Finding]) -> bool:
+    """Whether findings hide races and stale reads."""
+    return any(finding[0] not in (b"race", b"stale") for finding in findings)
+
+
+def seen_later(subject: Subject, findings: list[Finding]) -> list[Finding]:
+    """The races and stale reads that findings hide, without those that mending these may settle."""
+    if not hides(findings):
+        return []
+    phony = [
+        finding[1]
+        for finding in findings
+        if finding[0] == b"target" and word_of(subject, finding) is not None
+    ]
+    return subject.hidden(findings, phony)
+
+
+def other_lines(subject: Subject, findings: list[Finding]) -> list[bytes]:
+    """The lines of the findings that give some, and of the races and stale reads that they hide."""
+    return lines_of(some_words(subject, findings + seen_later(subject, findings)))
 
 
 # What nodes need.
@@ -241,25 +266,62 @@ def first_cycle(subject: Subject) -> list[bytes] | None:
 # Rounds.
 
 
-def repaired(request: Request, files: Files) -> tuple[bytes, int]:
-    """What is printed, on standard error where the status is 1, and the status."""
+class Repair(NamedTuple):
+    """The text that mends the makefile, empty where it is right; or why nothing does, and the text
+    of the lines for a part of its findings."""
+
+    text: bytes
+    reason: bytes = b""
+    part: bytes = b""
+
+
+def repaired(request: Request, files: Files) -> Repair:
+    """What comes of mending."""
     subject, name = judged(request, files)
     findings = subject.findings()
     if not findings:
-        return b"", 0
+        return Repair(b"")
     words = words_of(subject, findings)
     if words is None:
-        return printed(findings) + obstacle(subject, findings), 1
+        said = printed(findings) + obstacle(subject, findings)
+        return tried_once(request, files, name, other_lines(subject, findings), said)
     cycle = first_cycle(subject)
     if cycle:
-        return printed(findings) + b" ".join([CYCLE] + cycle) + b"\n", 1
+        return Repair(b"", printed(findings) + b" ".join([CYCLE] + cycle) + b"\n")
     lines, text, reason = mended(request, files, name, words)
     if reason is None:
-        return text, 0
+        return Repair(text)
     if not lines:
-        return printed(findings) + TOO_LONG, 1
+        return Repair(b"", printed(findings) + TOO_LONG)
     tried = b"".join(b"tried " + line for line in lines)
-    return printed(findings) + tried + b"with these lines mkcheck check says:\n" + reason, 1
+    return Repair(b"", printed(findings) + tried + SAYS + reason)
+
+
+def start_of(found: bytes) -> bytes:
+    """What comes before lines that are appended to a makefile."""
+    return b"\n\n" if found.endswith(b"\\") else b"\n"
+
+
+def tried_once(
+    request: Request, files: Files, name: bytes, lines: list[bytes], said: bytes
+) -> Repair:
+    """What comes of lines for a part of the findings, where this is said of the others."""
+    if not lines:
+        return Repair(b"", said)
+    found = files.read(name)
+    assert isinstance(found, bytes)
+    text = start_of(found) + b"".join(lines)
+    if len(found) + len(text) > FILE_LIMIT:
+        return Repair(b"", said + OTHERS_TOO_LONG)
+    try:
+        subject, _name = judged(request, Appended(files, name, text))
+    except Refused as fault:
+        tried = b"".join(b"tried " + line for line in lines)
+        return Repair(b"", said + NO_OTHERS + tried + SAYS + fault.line() + b"\n")
+    if not subject.findings():
+        return Repair(text)
+    added = b"".join(b"  add: " + line for line in lines)
+    return Repair(b"", said + OTHERS + added + SAYS + told(subject.findings()), text)
 
 
 def told(findings: list[Finding], limit: bytes = b"") -> bytes:
@@ -275,7 +337,7 @@ def mended(
     last, and what is said of them."""
     found = files.read(name)
     assert isinstance(found, bytes)
-    start = b"\n\n" if found.endswith(b"\\") else b"\n"
+    start = start_of(found)
     tried: list[bytes] = []
     findings: list[Finding] = []
     for _ in range(JUDGEMENTS - 1):

@@ -88,6 +88,7 @@ class Request:
         self.values: dict[str, bytes] = {}
         self.flags: set[str] = set()
         self.in_json = False
+        self.part = False
         self.words: list[bytes] = []
         self.tell(arguments[1:])
         if any(letter not in self.values for letter in self.NEEDED[self.command]):
@@ -127,6 +128,8 @@ class Request:
                 self.words.append(os.fsencode(word))
             elif word == "--json":
                 self.in_json = True
+            elif word == "--part" and self.command == "repair":
+                self.part = True
             elif word[1:] in list(self.FLAGS[self.command]):
                 self.flags.add(word[1:])
             elif word[1:] in list(self.VALUES[self.command]):

@@ -18,7 +18,7 @@ from evidence import plan_of_finding
 from judge import Subject
 from lines import Refused
 from reading import Files
-from repair import printed, repaired
+from repair import Repair, printed, repaired
 from request import Disk, Request, Usage, file_of, prepared
 from sentences import in_sentences, in_words, in_words_with_cause, line_of
 from since import compared
@@ -32,8 +32,7 @@ NOTHING_JUDGED = b"the goals reach no recipe, so nothing was judged; name other 
 def answer(request: Request, files: Files) -> tuple[bytes, int]:
     """What is printed, and the status."""
     if request.command == "repair":
-        text, status = repaired(request, files)
-        return (shown(repair_value(text, status)) if request.in_json else text), status
+        return repair_text(request, repaired(request, files))
     if request.command == "since":
         return compared(request, files)
     graph, book, passed_over = prepared(request, files)
@@ -52,6 +51,15 @@ def answer(request: Request, files: Files) -> tuple[bytes, int]:
     if "e" in request.values and subject.findings():
         return plan_of_finding(subject, book, request.finding), 1
     return verdict(subject, request)
+
+
+def repair_text(request: Request, repair: Repair) -> tuple[bytes, int]:
+    """What comes of mending, as it is printed, standard error behind the output; and the status."""
+    status = 1 if repair.reason else 0
+    if request.in_json:
+        return shown(repair_value(repair)), status
+    part = repair.part if request.part else b""
+    return repair.text + part + repair.reason, status
 
 
 def printed_text(request: Request, text: bytes) -> bytes:

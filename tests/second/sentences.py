@@ -10,7 +10,7 @@ from graph import Graph, goal_names
 from judge import Finding, Subject
 from lines import Refused
 from reading import Files, Makefile
-from repair import cut, lines_between, makers, word_of, writes_its_own
+from repair import cut, hides, lines_between, makers, seen_later, word_of, writes_its_own
 
 PAGE = Path(__file__).resolve().parents[2] / "docs" / "FAULTS.md"
 FAULT = re.compile(rb"^\| (\d+) \| `([\w:]+)` \| (.*) \|$", re.MULTILINE)
@@ -120,31 +120,25 @@ def has_no_record(subject: Subject, file: bytes) -> bool:
 
 
 def wider(subject: Subject, claims: list[Claim]) -> Graph:
-    """The graph of the goals and of the names in the lines of the claims which rules make and which
-    these don't reach; that with the targets among them where they have rules that make would
-    refuse, and that of the goals alone where the targets have such rules."""
+    """The graph of the goals and of the names in the lines of the claims which rules make, once the
+    targets of the lines are there, and which the goals don't reach; that with the targets among
+    them where they have rules that make would refuse, and that of the goals alone where the targets
+    have such rules."""
     graph = subject.graph
-    named = {line[1]: None for line in (claim.line() for claim in claims) if line}
-    far = [name for name in named if name not in graph.nodes]
+    lines = [line for line in (claim.line() for claim in claims) if line]
+    there = graph.there.with_more({line[0] for line in lines})
+    far = [name for name in dict.fromkeys(line[1] for line in lines) if name not in graph.nodes]
     targets = [name for name in far if name in graph.rules.targets]
-    inferred = [name for name in far if graph.rules.choice(name, graph.there) is not None]
+    inferred = [name for name in far if graph.rules.choice(name, there) is not None]
     made = [name for name in far if name in targets or name in inferred]
+    if not made:
+        return graph
     for names in (made, targets):
         try:
-            return with_names(graph, names)
+            return Graph(graph.rules, goal_names(graph.rules, [*graph.goals, *names]), there)
         except Refused:
             continue
     return graph
-
-
-def with_names(graph: Graph, names: list[bytes]) -> Graph:
-    """The graph of the goals and of these names, whose commands have no fault."""
-    if not names:
-        return graph
-    wide = Graph(graph.rules, goal_names(graph.rules, [*graph.goals, *names]), graph.there)
-    for node in wide.serial:
-        graph.rules.expanded(node, graph.there)
-    return wide
 
 
 def first_cycle(graph: Graph, claims: list[Claim]) -> list[bytes]:
@@ -521,23 +515,6 @@ def claims_text(subject: Subject, claims: list[Claim]) -> bytes:
     groups = grouped(claims)
     told = b"".join(group_text(subject.rules.makefile, group) for group in groups)
     return told + counts(claims, groups)
-
-
-def hides(findings: list[Finding]) -> bool:
-    """Whether findings hide races and stale reads."""
-    return any(finding[0] not in (b"race", b"stale") for finding in findings)
-
-
-def seen_later(subject: Subject, findings: list[Finding]) -> list[Finding]:
-    """The races and stale reads that findings hide, without those that mending these may settle."""
-    if not hides(findings):
-        return []
-    phony = [
-        finding[1]
-        for finding in findings
-        if finding[0] == b"target" and word_of(subject, finding) is not None
-    ]
-    return subject.hidden(findings, phony)
 
 
 def in_sentences(subject: Subject, findings: list[Finding]) -> bytes:

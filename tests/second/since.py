@@ -8,7 +8,7 @@ from lines import Refused, is_plain_path
 from reading import Files, Found
 from repair import printed
 from request import Request, prepared
-from sentences import in_words_with_cause
+from sentences import in_sentences, in_words_with_cause
 
 WORDS = b"words"
 OPTIONS = b"options"
@@ -181,6 +181,8 @@ def compared(request: Request, files: Files) -> tuple[bytes, int]:
     graph, book, passed_over = prepared(request, files)
     new = Subject(graph, book, passed_over)
     findings = new.findings()
+    if findings and request.in_words:
+        return in_sentences(new, findings), 1
     if findings:
         return told(request, findings, "new"), 1
     names = named(old, new)

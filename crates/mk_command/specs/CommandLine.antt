@@ -51,6 +51,11 @@ abbrev pub in_json_option : Rule
 in_json_option =
     record (new_rule (codes "json")) { long = Some (codes "json"); action = Some Count }
 
+-- `--part` of `repair`, any number of times.
+abbrev pub part_option : Rule
+part_option =
+    record (new_rule (codes "part")) { long = Some (codes "part"); action = Some Count }
+
 -- `DIR` of `since`, exactly once.
 abbrev pub folder_argument : Rule
 folder_argument = record (new_rule (codes "folder")) { value_names = 1; required = true }
@@ -98,11 +103,11 @@ verify_command =
     (makefile_option ∷ no_defaults_option ∷ needed_book_option ∷ certificate_option ∷
     in_words_option ∷ in_json_option ∷ words_argument ∷ [])
 
--- `repair [-f F] [-r] -b BOOK [-w] [--json] [WORD..]`
+-- `repair [-f F] [-r] -b BOOK [--part] [-w] [--json] [WORD..]`
 abbrev pub repair_command : App
 repair_command =
     subcommand (codes "repair")
-    (makefile_option ∷ no_defaults_option ∷ needed_book_option ∷ in_words_option ∷
+    (makefile_option ∷ no_defaults_option ∷ needed_book_option ∷ part_option ∷ in_words_option ∷
     in_json_option ∷ words_argument ∷ [])
 
 -- `since DIR [-f F] [-r] -b BOOK [-w] [--json] [WORD..]`

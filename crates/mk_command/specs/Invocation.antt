@@ -29,8 +29,9 @@ abbrev pub without_dot : Text → Text
 without_dot name =
     unwrap_or (option_and_then below (option_and_then (strip_byte 47) (strip_byte 46 name))) name
 
--- The request for this makefile, whose name may begin with `./`, with the macro operands and goals among these words, with the
--- default text, without footprints and without commands; memory may be leaked at exit.
+-- The request for this makefile, whose name may begin with `./`, with the macro operands and goals
+-- among these words, with the default text, without footprints and without commands; memory may be
+-- leaked at exit.
 abbrev pub asking : Option (List ℕ) → List Text → Request
 asking makefile words =
     record {
@@ -100,7 +101,8 @@ form_by rows =
 abbrev pub invocation_by : Text → List Row → Invocation
 invocation_by name rows =
     if bytes_eq name (codes "check") then check_by (requested rows) rows else
-    (if bytes_eq name (codes "repair") then Repair (requested rows) (form_by rows) else
+    (if bytes_eq name (codes "repair")
+    then Repair (requested rows) (form_by rows) (is_set (codes "part") rows) else
     (if bytes_eq name (codes "explain") then Explain (requested rows).goals else
     (if bytes_eq name (codes "verify")
     then Verify (requested rows) (needed (codes "certificate") rows) (form_by rows) else
@@ -126,7 +128,7 @@ request_in (Graph request form) = request
 request_in (Check request only_certificate evidence) = request
 request_in (CheckInWords request only_certificate) = request
 request_in (CheckInJson request) = request
-request_in (Repair request form) = request
+request_in (Repair request form part) = request
 request_in (Explain what) = requested []
 request_in (Verify request certificate form) = request
 request_in (Since request folder form) = request
@@ -138,7 +140,7 @@ form_of (Graph request form) = form
 form_of (Check request only_certificate evidence) = Lines
 form_of (CheckInWords request only_certificate) = Words
 form_of (CheckInJson request) = Json
-form_of (Repair request form) = form
+form_of (Repair request form part) = form
 form_of (Explain what) = Lines
 form_of (Verify request certificate form) = form
 form_of (Since request folder form) = form

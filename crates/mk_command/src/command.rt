@@ -3,7 +3,7 @@
 ghost use Rattle.std.specs.Prelude.{◌≡◌, ◌∷◌, [], IfOk, codes, false, fold};
 ghost use Rattle.clap.specs.Words.{app_of, new_app, rule_of, with_rule};
 ghost use Rattle.clap.specs.declared.builder.command.Command.TheViews.{out-Command as fields_of};
-ghost use Rattle.mk_command.specs.CommandLine.{book_option, certificate_option, check_command, command_line, commands_option, evidence_option, explain_command, folder_argument, graph_command, in_json_option, in_words_option, makefile_option, named_program, needed_book_option, no_defaults_option, only_certificate_option, plan_option, program, repair_command, simulate_command, since_command, verify_command, with_subcommands, words_argument};
+ghost use Rattle.mk_command.specs.CommandLine.{book_option, certificate_option, check_command, command_line, commands_option, evidence_option, explain_command, folder_argument, graph_command, in_json_option, in_words_option, makefile_option, named_program, needed_book_option, no_defaults_option, only_certificate_option, part_option, plan_option, program, repair_command, simulate_command, since_command, verify_command, with_subcommands, words_argument};
 
 use clap::{Arg, ArgAction, Command, value_parser};
 use std::alloc::{AllocError, Global};
@@ -20,7 +20,7 @@ macro_rules! with_statuses {
 
 /// What `--version` prints behind the program's name. `tools/quick.py`, which builds the program
 /// without proving it, compiles another text in its place.
-const VERSION: &str = "0.2.0 (proved with rattle-kit-13f logic dac8208d650f15bf)";
+const VERSION: &str = "0.2.0 (proved with rattle-kit-13b logic dac8208d650f15bf)";
 
 const BEHIND_ALL: &str = with_statuses!("Example: mkcheck check -b footprints.json prog\n\n");
 
@@ -140,6 +140,16 @@ fn with_form<'a>(alloc: Global, command: Command<'a>) -> Result<Command<'a>, All
         .arg(in_json_option(alloc))
 }
 
+fn part_option<'a>(alloc: Global) -> Arg<'a>
+    ensures rule { rule_of result ≡ part_option }
+    ensures local { result.global ≡ false }
+{
+    Arg::new(alloc, "part")
+        .long("part")
+        .action(ArgAction::Count)
+        .help("Where one finding gives no line, prints those for the others")
+}
+
 fn evidence_option<'a>(alloc: Global) -> Arg<'a>
     ensures rule { rule_of result ≡ evidence_option }
     ensures local { result.global ≡ false }
@@ -250,7 +260,7 @@ fn named_repair<'a>(alloc: Global) -> Command<'a>
         .about(
             "Prints the lines to append to the makefile so that check says yes, or why none help",
         )
-        .override_usage("mkcheck repair [-f F] [-r] -b BOOK [-w] [--json] [WORD]...")
+        .override_usage("mkcheck repair [-f F] [-r] -b BOOK [--part] [-w] [--json] [WORD]...")
         .after_help(BEHIND_REPAIR)
 }
 
@@ -343,7 +353,9 @@ fn repair_command<'a>(alloc: Global) -> Result<Command<'a>, AllocError>
     ensures app { IfOk result (λ c. app_of c ≡ repair_command) }
     ensures local { IfOk result (λ c. (fields_of c).has_globals ≡ false) }
 {
-    let mending = with_reading(alloc, named_repair(alloc))?.arg(needed_book_option(alloc))?;
+    let mending = with_reading(alloc, named_repair(alloc))?
+        .arg(needed_book_option(alloc))?
+        .arg(part_option(alloc))?;
     with_form(alloc, mending)?.arg(words_argument(alloc))
 }
 
@@ -430,11 +442,11 @@ fn with_telling<'a>(alloc: Global, command: Command<'a>) -> Result<Command<'a>, 
 }
 
 /// The command line of the program, which reads the words after the program's name: `graph [-f F]
-/// [-r] [-b BOOK] [-c] [-w] [--json] [WORD..]`, `check [-f F] [-r] -b BOOK [-c] [-w] [-e N] [--json]
-/// [WORD..]`, `repair [-f F] [-r] -b BOOK [-w] [--json] [WORD..]`, `verify [-f F] [-r] -b BOOK -k
-/// CERT [-w] [--json] [WORD..]`, `since DIR [-f F] [-r] -b BOOK [-w] [--json] [WORD..]`, `simulate
-/// [-f F] [-r] -b BOOK -p PLAN [-w] [--json] [WORD..]`, `explain [WORD..]`, `--help` and
-/// `--version`. The only error is out of memory.
+/// [-r] [-b BOOK] [-c] [-w] [--json] [WORD..]`, `check [-f F] [-r] -b BOOK [-c] [-w] [-e N]
+/// [--json] [WORD..]`, `repair [-f F] [-r] -b BOOK [--part] [-w] [--json] [WORD..]`, `verify [-f F]
+/// [-r] -b BOOK -k CERT [-w] [--json] [WORD..]`, `since DIR [-f F] [-r] -b BOOK [-w] [--json]
+/// [WORD..]`, `simulate [-f F] [-r] -b BOOK -p PLAN [-w] [--json] [WORD..]`, `explain [WORD..]`,
+/// `--help` and `--version`. The only error is out of memory.
 pub fn command_line<'a>(alloc: Global) -> Result<Command<'a>, AllocError>
     ensures app { IfOk result (λ c. app_of c ≡ command_line) }
     ensures local { IfOk result (λ c. (fields_of c).has_globals ≡ false) }

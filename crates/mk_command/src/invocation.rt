@@ -56,6 +56,8 @@ pub enum Invocation {
         request: Request,
         /// How the answer is printed.
         form: Form,
+        /// Whether lines for the other findings are printed where one gives no line.
+        part: bool,
     },
     /// `verify`: says whether the certificate in this file shows that the build is right.
     Verify {
@@ -299,7 +301,11 @@ pub fn invocation_by(
     let form = form_by(matches);
     match name {
         "check" => Ok(check_by(request, matches)),
-        "repair" => Ok(Invocation::Repair { request, form }),
+        "repair" => Ok(Invocation::Repair {
+            request,
+            form,
+            part: matches.get_count("part") > 0,
+        }),
         "explain" => Ok(Invocation::Explain(request.goals)),
         "verify" => Ok(Invocation::Verify {
             request,

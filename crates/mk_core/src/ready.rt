@@ -1,7 +1,7 @@
 //! Prepares a request: goals and footprints over the makefile.
 
 ghost use Rattle.std.specs.Prelude.{◌≡◌, true, IfErr, IfOk};
-ghost use Rattle.std.specs.Option.{option_copied};
+ghost use Rattle.std.specs.Option.{is_none, option_copied};
 ghost use Rattle.mk_read.specs.Files.{IfFits, Keeps};
 ghost use Rattle.mk_core.specs.Answer.{NotesFailure};
 ghost use Rattle.mk_core.specs.Judging.{recorded};
@@ -108,10 +108,10 @@ impl<'m> Ready<'m> {
 
 /// The build inputs: those of the footprint file, with the makefile's texts and the names that its
 /// reading passed over.
-fn setting_of(alloc: Global, makefile: &Makefile, book: Book) -> Result<Setting, AllocError>
-    ensures { IfOk result (λ setting. setting ≡ setting_of makefile.now book) }
+fn setting_of(alloc: Global, makefile: &Makefile, footprints: Book) -> Result<Setting, AllocError>
+    ensures { IfOk result (λ setting. setting ≡ setting_of makefile.now footprints) }
 {
-    Setting::new(alloc, book, makefile.texts(), makefile.passed_over())
+    Setting::new(alloc, footprints, makefile.texts(), makefile.passed_over())
 }
 
 /// Reads the footprints for these goals; without a footprint file they are empty. The errors are
@@ -141,38 +141,41 @@ fn book_for<F: Files>(
 const FEW_READS: usize = 65_536;
 
 /// Whether the footprints have at most `FEW_READS` reads.
-fn reads_few(book: &Book) -> bool {
+fn reads_few(footprints: &Book) -> bool {
     let mut reads: usize = 0;
-    for record in &book.records {
+    for record in &footprints.records {
         reads = reads.saturating_add(record.reads.len());
     }
     reads <= FEW_READS
 }
 
-/// The prepared request with these footprints.
+/// The prepared request with these goals and footprints.
 fn ready_by<'m>(
     alloc: Global,
-    any_leaf: bool,
-    leaving: LeakPolicy,
+    request: &Request,
     table: &'m RuleTable<'m>,
     goals: Goals,
-    book: Book,
+    footprints: Book,
 ) -> Result<Ready<'m>, AllocError>
     ensures { IfOk result (λ ready. ready ≡
         record {
           makefile = table.now;
           goals = goals;
-          setting = setting_of table.now book;
-          any_leaf = any_leaf;
+          setting = setting_of table.now footprints;
+          any_leaf = is_none request.now.book;
         }) }
 {
-    let setting = setting_of(alloc, table.makefile(), book)?;
+    let leaving = LeakPolicy {
+        is_asked: request.leaves_memory,
+        reads_few: reads_few(&footprints),
+    };
+    let setting = setting_of(alloc, table.makefile(), footprints)?;
     let more = NameTable::new(alloc, Vec::new(alloc))?;
     Ok(Ready {
         table,
         goals,
         setting,
-        any_leaf,
+        any_leaf: request.book.is_none(),
         more,
         leaving,
     })
@@ -193,12 +196,7 @@ fn ready_with<'m, F: Files>(
     ensures noted { NotesFailure (F.failed files.old) (F.failed files.new) result }
 {
     let book = book_for(alloc, files, request.book.as_ref(), &goals)?;
-    let any_leaf = request.book.is_none();
-    let leaving = LeakPolicy {
-        is_asked: request.leaves_memory,
-        reads_few: reads_few(&book),
-    };
-    let ready = ready_by(alloc, any_leaf, leaving, table, goals, book)?;
+    let ready = ready_by(alloc, request, table, goals, book)?;
     Ok(ready)
 }
 

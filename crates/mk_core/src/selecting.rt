@@ -14,10 +14,10 @@ use std::alloc::Global;
 pub(crate) fn selected(
     alloc: Global,
     ready: &Ready<'_>,
-    there: &Exists<'_>,
+    exists: &Exists<'_>,
 ) -> Result<Graph, InferFault>
-    ensures { Selected there.now ready.now result }
+    ensures { Selected exists.now ready.now result }
 {
-    let choices = Choices::new(alloc, ready.table(), there)?;
+    let choices = Choices::new(alloc, ready.table(), exists)?;
     select(alloc, &choices, ready.goals())
 }

@@ -10,7 +10,7 @@ use Rattle.mk_find.specs.declared.finding.Finding.{Finding}
 use Rattle.mk_core_json.specs.FindingValue.{finding_value, head_text, kind_of, names_of}
 
 -- part by part
-all_parts : (number group : ℕ) (found : Finding) → compact_text (finding_value number group found)
+pub all_parts : (number group : ℕ) (found : Finding) → compact_text (finding_value number group found)
     ≡ codes "{\"group\":" ++ (decimal group ++ (codes ",\"kind\":" ++ (compact_text (string (kind_of found)) ++ (codes ",\"names\":" ++ (compact_text (names_value (names_of found))
     ++ (codes ",\"number\":" ++ (decimal number ++ (codes ",\"text\":" ++ (compact_text (string (codes "no " ++ text found)) ++ codes "}")))))))))
 unfolding serde_json_on_literals digits

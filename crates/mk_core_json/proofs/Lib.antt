@@ -3,6 +3,7 @@ mod AnswerTexts
 mod NoTexts
 mod FindingLists
 mod FindingTexts
+mod PlainFindings
 mod PlainTexts
 mod SinceTexts
 mod YesInJson

@@ -10,10 +10,10 @@ use Rattle.serde_json.proofs.OnLiterals.{serde_json_on_literals}
 use Rattle.mk_find.specs.declared.finding.Finding.{Finding}
 use Rattle.mk_cert_text.proofs.WrittenTexts.{names_have_no_float}
 use Rattle.mk_read.specs.Reading.{Makefile}
-use Rattle.mk_sentences.specs.Claims.{Claim}
+use Rattle.mk_claims.specs.Claims.{Claim}
 use Rattle.mk_sentences.specs.Counts.{counts_of}
-use Rattle.mk_sentences.specs.Grouping.{Group, groups}
-use Rattle.mk_sentences.specs.Joining.{joined}
+use Rattle.mk_claims.specs.Grouping.{Group, groups}
+use Rattle.mk_claims.specs.Joining.{joined}
 use Rattle.mk_sentences.specs.Places.{rule_shown}
 use Rattle.mk_sentences.specs.Text.{shown_name}
 use Rattle.mk_core_json.specs.FindingValue.{finding_values}

@@ -24,7 +24,7 @@ byte_stays b p =
     rw (no_quote, no_slash, not_8, not_12, not_10, not_13, not_9, not_low) refl
 
 -- a text of such bytes
-text_stays : (text : List ℕ) → list_all is_plain text ≡ true → escape text ≡ text
+pub text_stays : (text : List ℕ) → list_all is_plain text ≡ true → escape text ≡ text
 text_stays [] p = refl
 text_stays (b ∷ text) p =
     let parts = and_parts (is_plain b) (list_all is_plain text) p in

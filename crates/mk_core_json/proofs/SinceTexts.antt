@@ -1,5 +1,6 @@
 -- The texts of the answers of `since` by their parts.
-use Rattle.std.proofs.Common.{◌≡◌, ◌∙◌, ℕ, List, [], ◌∷◌, ◌++◌, false, codes, map, refl, sym, ap, append_assoc}
+use Rattle.std.proofs.Common.{◌≡◌, ◌∙◌, ℕ, List, ◌++◌, Bool, false, codes, map, refl, sym, ap, append_assoc}
+use Rattle.std.specs.Prelude.{◌||◌}
 use Rattle.std.specs.Fmt.{digits}
 use Rattle.serde_json.specs.Data.{string}
 use Rattle.serde_json.specs.View.{items_of}
@@ -13,9 +14,10 @@ use Rattle.mk_core_sentences.specs.RefusedLine.{in_file, place_of}
 use Rattle.mk_core_text.specs.declared.fault.Fault.{Fault}
 use Rattle.mk_read_files.specs.declared.cause.Cause.{Cause}
 use Rattle.mk_core_json.specs.AnswerValue.{old_refusal_value}
+use Rattle.mk_core_json.specs.FaultWords.{fault_argument, fault_names, fault_word}
 use Rattle.mk_core_json.specs.FindingValue.{kind_of, names_of}
 use Rattle.mk_core_json.specs.SinceValues.{named_value, told_value, told_values}
-use Rattle.mk_core_json.proofs.AnswerTexts.{place_has_no_float}
+use Rattle.mk_core_json.proofs.AnswerTexts.{argument_has_no_float, place_has_no_float, word_has_no_float}
 
 -- the names have no float
 pub named_has_no_float : (files : List (List ℕ)) → has_float (named_value files) ≡ false
@@ -23,7 +25,12 @@ named_has_no_float files = rw (names_have_no_float files) refl
 
 -- nor has a refusal
 pub old_refusal_has_no_float : (fault : Fault) (cause : Cause) → has_float (old_refusal_value fault cause) ≡ false
-old_refusal_has_no_float fault cause = rw (place_has_no_float (in_file (place_of fault))) refl
+old_refusal_has_no_float fault cause =
+    none_has _ _ _ _ (argument_has_no_float (fault_argument fault)) (names_have_no_float (fault_names fault))
+    (place_has_no_float (in_file (place_of fault))) (word_has_no_float (fault_word fault))
+  where
+    none_has : (a n p w : Bool) → a ≡ false → n ≡ false → p ≡ false → w ≡ false → (a || (false || (false || (false || (n || (false || (p || (false || (false || (false || (w || false))))))))))) ≡ false
+    none_has a n p w e f g h = rw (e, f, g, h) refl
 
 -- a finding
 told_parts : (found : Finding) → compact_text (told_value found)

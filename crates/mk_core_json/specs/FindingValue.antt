@@ -54,6 +54,14 @@ head_text group kind =
     codes "{\"group\":" ++ (decimal group ++ (codes ",\"kind\":" ++ (compact_text (string kind) ++
     codes ",\"names\":")))
 
+-- What stands in the text of a finding of this kind between the number of its group and its names.
+abbrev pub key_text : (kind : List ℕ) → List ℕ
+key_text kind = codes ",\"kind\":\"" ++ (kind ++ codes "\",\"names\":[\"")
+
+-- What stands between the number of a finding of this kind and the names in its line.
+abbrev pub line_text : (kind : List ℕ) → List ℕ
+line_text kind = codes ",\"text\":\"no " ++ (kind ++ codes " ")
+
 -- The findings, numbered from here on, with the numbers of their groups.
 abbrev pub finding_values : ℕ → List Finding → (groups : List ℕ) → List Data
 finding_values place [] groups = []

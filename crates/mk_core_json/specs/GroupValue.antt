@@ -9,13 +9,13 @@ use Rattle.mk_read.specs.Reading.{Makefile}
 use Rattle.mk_repair.specs.Lines.{line_text}
 use Rattle.mk_sentences.specs.Adding.{lines_of}
 use Rattle.mk_sentences.specs.Advice.{advice}
-use Rattle.mk_sentences.specs.Grouping.{Group}
+use Rattle.mk_claims.specs.Grouping.{Group}
 use Rattle.mk_sentences.specs.Places.{rule_shown}
 use Rattle.mk_sentences.specs.Sentences.{sentence}
 use Rattle.mk_sentences.specs.Text.{shown_name}
-use Rattle.mk_sentences.specs.Topics.{kind_word}
-use Rattle.mk_sentences.specs.declared.topic.Kind.{Kind}
-use Rattle.mk_sentences.specs.declared.topic.Kind.TheVariants.{NoRecord, OtherCommands, VaryingCommands, NoTarget, TwoWriters, Loose, OwnPrerequisite, UnreachedRead, OutputRace, OutputStale, RaceAndStale, OutputRaceAndStale}
+use Rattle.mk_claims.specs.Topics.{kind_word}
+use Rattle.mk_claims.specs.declared.topic.Kind.{Kind}
+use Rattle.mk_claims.specs.declared.topic.Kind.TheVariants.{NoRecord, OtherCommands, VaryingCommands, NoTarget, TwoWriters, Loose, OwnPrerequisite, UnreachedRead, OutputRace, OutputStale, RaceAndStale, OutputRaceAndStale}
 use Rattle.mk_core_json.specs.AnswerValue.{place_value}
 
 -- The targets that a group is about: the two recipes that write the files, else its names.

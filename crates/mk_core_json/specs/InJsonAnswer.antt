@@ -4,8 +4,8 @@ use Rattle.std.specs.List.{list_any}
 use Rattle.mk_subject.specs.Subject.{Subject}
 use Rattle.mk_find.specs.declared.finding.Finding.{Finding}
 use Rattle.mk_find.specs.Findings.{AreHidden}
-use Rattle.mk_sentences.specs.Claims.{Claim}
-use Rattle.mk_sentences.specs.Text.{AreShown, all_claims, is_static}
+use Rattle.mk_claims.specs.Claims.{Claim}
+use Rattle.mk_claims.specs.Shown.{AreShown, all_claims, is_static}
 use Rattle.mk_core_text.specs.declared.fault.Fault.{Fault}
 use Rattle.mk_core_text.specs.declared.verdict.Verdict.{Verdict}
 use Rattle.mk_core_text.specs.declared.verdict.Verdict.TheVariants as verdict

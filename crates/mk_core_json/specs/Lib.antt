@@ -1,7 +1,9 @@
 pub mod AnswerValue
 pub mod FaultNames
+pub mod FaultWords
 pub mod FindingValue
 pub mod GroupValue
+pub mod GroupView
 pub mod InJsonAnswer
 pub mod NotRead
 pub mod NoValue

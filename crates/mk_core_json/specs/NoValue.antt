@@ -6,14 +6,14 @@ use Rattle.serde_json.specs.Written.{compact_text, items_text}
 use Rattle.mk_find.specs.declared.finding.Finding.{Finding}
 use Rattle.mk_json.specs.Kinds.{array_of, object_of}
 use Rattle.mk_read.specs.Reading.{Makefile}
-use Rattle.mk_sentences.specs.Claims.{Claim}
+use Rattle.mk_claims.specs.Claims.{Claim}
 use Rattle.mk_sentences.specs.Counts.{counts_of}
-use Rattle.mk_sentences.specs.Grouping.{Group, groups, rows}
-use Rattle.mk_sentences.specs.Joining.{joined, joined_claim}
+use Rattle.mk_claims.specs.Grouping.{Group, groups, rows}
+use Rattle.mk_claims.specs.Joining.{joined, joined_claim}
 use Rattle.mk_sentences.specs.declared.counts.Counts.{Counts}
 use Rattle.mk_core_json.specs.FindingValue.{finding_values}
 use Rattle.mk_core_json.specs.GroupValue.{group_value}
-use Rattle.mk_sentences.specs.Numbering.{group_number}
+use Rattle.mk_claims.specs.Numbering.{group_number}
 
 -- How many findings, groups and lines to add there are, and how many of the findings these mend.
 abbrev pub counts_value : Counts → Data

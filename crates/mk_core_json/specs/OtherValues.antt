@@ -1,7 +1,7 @@
 -- The JSON values of the answers of `graph`, `verify`, `simulate` and `repair`.
 use Rattle.std.specs.Prelude.{ℕ, List, [], ◌∷◌, codes, Option, None, Some}
 use Rattle.std.specs.Str.Lossy.{utf8_lossy}
-use Rattle.serde_json.specs.Data.{Data, number, string, unsigned}
+use Rattle.serde_json.specs.Data.{Data, null, number, string, unsigned}
 use Rattle.mk_json.specs.Kinds.{object_of}
 use Rattle.mk_world.specs.declared.fault.StepFault.{StepFault}
 use Rattle.mk_core.specs.Simulation.{Simulation}
@@ -16,7 +16,8 @@ printed_value text =
 
 -- The answer of `simulate`: what the lines of the plan print; where a line is refused, the files
 -- that are left, the number of that line, and the fault in words and with numbers.
-abbrev pub run_value : (printed : List ℕ) → (refused : Option (ℕ × StepFault)) → (left : List ℕ) → Data
+abbrev pub run_value : (printed : List ℕ) → (refused : Option (ℕ × StepFault)) →
+    (left : List ℕ) → Data
 run_value printed None left =
     object_of ((codes "answer", string (codes "yes")) ∷
     (codes "format", number (unsigned 1)) ∷
@@ -37,10 +38,16 @@ mended_value lines =
     (codes "format", number (unsigned 1)) ∷
     (codes "lines", string (utf8_lossy lines)) ∷ [])
 
+-- The text of the lines for a part of the findings, or null where there are none.
+abbrev pub part_value : List ℕ → Data
+part_value [] = null
+part_value (byte ∷ rest) = string (utf8_lossy (byte ∷ rest))
+
 -- The answer of `repair` where nothing mends the makefile, with what is said on standard error
--- without `--json`.
-abbrev pub unmended_value : List ℕ → Data
-unmended_value reason =
+-- without `--json`, and what `--part` prints then.
+abbrev pub unmended_value : (reason part : List ℕ) → Data
+unmended_value reason part =
     object_of ((codes "answer", string (codes "no")) ∷
     (codes "format", number (unsigned 1)) ∷
+    (codes "part", part_value part) ∷
     (codes "reason", string (utf8_lossy reason)) ∷ [])

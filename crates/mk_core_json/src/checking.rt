@@ -12,11 +12,11 @@ ghost use Rattle.mk_core_json.specs.NotRead.{in_json_not_read};
 
 use crate::no::no_text;
 use crate::yes::yes_text;
+use mk_claims::has_static;
 use mk_core::laws::yes_is_right;
 use mk_core::{Fault, Judge, Request, Verdict, answer_judged, drop_or_leak, verdict_of};
 use mk_find::{Finding, hidden_findings};
 use mk_read_files::Files;
-use mk_sentences::has_static;
 use mk_subject::Subject;
 use std::alloc::{AllocError, Global};
 

@@ -15,8 +15,8 @@ use mk_find::Finding;
 use serde_json::{Value, json};
 use std::alloc::{AllocError, Global};
 
-/// Makes the JSON value of these files.
-fn files_value(alloc: Global, files: &[Name]) -> Result<Value, AllocError>
+/// Makes the JSON value of these files. The only error is out of memory.
+pub fn files_value(alloc: Global, files: &[Name]) -> Result<Value, AllocError>
     ensures { IfOk result (λ value. view value ≡ names_value files.now) }
 {
     let mut texts = Vec::with_capacity(alloc, files.len())?;

@@ -11,62 +11,71 @@ ghost use Rattle.mk_repair.specs.Lines.{line_text};
 ghost use Rattle.mk_repair.specs.Rows.{names_view};
 ghost use Rattle.mk_sentences.specs.Adding.{lines_of};
 ghost use Rattle.mk_sentences.specs.Advice.{advice};
-ghost use Rattle.mk_sentences.specs.Grouping.{group_of};
+ghost use Rattle.mk_claims.specs.Grouping.{group_of};
 ghost use Rattle.mk_sentences.specs.Places.{rule_shown};
 ghost use Rattle.mk_sentences.specs.Sentences.{sentence};
-ghost use Rattle.mk_sentences.specs.Tables.{groups_view};
-ghost use Rattle.mk_sentences.specs.Topics.{topic_view};
+ghost use Rattle.mk_claims.specs.Tables.{groups_view};
+ghost use Rattle.mk_claims.specs.Topics.{topic_view};
 ghost use Rattle.mk_core_json.specs.AnswerValue.{place_value};
+ghost use Rattle.mk_core_json.specs.GroupView.{group_view};
 ghost use Rattle.mk_core_json.specs.GroupValue.{added_value, also_of, files_of, first_word, group_value, targets_of, to_do_value, writers_of};
 
 use crate::names::names_value;
 use crate::writing::{push_comma, push_value};
-use mk_sentences::{
-    Groups, Kind, Places, Topic, kind_word, push_advice, push_lines, push_sentence, shown_name,
-};
+use mk_claims::{Groups, Kind, Topic, kind_word};
+use mk_sentences::{Places, push_advice, push_lines, push_sentence, shown_name};
 use serde_json::{Value, json};
 use std::alloc::{AllocError, Global};
 
+/// A group of findings, as the table of groups holds it.
+#[derive(Clone, Copy, Drop)]
+struct Group<'g> {
+    /// What its findings have in common.
+    topic: &'g Topic<'g>,
+    /// The names that they are about.
+    who: &'g [&'g str],
+    /// The files that they are about.
+    what: &'g [&'g str],
+}
+
 /// Makes the JSON value of the targets that a group is about.
-fn targets_value(alloc: Global, topic: &Topic<'_>, who: &[&str]) -> Result<Value, AllocError>
+fn targets_value(alloc: Global, group: Group<'_>) -> Result<Value, AllocError>
     ensures { IfOk result (λ value. view value ≡ names_value
-        (targets_of (topic_view topic.now).kind (topic_view topic.now).first
-        (topic_view topic.now).second (names_view who.now))) }
+        (targets_of (group_view group.entry).topic.kind (group_view group.entry).topic.first
+        (group_view group.entry).topic.second (group_view group.entry).who)) }
 {
+    let topic = group.topic;
     match topic.kind {
         Kind::TwoWriters => names_value(alloc, &[topic.first, topic.second]),
-        _ => names_value(alloc, who),
+        _ => names_value(alloc, group.who),
     }
 }
 
 /// Makes the JSON value of the files that a group is about.
-fn files_value(
-    alloc: Global,
-    topic: &Topic<'_>,
-    who: &[&str],
-    what: &[&str],
-) -> Result<Value, AllocError>
+fn files_value(alloc: Global, group: Group<'_>) -> Result<Value, AllocError>
     ensures { IfOk result (λ value. view value ≡ names_value
-        (files_of (topic_view topic.now).kind (names_view who.now) (names_view what.now))) }
+        (files_of (group_view group.entry).topic.kind (group_view group.entry).who
+        (group_view group.entry).what)) }
 {
-    match topic.kind {
-        Kind::TwoWriters | Kind::Loose | Kind::OwnPrerequisite => names_value(alloc, who),
+    match group.topic.kind {
+        Kind::TwoWriters | Kind::Loose | Kind::OwnPrerequisite => names_value(alloc, group.who),
         Kind::NoRecord | Kind::OtherCommands | Kind::VaryingCommands | Kind::NoTarget =>
             names_value(alloc, &[]),
-        _ => names_value(alloc, what),
+        _ => names_value(alloc, group.what),
     }
 }
 
 /// Makes the JSON value of the recipes that write the files of a group, where its sentence names
 /// them.
-fn writers_value(alloc: Global, topic: &Topic<'_>, what: &[&str]) -> Result<Value, AllocError>
+fn writers_value(alloc: Global, group: Group<'_>) -> Result<Value, AllocError>
     ensures { IfOk result (λ value. view value ≡ names_value
-        (writers_of (topic_view topic.now).kind (topic_view topic.now).first
-        (topic_view topic.now).second (names_view what.now))) }
+        (writers_of (group_view group.entry).topic.kind (group_view group.entry).topic.first
+        (group_view group.entry).topic.second (group_view group.entry).what)) }
 {
+    let topic = group.topic;
     match topic.kind {
         Kind::TwoWriters => names_value(alloc, &[topic.first, topic.second]),
-        Kind::Loose | Kind::OwnPrerequisite => names_value(alloc, what),
+        Kind::Loose | Kind::OwnPrerequisite => names_value(alloc, group.what),
         Kind::OutputRace | Kind::OutputStale | Kind::OutputRaceAndStale | Kind::UnreachedRead =>
             names_value(alloc, &[topic.first]),
         _ => names_value(alloc, &[]),
@@ -94,44 +103,26 @@ fn also_value(alloc: Global, kind: Kind) -> Result<Value, AllocError>
 }
 
 /// Makes the JSON value of the lines that mend a group.
-fn added_value(
-    alloc: Global,
-    topic: &Topic<'_>,
-    who: &[&str],
-    what: &[&str],
-) -> Result<Value, AllocError>
-    ensures { IfOk result (λ value. view value ≡ added_value (record {
-      topic = topic_view topic.now;
-      what = names_view what.now;
-      who = names_view who.now;
-    })) }
+fn added_value(alloc: Global, group: Group<'_>) -> Result<Value, AllocError>
+    ensures { IfOk result (λ value. view value ≡ added_value (group_view group.entry)) }
 {
-    if !topic.has_line {
+    if !group.topic.has_line {
         return Ok(Value::Null);
     }
     let mut text = String::new(alloc);
-    push_lines(alloc, &mut text, topic, who, what)?;
+    push_lines(alloc, &mut text, group.topic, group.who, group.what)?;
     Ok(Value::String(text))
 }
 
 /// Makes the JSON value of what to do about a group that no line mends.
-fn to_do_value(
-    alloc: Global,
-    topic: &Topic<'_>,
-    who: &[&str],
-    what: &[&str],
-) -> Result<Value, AllocError>
-    ensures { IfOk result (λ value. view value ≡ to_do_value (record {
-      topic = topic_view topic.now;
-      what = names_view what.now;
-      who = names_view who.now;
-    })) }
+fn to_do_value(alloc: Global, group: Group<'_>) -> Result<Value, AllocError>
+    ensures { IfOk result (λ value. view value ≡ to_do_value (group_view group.entry)) }
 {
-    if topic.has_line {
+    if group.topic.has_line {
         return Ok(Value::Null);
     }
     let mut text = String::new(alloc);
-    push_advice(alloc, &mut text, topic, who, what)?;
+    push_advice(alloc, &mut text, group.topic, group.who, group.what)?;
     Ok(Value::String(text))
 }
 
@@ -152,48 +143,34 @@ fn shown_value(alloc: Global, places: &Places<'_>, name: &str) -> Result<Value, 
 }
 
 /// The sentence of a group.
-fn sentence_of(
-    alloc: Global,
-    topic: &Topic<'_>,
-    who: &[&str],
-    what: &[&str],
-) -> Result<String, AllocError>
+fn sentence_of(alloc: Global, group: Group<'_>) -> Result<String, AllocError>
     ensures { IfOk result (λ text. string_bytes text ≡
-        sentence (topic_view topic.now) (names_view who.now) (names_view what.now)) }
+        sentence (group_view group.entry).topic (group_view group.entry).who
+        (group_view group.entry).what) }
 {
     let mut text = String::new(alloc);
-    push_sentence(alloc, &mut text, topic, who, what)?;
+    push_sentence(alloc, &mut text, group.topic, group.who, group.what)?;
     Ok(text)
 }
 
 /// Makes the JSON value of a group.
-fn group_value(
-    alloc: Global,
-    places: &Places<'_>,
-    topic: &Topic<'_>,
-    who: &[&str],
-    what: &[&str],
-) -> Result<Value, AllocError>
-    ensures { IfOk result (λ value. view value ≡ group_value places.now (record {
-      topic = topic_view topic.now;
-      what = names_view what.now;
-      who = names_view who.now;
-    })) }
+fn group_value(alloc: Global, places: &Places<'_>, group: Group<'_>) -> Result<Value, AllocError>
+    ensures { IfOk result (λ value. view value ≡ group_value places.now (group_view group.entry)) }
 {
-    let added = added_value(alloc, topic, who, what)?;
-    let also = also_value(alloc, topic.kind)?;
-    let to_do = to_do_value(alloc, topic, who, what)?;
-    let files = files_value(alloc, topic, who, what)?;
-    let place = shown_value(alloc, places, shown_name(topic, who))?;
-    let sentence = sentence_of(alloc, topic, who, what)?;
-    let targets = targets_value(alloc, topic, who)?;
-    let writers = writers_value(alloc, topic, what)?;
+    let added = added_value(alloc, group)?;
+    let also = also_value(alloc, group.topic.kind)?;
+    let to_do = to_do_value(alloc, group)?;
+    let files = files_value(alloc, group)?;
+    let place = shown_value(alloc, places, shown_name(group.topic, group.who))?;
+    let sentence = sentence_of(alloc, group)?;
+    let targets = targets_value(alloc, group)?;
+    let writers = writers_value(alloc, group)?;
     json!(in alloc; {
         "add": added,
         "also": also,
         "do": to_do,
         "files": files,
-        "kind": first_word(topic.kind),
+        "kind": first_word(group.topic.kind),
         "place": place,
         "sentence": sentence.as_str(),
         "targets": targets,
@@ -206,18 +183,12 @@ fn push_group(
     alloc: Global,
     out: &mut String,
     places: &Places<'_>,
-    topic: &Topic<'_>,
-    who: &[&str],
-    what: &[&str],
+    group: Group<'_>,
 ) -> Result<(), AllocError>
     ensures { OnOk result (string_bytes out.new ≡ string_bytes out.old ++ compact_text
-        (group_value places.now (record {
-          topic = topic_view topic.now;
-          what = names_view what.now;
-          who = names_view who.now;
-        }))) }
+        (group_value places.now (group_view group.entry))) }
 {
-    let value = group_value(alloc, places, topic, who, what)?;
+    let value = group_value(alloc, places, group)?;
     push_value(alloc, out, &value)
 }
 
@@ -239,7 +210,12 @@ pub fn push_groups(
             continue;
         };
         push_comma(out, later)?;
-        push_group(alloc, out, places, &key.topic, who, key.what)?;
+        let group = Group {
+            topic: &key.topic,
+            who,
+            what: key.what,
+        };
+        push_group(alloc, out, places, group)?;
         later = true;
     }
     out.push_str("]")

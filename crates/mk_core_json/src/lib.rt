@@ -4,6 +4,7 @@
 mod checking;
 mod comparing;
 mod fault_name;
+mod fault_words;
 mod finding;
 mod group;
 mod names;

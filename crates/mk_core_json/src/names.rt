@@ -1,13 +1,15 @@
-//! Makes JSON values of names.
+//! Writes names as JSON.
 
-ghost use Rattle.std.specs.Prelude.{◌≡◌, ◌++◌, IfOk, OnOk};
+ghost use Rattle.std.specs.Prelude.{◌≡◌, ◌++◌, false, IfOk, OnOk};
+ghost use Rattle.std.specs.List.{list_all};
 ghost use Rattle.std.specs.String.{string_bytes};
 ghost use Rattle.serde_json.specs.View.{view};
 ghost use Rattle.serde_json.specs.Written.{compact_text};
 ghost use Rattle.mk_cert_text.specs.Writing.{names_value};
 ghost use Rattle.mk_repair.specs.Rows.{names_view};
+ghost use Rattle.mk_core_json.specs.PlainText.{is_plain, put_between};
 
-use crate::writing::{push_comma, push_text};
+use crate::writing::{is_plain_text, push_comma, push_text};
 use serde_json::Value;
 use std::alloc::{AllocError, Global};
 
@@ -35,4 +37,32 @@ pub fn push_names(alloc: Global, out: &mut String, names: &[&str]) -> Result<(),
         later = true;
     }
     out.push_str("]")
+}
+
+/// Whether the names stand in a JSON text as they are.
+pub fn are_plain(names: &[&str]) -> bool
+    ensures { result ≡ list_all (list_all is_plain) (names_view names.now) }
+{
+    for name in names {
+        if !is_plain_text(name) {
+            return false;
+        }
+    }
+    true
+}
+
+/// Appends the names as they are, with this text between them. The only error is out of memory.
+pub fn push_between(out: &mut String, between: &str, names: &[&str]) -> Result<(), AllocError>
+    ensures { OnOk result (string_bytes out.new ≡
+        string_bytes out.old ++ put_between between.now false (names_view names.now)) }
+{
+    let mut later = false;
+    for name in names {
+        if later {
+            out.push_str(between)?;
+        }
+        out.push_str(name)?;
+        later = true;
+    }
+    Ok(())
 }

@@ -5,22 +5,23 @@ ghost use Rattle.std.specs.String.{string_bytes};
 ghost use Rattle.serde_json.specs.View.{items_of, view};
 ghost use Rattle.serde_json.specs.Written.{compact_text, items_text};
 ghost use Rattle.mk_repair.specs.Gathering.{gathered};
-ghost use Rattle.mk_sentences.specs.Claims.{claim_view};
-ghost use Rattle.mk_sentences.specs.Grouping.{group_key_eq, group_of, group_pair, groups, rows};
-ghost use Rattle.mk_sentences.specs.Joining.{JoinsAlike, joined};
-ghost use Rattle.mk_sentences.specs.Tables.{groups_view, rows_view};
+ghost use Rattle.mk_claims.specs.Claims.{claim_view};
+ghost use Rattle.mk_claims.specs.Grouping.{group_key_eq, group_of, group_pair, groups, rows};
+ghost use Rattle.mk_claims.specs.Joining.{JoinsAlike, joined};
+ghost use Rattle.mk_claims.specs.Tables.{groups_view, rows_view};
 ghost use Rattle.mk_core_json.specs.InJsonAnswer.{ShowsClaims};
 ghost use Rattle.mk_core_json.specs.NoValue.{counts_value, found_text, groups_values, no_value};
 
 use crate::finding::push_findings;
 use crate::group::push_groups;
 use crate::writing::{line_of, push_value};
+use mk_claims::{
+    Claim, ClaimSet, Groups, Rows, all_claims, claim_set, claims_offered, group_numbers, groups_of,
+    joined_rows, offers_of,
+};
 use mk_find::Finding;
 use mk_read::Makefile;
-use mk_sentences::{
-    Claim, ClaimSet, Counts, Groups, Places, Rows, all_claims, claim_set, claims_offered,
-    counts_of, group_numbers, groups_of, joined_rows, offers_of,
-};
+use mk_sentences::{Counts, Places, counts_of};
 use mk_subject::Subject;
 use serde_json::{Value, json};
 use std::alloc::{AllocError, Global};
@@ -61,25 +62,35 @@ fn push_placed(
     push_groups(alloc, text, &places, groups)
 }
 
-/// Appends the texts of the counts, of the findings, and of the groups of what these claim, given
-/// the set and the rows of these claims.
+/// Claims, and what joins those of a race with those of a stale read.
+#[derive(Drop)]
+struct JoinedClaims<'c> {
+    /// The claims.
+    list: &'c [Claim<'c>],
+    /// The set of them, which finds the other claim of a pair.
+    set: ClaimSet<'c>,
+    /// The rows of the joined claims.
+    rows: Rows<'c>,
+}
+
+/// Appends the texts of the counts, of the findings, and of the groups of what these claim.
 fn push_grouped(
     alloc: Global,
     text: &mut String,
     makefile: &Makefile,
     found: &[Finding],
-    claims: &[Claim<'_>],
-    set: &ClaimSet<'_>,
-    table: &Rows<'_>,
+    claims: &JoinedClaims<'_>,
 ) -> Result<(), AllocError>
-    requires set { JoinsAlike set.now (map claim_view claims.now) }
-    requires rows { rows_view table.now.entries ≡ rows (joined (map claim_view claims.now)) }
-    ensures { OnOk result (string_bytes text.new ≡
-        string_bytes text.old ++ found_text makefile.now found.now (map claim_view claims.now)) }
+    requires set { JoinsAlike claims.now.set (map claim_view claims.now.list.now) }
+    requires rows { rows_view claims.now.rows.entries ≡
+        rows (joined (map claim_view claims.now.list.now)) }
+    ensures { OnOk result (string_bytes text.new ≡ string_bytes text.old ++
+        found_text makefile.now found.now (map claim_view claims.now.list.now)) }
 {
-    let groups = groups_of(alloc, table)?;
-    let counts = counts_of(alloc, claims, &groups)?;
-    let numbers = group_numbers(alloc, claims, set, table, &groups)?;
+    let list = claims.list;
+    let groups = groups_of(alloc, &claims.rows)?;
+    let counts = counts_of(alloc, list, &groups)?;
+    let numbers = group_numbers(alloc, list, &claims.set, &claims.rows, &groups)?;
     push_counts(alloc, text, &counts)?;
     text.push_str(",\"findings\":[")?;
     push_findings(alloc, text, found, numbers.as_slice())?;
@@ -100,7 +111,12 @@ fn push_found(
 {
     let set = claim_set(alloc, claims)?;
     let rows = joined_rows(alloc, &set, claims)?;
-    push_grouped(alloc, text, makefile, found, claims, &set, &rows)
+    let joined = JoinedClaims {
+        list: claims,
+        set,
+        rows,
+    };
+    push_grouped(alloc, text, makefile, found, &joined)
 }
 
 /// Appends the texts of the groups of rows, separated by commas, and the closing bracket.

@@ -7,7 +7,7 @@ ghost use Rattle.serde_json.specs.View.{view};
 ghost use Rattle.serde_json.specs.Written.{compact_text, has_float};
 ghost use Rattle.mk_core_text.specs.FaultText.{step_fault_text, step_fault_words};
 ghost use Rattle.mk_core_json.specs.AnswerValue.{answer_text};
-ghost use Rattle.mk_core_json.specs.OtherValues.{mended_value, printed_value, run_value, unmended_value};
+ghost use Rattle.mk_core_json.specs.OtherValues.{mended_value, part_value, printed_value, run_value, unmended_value};
 
 use crate::writing::{line_of, push_value};
 use mk_core::Simulation;
@@ -166,23 +166,38 @@ pub fn mended_in_json(alloc: Global, lines: &[u8]) -> Result<Vec<u8>, AllocError
     value_line(alloc, &value)
 }
 
-/// Makes the JSON value of why `repair` has no lines.
-fn unmended_value(alloc: Global, reason: &[u8]) -> Result<Value, AllocError>
-    ensures { IfOk result (λ value. view value ≡ unmended_value reason.now) }
+/// Makes the JSON value of the text of the lines for a part of the findings; null where there are
+/// none.
+fn part_value(alloc: Global, part: &[u8]) -> Result<Value, AllocError>
+    ensures { IfOk result (λ value. view value ≡ part_value part.now) }
+{
+    if part.is_empty() {
+        return Ok(Value::Null);
+    }
+    Ok(Value::String(String::from_utf8_lossy(alloc, part)?))
+}
+
+/// Makes the JSON value of why `repair` has no lines, and of those for a part of the findings.
+fn unmended_value(alloc: Global, reason: &[u8], part: &[u8]) -> Result<Value, AllocError>
+    ensures { IfOk result (λ value. view value ≡ unmended_value reason.now part.now) }
 {
     let reason = String::from_utf8_lossy(alloc, reason)?;
+    let part = part_value(alloc, part)?;
     json!(in alloc; {
         "answer": "no",
         "format": 1u32,
+        "part": part,
         "reason": reason.as_str()
     })
 }
 
 /// The answer of `repair` where nothing mends the makefile, with what is said on standard error
-/// without `--json`. U+FFFD stands for bytes that aren't UTF-8. The only error is out of memory.
-pub fn unmended_in_json(alloc: Global, reason: &[u8]) -> Result<Vec<u8>, AllocError>
-    ensures { IfOk result (λ line. line.items ≡ answer_text (unmended_value reason.now)) }
+/// without `--json`, and the text of the lines for a part of the findings, which is empty where
+/// there are none. U+FFFD stands for bytes that aren't UTF-8. The only error is out of memory.
+pub fn unmended_in_json(alloc: Global, reason: &[u8], part: &[u8]) -> Result<Vec<u8>, AllocError>
+    ensures { IfOk result (λ line. line.items ≡
+        answer_text (unmended_value reason.now part.now)) }
 {
-    let value = unmended_value(alloc, reason)?;
+    let value = unmended_value(alloc, reason, part)?;
     value_line(alloc, &value)
 }

@@ -11,6 +11,7 @@ ghost use Rattle.mk_core_sentences.specs.RefusedLine.{in_file, place_of};
 ghost use Rattle.mk_core_json.specs.AnswerValue.{answer_text, bare_line, line_value, old_refusal_value, place_value, refusal_value};
 
 use crate::fault_name::fault_name;
+use crate::fault_words::{fault_argument_value, fault_names_value, fault_word_value};
 use crate::writing::{line_of, push_value};
 use mk_core::{Fault, fault_text};
 use mk_core_sentences::line_in_file;
@@ -85,19 +86,25 @@ fn refusal_value(
     ensures { IfOk result (λ value. view value ≡ refusal_value fault.now cause line.now) }
 {
     let (number, name) = fault_name(fault);
+    let argument = fault_argument_value(alloc, fault)?;
+    let names = fault_names_value(alloc, fault)?;
+    let word = fault_word_value(alloc, fault)?;
     let source = line_value(alloc, line)?;
     let place = place_value(alloc, fault)?;
     let sentence = sentence_of(alloc, fault, cause)?;
     let text = text_of(alloc, fault)?;
     json!(in alloc; {
         "answer": "refused",
+        "argument": argument,
         "format": 1u32,
         "name": name,
+        "names": names,
         "number": number,
         "place": place,
         "sentence": sentence.as_str(),
         "source": source,
-        "text": text.as_str()
+        "text": text.as_str(),
+        "word": word
     })
 }
 
@@ -124,19 +131,25 @@ fn old_refusal_value(alloc: Global, fault: &Fault, cause: Cause) -> Result<Value
     ensures { IfOk result (λ value. view value ≡ old_refusal_value fault.now cause) }
 {
     let (number, name) = fault_name(fault);
+    let argument = fault_argument_value(alloc, fault)?;
+    let names = fault_names_value(alloc, fault)?;
+    let word = fault_word_value(alloc, fault)?;
     let place = place_value(alloc, fault)?;
     let sentence = sentence_of(alloc, fault, cause)?;
     let text = text_of(alloc, fault)?;
     json!(in alloc; {
         "answer": "refused",
+        "argument": argument,
         "build": "old",
         "format": 1u32,
         "name": name,
+        "names": names,
         "number": number,
         "place": place,
         "sentence": sentence.as_str(),
         "source": null,
-        "text": text.as_str()
+        "text": text.as_str(),
+        "word": word
     })
 }
 

@@ -1,6 +1,7 @@
 //! Writes JSON values.
 
 ghost use Rattle.std.specs.Prelude.{◌≡◌, ◌∷◌, ◌++◌, [], false, IfOk, OnOk};
+ghost use Rattle.std.specs.Fmt.{decimal};
 ghost use Rattle.std.specs.List.{list_all};
 ghost use Rattle.std.specs.String.{string_bytes};
 ghost use Rattle.serde_json.specs.Data.{string};
@@ -8,6 +9,7 @@ ghost use Rattle.serde_json.specs.View.{view};
 ghost use Rattle.serde_json.specs.Written.{comma_if, compact_text, has_float};
 ghost use Rattle.mk_core_json.specs.PlainText.{is_plain};
 
+use itoa::Buffer;
 use serde_json::Value;
 use std::alloc::{AllocError, Global};
 
@@ -40,6 +42,14 @@ pub fn push_comma(text: &mut String, later: bool) -> Result<(), AllocError>
     Ok(())
 }
 
+/// Appends a number. The only error is out of memory.
+pub fn push_number(text: &mut String, number: usize) -> Result<(), AllocError>
+    ensures { OnOk result (string_bytes text.new ≡ string_bytes text.old ++ decimal number) }
+{
+    let mut buffer = Buffer::new();
+    text.push_str(buffer.format(number))
+}
+
 /// Whether the byte stands in a JSON text as it is.
 fn is_plain(byte: u8) -> bool
     ensures { result ≡ is_plain byte }
@@ -48,7 +58,7 @@ fn is_plain(byte: u8) -> bool
 }
 
 /// Whether the text stands in a JSON text as it is.
-fn is_plain_text(text: &str) -> bool
+pub fn is_plain_text(text: &str) -> bool
     ensures { result ≡ list_all is_plain text.now }
 {
     text.as_bytes().iter().all(|byte| is_plain(*byte))

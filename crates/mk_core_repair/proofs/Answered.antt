@@ -1,5 +1,5 @@
 -- The answers of `repair`, from those of its parts.
-use Rattle.std.proofs.Common.{◌≡◌, ℕ, true, true≢false, List, ◌∷◌, ◌++◌, Option, Some, None, Result, Ok, Err, inl, inr, sym, ap, subst, ◌∙◌}
+use Rattle.std.proofs.Common.{◌≡◌, ℕ, true, true≢false, List, ◌∷◌, ◌++◌, Option, Some, None, Result, Ok, Err, inl, inr, sym, ap, subst, ◌∙◌, string_bytes}
 use Rattle.std.specs.Prelude.{IfErr, IfOk}
 use Rattle.mk_foot.specs.Names.{Has}
 use Rattle.mk_read.specs.Files.{IfFits, Told}
@@ -19,8 +19,9 @@ use Rattle.mk_repair.specs.declared.obstacle.Obstacle.{Obstacle}
 use Rattle.mk_core_repair.specs.Amending.{book_names, looked_for, makefile_name, names_known}
 use Rattle.mk_core_repair.specs.Known.{IsReadFault}
 use Rattle.mk_core_repair.specs.Outcome.{Outcome, outcome_of, too_long}
-use Rattle.mk_core_repair.specs.RepairAnswer.{AnswersRepair, IsFirstOf}
-use Rattle.mk_core_repair.specs.Rounds.{AfterFirst, Rounds, max_rounds}
+use Rattle.mk_core_repair.specs.RepairAnswer.{AfterFirst, AnswersRepair, IsFirstOf}
+use Rattle.mk_core_repair.specs.Rounds.{Rounds, max_rounds}
+use Rattle.mk_core_repair.specs.Trial.{Trial, with_part}
 
 -- a failed read of a known file isn't out of memory
 pub read_fault_memory : (names : List (List ℕ)) (fault : Fault) → IsReadFault names fault → is_out_of_memory fault ≡ true → fault ≡ Memory
@@ -61,11 +62,3 @@ module _ (files : Told) (request : Request) where
 pub known_names : (files : Told) (request : Request) (read known table : List (List ℕ)) (own : List ℕ) → known ≡ table → table ≡ own ∷ (looked_for request.makefile ++ (read ++ book_names request.book)) → own ≡ makefile_name files request
     → known ≡ names_known files request read
 known_names files request read known table own k t o = k ∙ (t ∙ ap (λ (n : List ℕ). n ∷ (looked_for request.makefile ++ (read ++ book_names request.book))) o)
-
--- after a no with words and without a cycle the rounds begin
-pub after_words : (names : List (List ℕ)) (files : Told) (request : Request) (verdict : Verdict) (words : Option (List Word)) (path : Option (List (List ℕ))) (stuck : Obstacle) (found : List Finding) (given : List Word) (outcome : Outcome)
-    → verdict ≡ No found → words ≡ Some given → path ≡ None → Rounds max_rounds names files request found given too_long outcome → AfterFirst names files request verdict words path stuck outcome
-after_words names files request verdict words path stuck found given outcome v w p h =
-    subst (λ (x : Verdict). AfterFirst names files request x words path stuck outcome) (sym v)
-    (subst (λ (x : Option (List Word)). AfterFirst names files request (No found) x path stuck outcome) (sym w)
-    (subst (λ (x : Option (List (List ℕ))). AfterFirst names files request (No found) (Some given) x stuck outcome) (sym p) h))

@@ -9,3 +9,4 @@ pub mod Amended
 pub mod Sufficing
 pub mod NeedRows
 mod Joined
+mod Trials

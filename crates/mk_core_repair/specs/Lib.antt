@@ -3,6 +3,7 @@ pub mod Known
 pub mod Survey
 pub mod Outcome
 pub mod Rounds
+pub mod Trial
 pub mod RepairAnswer
 pub mod Views
 pub mod NotRead

@@ -1,5 +1,6 @@
 -- The answer of the command `repair`.
-use Rattle.std.specs.Prelude.{◌≡◌, ◌⊎◌, ℕ, List, [], ◌∷◌, None, Result, Ok, Err}
+use Rattle.std.specs.Prelude.{◌≡◌, ◌⊎◌, ℕ, List, [], ◌∷◌, Option, None, Some, Result, Ok, Err}
+use Rattle.std.specs.String.{string_bytes}
 use Rattle.mk_subject.specs.Subject.{footprints}
 use Rattle.mk_graph.specs.Graph.{Graph, IsGraph}
 use Rattle.mk_build.specs.Right.{AreSound, HaveNoRace}
@@ -10,20 +11,25 @@ use Rattle.mk_read.specs.Files.{Told}
 use Rattle.mk_core_text.specs.declared.fault.Fault.{Fault}
 use Rattle.mk_core_text.specs.declared.fault.Fault.TheVariants.{FileReadFailed}
 use Rattle.mk_core_text.specs.declared.verdict.Verdict.{Verdict}
+use Rattle.mk_core_text.specs.declared.verdict.Verdict.TheVariants.{Yes, No}
 use Rattle.mk_core.specs.declared.request.Request.{Request}
 use Rattle.mk_core.specs.Answer.{Answers}
 use Rattle.mk_core.specs.CheckAnswer.{AnswersCheck, IsYes}
 use Rattle.mk_core.specs.Judging.{AnswersJudged, recorded}
 use Rattle.mk_core.specs.Ready.{Ready, ready_for}
 use Rattle.mk_core.specs.Right.{IsRightFor}
+use Rattle.mk_repair.specs.Word.{Word}
+use Rattle.mk_repair.specs.declared.obstacle.Obstacle.{Obstacle}
 use Rattle.mk_core_repair.specs.declared.outcome.Repair.{Repair}
 use Rattle.mk_core_repair.specs.declared.outcome.Repair.TheVariants as repairs
 use Rattle.mk_core_repair.specs.declared.outcome.Why.TheVariants as whys
 use Rattle.mk_core_repair.specs.declared.surveying.First.{First}
 use Rattle.mk_core_repair.specs.Amending.{amended, names_known}
-use Rattle.mk_core_repair.specs.Outcome.{outcome_of}
-use Rattle.mk_core_repair.specs.Rounds.{AfterFirst}
+use Rattle.mk_core_repair.specs.Outcome.{Outcome, right, unmended, too_long, cycle, outcome_of}
+use Rattle.mk_core_repair.specs.RepairText.{outcome_part}
+use Rattle.mk_core_repair.specs.Rounds.{Rounds, max_rounds}
 use Rattle.mk_core_repair.specs.Survey.{GivesFirst}
+use Rattle.mk_core_repair.specs.Trial.{Trial, with_part}
 
 -- The first judgement gives this survey.
 abbrev pub IsFirstOf : Told → Request → First → Type 0
@@ -34,6 +40,21 @@ abbrev pub IsReadAgain : Told → Request → List ℕ → Type 0
 IsReadAgain files request name =
     (first : First) × IsFirstOf files request first ×
     Has (names_known files request first.survey.files) name
+
+-- What follows the judgement of the makefile as it is, over the files with these names. A yes is
+-- the outcome. Where one of the findings gives no word, the lines of the others are tried once.
+-- Where what the nodes need has a cycle, the findings are the outcome. Else the rounds begin with
+-- the words of the findings.
+abbrev pub AfterFirst : List (List ℕ) → Told → Request → Verdict → Option (List Word) →
+    Option (List (List ℕ)) → Obstacle → Outcome → Type 0
+AfterFirst names files request (Yes certificate recipes reads) words path o outcome =
+    outcome ≡ right
+AfterFirst names files request (No found) None path o outcome =
+    Trial names files request (with_part found (string_bytes o.why)) (string_bytes o.lines) outcome
+AfterFirst names files request (No found) (Some words) (Some path) o outcome =
+    outcome ≡ unmended found (cycle path)
+AfterFirst names files request (No found) (Some words) None o outcome =
+    Rounds max_rounds names files request found words too_long outcome
 
 -- The answers to a request when the files have these contents: the outcome by the rule. A fault is
 -- that of `check`, or `FileReadFailed` where a file of the first judgement can't be read again. Out
@@ -66,6 +87,19 @@ abbrev pub Suffices : Told → Request → Result Repair Fault → Type 0
 Suffices files request (Ok repairs.Right) = Mends files request []
 Suffices files request (Ok (repairs.Mended text)) = Mends files request text.items
 Suffices files request answer = Unit {0}
+
+-- The text is empty, or `check` has a verdict on the makefile with it at its end, so that it isn't
+-- refused.
+abbrev pub IsTaken : Told → Request → List ℕ → Type 0
+IsTaken files request [] = Unit {0}
+IsTaken files request (first ∷ rest) =
+    (verdict : Verdict) ×
+    Answers (amended files request (first ∷ rest)) request AnswersCheck (Ok verdict)
+
+-- What is printed with `--part` is taken.
+abbrev pub TakesPart : Told → Request → Result Repair Fault → Type 0
+TakesPart files request (Ok repair) = IsTaken files request (outcome_part (outcome_of repair))
+TakesPart files request (Err fault) = Unit {0}
 
 -- The files and the request give a makefile, goals and footprints, and these give a graph. No graph
 -- that has all nodes, recipes and prerequisites of this one, whatever else it has and whatever is

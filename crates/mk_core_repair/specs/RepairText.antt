@@ -8,7 +8,7 @@ use Rattle.mk_core_text.specs.VerdictText.{findings_text}
 use Rattle.mk_core_text.specs.declared.fault.Fault.{Fault}
 use Rattle.mk_core_repair.specs.declared.outcome.Stop.{Stop}
 use Rattle.mk_core_repair.specs.declared.outcome.Stop.TheVariants.{NoMore, Judged, TooLong}
-use Rattle.mk_core_repair.specs.Outcome.{Outcome, Reason, right, mended, unmended, untried, too_long, cycle, tried}
+use Rattle.mk_core_repair.specs.Outcome.{Outcome, Part, Reason, right, mended, unmended, no_lines, taken, refused_lines, long_lines, untried, too_long, cycle, tried}
 
 -- That the names form a cycle, each after a space, with a newline.
 abbrev pub cycle_line : List (List ℕ) → List ℕ
@@ -42,11 +42,19 @@ record_again (Ok found) =
     then codes "these lines change commands: append them, and record again\n" else []
 record_again (Err fault) = []
 
--- The lines of the findings that give some, if there are any.
-abbrev pub others_text : List ℕ → List ℕ
-others_text [] = []
-others_text (byte ∷ rest) =
-    codes "lines for the other findings:\n" ++ led (codes "  add: ") true (byte ∷ rest)
+-- What comes of the lines for those findings that give some: the lines, and what `check` prints with
+-- them; or those that were tried, and the refusal; or that the makefile would be too long with them.
+abbrev pub others_text : Part → List ℕ
+others_text no_lines = []
+others_text (taken lines text left) =
+    codes "lines for the other findings:\n" ++ (led (codes "  add: ") true lines ++
+    (codes "with these lines mkcheck check says:\n" ++
+    (checked_text (Ok left) ++ record_again (Ok left))))
+others_text (refused_lines lines fault) =
+    codes "no lines for the other findings:\n" ++ (led (codes "tried ") true lines ++
+    (codes "with these lines mkcheck check says:\n" ++ checked_text (Err fault)))
+others_text long_lines =
+    codes "with lines for the other findings the makefile would have more than 16777216 bytes\n"
 
 -- Why no further lines were tried, where a limit was met.
 abbrev pub stop_text : Stop → List ℕ
@@ -55,12 +63,12 @@ stop_text Judged =
     codes "the makefile was judged 64 times: append these lines, and run mkcheck repair again\n"
 stop_text TooLong = codes "with further lines the makefile would have more than 16777216 bytes\n"
 
--- The text of why nothing mends a makefile: the finding that no line mends, with the lines of the
--- others; that it would be too long with the lines; the cycle; or the lines that were tried, what
--- `check` prints with them, and the limit that was met.
+-- The text of why nothing mends a makefile: the finding that no line mends, and what comes of the
+-- lines of the others; that it would be too long with the lines; the cycle; or the lines that were
+-- tried, what `check` prints with them, and the limit that was met.
 abbrev pub reason_text : Reason → List ℕ
-reason_text (untried why lines) =
-    why ++ (codes "; mkcheck check -w says what to do\n" ++ others_text lines)
+reason_text (untried why part) =
+    why ++ (codes "; mkcheck check -w says what to do\n" ++ others_text part)
 reason_text too_long =
     codes "with the lines that mend this the makefile would have more than 16777216 bytes\n"
 reason_text (cycle names) = cycle_line names
@@ -73,6 +81,18 @@ abbrev pub outcome_text : Outcome → List ℕ
 outcome_text right = []
 outcome_text (mended text) = text
 outcome_text (unmended found reason) = []
+
+-- What `mkcheck repair --part` prints of the reason: the text of the lines for the other findings.
+abbrev pub reason_part : Reason → List ℕ
+reason_part (untried why (taken lines text left)) = text
+reason_part reason = []
+
+-- What `mkcheck repair --part` prints on standard output: the text that mends the makefile; else
+-- that of the lines for the other findings.
+abbrev pub outcome_part : Outcome → List ℕ
+outcome_part right = []
+outcome_part (mended text) = text
+outcome_part (unmended found reason) = reason_part reason
 
 -- What it prints on standard error: for a makefile that isn't mended its findings, and why nothing
 -- mends it.

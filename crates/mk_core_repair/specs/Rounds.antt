@@ -1,6 +1,5 @@
 -- How a makefile is mended, round by round.
 use Rattle.std.specs.Prelude.{◌≡◌, ◌⊎◌, ℕ, zero, suc, true, false, not, List, find, length, fold, nat_lt, Option, None, Some, Result, Ok, Err, if◌then◌else◌}
-use Rattle.std.specs.String.{string_bytes}
 use Rattle.mk_find.specs.declared.finding.Finding.{Finding}
 use Rattle.mk_lines.specs.Names.{has_name}
 use Rattle.mk_read.specs.Files.{Told}
@@ -14,11 +13,10 @@ use Rattle.mk_core.specs.Judging.{AnswersJudged}
 use Rattle.mk_core.specs.Steps.{is_out_of_memory}
 use Rattle.mk_repair.specs.Lines.{lines_text}
 use Rattle.mk_repair.specs.Word.{Word, with_word}
-use Rattle.mk_repair.specs.declared.obstacle.Obstacle.{Obstacle}
 use Rattle.mk_core_repair.specs.declared.surveying.Survey.{Survey}
 use Rattle.mk_core_repair.specs.Amending.{added_text, amended_among, is_too_long, makefile_text, IsCutTo}
 use Rattle.mk_core_repair.specs.declared.outcome.Stop.TheVariants.{Judged, TooLong}
-use Rattle.mk_core_repair.specs.Outcome.{Outcome, Reason, right, mended, unmended, untried, too_long, cycle, stopped, tried_all}
+use Rattle.mk_core_repair.specs.Outcome.{Outcome, Reason, mended, unmended, stopped, tried_all}
 use Rattle.mk_core_repair.specs.Survey.{GivesSurvey}
 
 -- The words with the new ones; none if none of these is new, or a finding gives no word.
@@ -95,17 +93,3 @@ Rounds (suc left) names files request first words before outcome =
 -- The most rounds: with the first judgement the makefile is judged at most 64 times.
 abbrev pub max_rounds : ℕ
 max_rounds = 63
-
--- What follows the judgement of the makefile as it is. A yes is the outcome. So are the findings
--- where one of them gives no word, with why, and where what the nodes need has a cycle. Else the
--- rounds begin with the words of the findings, over the files with these names.
-abbrev pub AfterFirst : List (List ℕ) → Told → Request → Verdict → Option (List Word) →
-    Option (List (List ℕ)) → Obstacle → Outcome → Type 0
-AfterFirst names files request (Yes certificate recipes reads) words path o outcome =
-    outcome ≡ right
-AfterFirst names files request (No found) None path o outcome =
-    outcome ≡ unmended found (untried (string_bytes o.why) (string_bytes o.lines))
-AfterFirst names files request (No found) (Some words) (Some path) o outcome =
-    outcome ≡ unmended found (cycle path)
-AfterFirst names files request (No found) (Some words) None o outcome =
-    Rounds max_rounds names files request found words too_long outcome

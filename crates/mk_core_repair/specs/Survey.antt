@@ -1,14 +1,21 @@
 -- What one judgement finds: the verdict, the words of its findings, and which files were read.
-use Rattle.std.specs.Prelude.{◌≡◌, ℕ, List, [], ◌++◌, Option, None, Some, Result, Ok}
+use Rattle.std.specs.Prelude.{◌≡◌, ℕ, true, List, [], ◌++◌, fold, Option, None, Some, Result, Ok}
+use Rattle.std.specs.List.{list_any}
+use Rattle.std.specs.String.{string_bytes}
 use Rattle.mk_subject.specs.Subject.{Subject, footprints}
 use Rattle.mk_build_needs.specs.NeedsGraph.{needs_graph, IsFirstCycle}
+use Rattle.mk_find.specs.Findings.{AreHidden}
+use Rattle.mk_find.specs.declared.finding.Finding.{Finding}
 use Rattle.mk_core.specs.CheckAnswer.{IsVerdict}
 use Rattle.mk_core_text.specs.declared.fault.Fault.{Fault}
 use Rattle.mk_core_text.specs.declared.verdict.Verdict.{Verdict}
 use Rattle.mk_core_text.specs.declared.verdict.Verdict.TheVariants.{Yes, No}
-use Rattle.mk_repair.specs.FindingWords.{words_of}
-use Rattle.mk_repair.specs.Obstacle.{IsObstacle}
-use Rattle.mk_repair.specs.Word.{Word}
+use Rattle.mk_repair.specs.FindingWords as findings
+use Rattle.mk_repair.specs.Lines.{lines_text}
+use Rattle.mk_repair.specs.Obstacle.{first_wordless, why_stuck}
+use Rattle.mk_repair.specs.Word.{Word, with_word}
+use Rattle.mk_claims.specs.Offers.{words_of}
+use Rattle.mk_claims.specs.Shown.{all_claims, is_static}
 use Rattle.mk_repair.specs.declared.obstacle.Obstacle.{Obstacle}
 use Rattle.mk_core_repair.specs.declared.surveying.Survey.{Survey}
 use Rattle.mk_core_repair.specs.declared.surveying.First.{First}
@@ -17,7 +24,7 @@ use Rattle.mk_core_repair.specs.declared.surveying.First.{First}
 -- word.
 abbrev pub words_for : Subject → Verdict → Option (List Word)
 words_for x (Yes certificate recipes reads) = Some []
-words_for x (No found) = words_of x found
+words_for x (No found) = findings.words_of x found
 
 -- The verdict on the subject, the words of its findings, and the names of the makefile's texts and
 -- of the missing files that its reading passed over.
@@ -36,9 +43,25 @@ IsCycleFor x (No found) (Some words) cycle =
     IsFirstCycle (needs_graph x.graph (footprints x.setting)) cycle
 IsCycleFor x verdict words cycle = Unit {0}
 
+-- The text of the lines for these findings and for those that they hide, but for what mending the
+-- findings touches.
+abbrev pub other_lines : Subject → (found hidden : List Finding) → List ℕ
+other_lines x found hidden = lines_text (fold with_word [] (words_of (all_claims x found hidden)))
+
+-- The lines are those of the findings, and of the races and stale reads that they hide.
+abbrev pub AreOtherLines : Subject → List Finding → (lines : List ℕ) → Type 0
+AreOtherLines x found lines =
+    (hidden : List Finding) × (list_any is_static found ≡ true → AreHidden x hidden) ×
+    (lines ≡ other_lines x found hidden)
+
+-- Why the first of the findings without a word has none; and the lines for others.
+pub record IsStuck (x : Subject) (found : List Finding) (o : Obstacle) : Type 0 where
+  pub is_why : string_bytes o.why ≡ why_stuck x (first_wordless x found)
+  pub is_lines : AreOtherLines x found (string_bytes o.lines)
+
 -- What stops a repair, where a finding of a no gives no word; else nothing is said.
 abbrev pub IsObstacleFor : Subject → Verdict → Option (List Word) → Obstacle → Type 0
-IsObstacleFor x (No found) None o = IsObstacle x found o
+IsObstacleFor x (No found) None o = IsStuck x found o
 IsObstacleFor x verdict words o = Unit {0}
 
 -- The survey of the subject, with the first cycle of what its nodes need, and with what stops a

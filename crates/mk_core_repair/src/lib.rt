@@ -10,8 +10,10 @@ mod rendering;
 mod repairing;
 mod round_files;
 mod rounds;
+mod stuck;
 mod surveying;
+mod trial;
 
-pub use outcome::{Repair, Stop, Why};
-pub use rendering::{repair_message, repair_text};
+pub use outcome::{Part, Repair, Stop, Why};
+pub use rendering::{repair_message, repair_part, repair_text};
 pub use repairing::repair;

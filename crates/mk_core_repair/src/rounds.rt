@@ -53,7 +53,7 @@ fn push_joint(out: &mut Vec<u8>, makefile: &[u8]) -> Result<(), AllocError>
 
 /// What is appended to the makefile to say the lines: a newline, another if the makefile ends in a
 /// backslash, and then the lines. The only error is out of memory.
-fn added_lines(alloc: Global, own: &OwnMakefile, lines: &str) -> Result<Vec<u8>, AllocError>
+pub fn added_lines(alloc: Global, own: &OwnMakefile, lines: &str) -> Result<Vec<u8>, AllocError>
     ensures { IfOk result (λ text. text.items ≡ added_lines own.now.text.items lines.now) }
 {
     let mut text = vec![in alloc; b'\n']?;
@@ -71,21 +71,29 @@ fn amended_text(alloc: Global, own: &OwnMakefile, added: &[u8]) -> Result<Vec<u8
     Ok(text)
 }
 
+/// What the rounds start from: a request, its makefile, and the known files. `IsBase` says that
+/// they belong together.
+#[derive(Clone, Copy, Drop)]
+pub struct Base<'b> {
+    /// The request.
+    pub request: &'b Request,
+    /// The makefile that lines are appended to.
+    pub own: &'b OwnMakefile,
+    /// The known files.
+    pub known: &'b KnownFiles,
+}
+
 /// What `check` finds of the makefile with this text appended, among the known files.
-fn judge_amended(
-    alloc: Global,
-    request: &Request,
-    own: &OwnMakefile,
-    known: &KnownFiles,
-    added: &[u8],
-) -> Result<Survey, Fault>
-    ensures round { (told : Told) → IsBase told request.now own.now known.now →
-        IsRound known.now.names told request.now added.now result }
+fn judge_amended(alloc: Global, base: Base<'_>, added: &[u8]) -> Result<Survey, Fault>
+    ensures round { (told : Told) →
+        IsBase told base.entry.request.now base.entry.own.now base.entry.known.now →
+        IsRound base.entry.known.now.names told base.entry.request.now added.now result }
     ensures memory { IfErr result (λ fault. is_out_of_memory fault ≡ true → fault ≡ Memory) }
 {
-    let request = freeing(alloc, request)?;
+    let own = base.own;
+    let request = freeing(alloc, base.request)?;
     let text = amended_text(alloc, own, added)?;
-    let mut files = RoundFiles::new(own.name.as_str(), &text, known);
+    let mut files = RoundFiles::new(own.name.as_str(), &text, base.known);
     answer_judged(alloc, &mut files, &request, JudgeAgain)
 }
 
@@ -103,7 +111,7 @@ fn first_unknown<'a>(names: &NameTable, files: &'a Names) -> Option<&'a Name>
 
 /// What a round found.
 #[derive(Drop)]
-enum Found {
+pub enum Found {
     /// The amended makefile is right.
     Right,
     /// This file was read, which isn't known.
@@ -153,29 +161,23 @@ fn found_by(
 
 /// One round: judges the makefile with this text appended, and adds the new words. The error is the
 /// refusal of the amended makefile, or out of memory.
-fn round(
-    alloc: Global,
-    request: &Request,
-    own: &OwnMakefile,
-    known: &KnownFiles,
-    words: &mut Words,
-    added: &[u8],
-) -> Result<Found, Fault>
+pub fn round(alloc: Global, base: Base<'_>, words: &mut Words, added: &[u8]) -> Result<Found, Fault>
     ensures ok { IfOk result (λ found. (survey : value.Survey) ×
-        IsFound known.now.names words.old words.new survey found ×
-        ((told : Told) → IsBase told request.now own.now known.now →
-        IsRound known.now.names told request.now added.now (Ok survey))) }
+        IsFound base.entry.known.now.names words.old words.new survey found ×
+        ((told : Told) →
+        IsBase told base.entry.request.now base.entry.own.now base.entry.known.now →
+        IsRound base.entry.known.now.names told base.entry.request.now added.now (Ok survey))) }
     ensures err { IfErr result (λ fault. (told : Told) →
-        IsBase told request.now own.now known.now →
-        IsRound known.now.names told request.now added.now (Err fault)) }
+        IsBase told base.entry.request.now base.entry.own.now base.entry.known.now →
+        IsRound base.entry.known.now.names told base.entry.request.now added.now (Err fault)) }
     ensures memory { IfErr result (λ fault. is_out_of_memory fault ≡ true → fault ≡ Memory) }
 {
-    let survey = judge_amended(alloc, request, own, known, added)?;
-    Ok(found_by(alloc, known, words, survey)?)
+    let survey = judge_amended(alloc, base, added)?;
+    Ok(found_by(alloc, base.known, words, survey)?)
 }
 
 /// Whether the makefile would be too long with this text appended.
-fn is_too_long(own: &OwnMakefile, added: &[u8]) -> bool
+pub fn is_too_long(own: &OwnMakefile, added: &[u8]) -> bool
     ensures { result ≡ nat_lt max_makefile (length (own.now.text.items ++ added.now)) }
 {
     added.len() > MAX_MAKEFILE || own.text.len() > MAX_MAKEFILE - added.len()
@@ -186,7 +188,7 @@ fn stopped(why: Why, stop: Stop) -> Why
     ensures { reason_of result ≡ stopped stop (reason_of why) }
 {
     match why {
-        Why::Untried(obstacle) => Why::Untried(obstacle),
+        Why::Untried(why, part) => Why::Untried(why, part),
         Why::TooLong => Why::TooLong,
         Why::Cycle(names) => Why::Cycle(names),
         Why::Tried(lines, after, _) => Why::Tried(lines, after, stop),
@@ -203,29 +205,23 @@ pub enum End {
 }
 
 /// The rounds that begin with these words. The only error is out of memory.
-pub fn rounds(
-    alloc: Global,
-    request: &Request,
-    own: &OwnMakefile,
-    known: &KnownFiles,
-    words: Words,
-) -> Result<End, Fault>
+pub fn rounds(alloc: Global, base: Base<'_>, words: Words) -> Result<End, Fault>
     ensures answer { IfOk result (λ end. (told : Told) →
-        IsBase told request.now own.now known.now → (first : List finding.Finding) →
-        Rounds max_rounds known.now.names told request.now first words too_long
-        (end_outcome first end)) }
+        IsBase told base.entry.request.now base.entry.own.now base.entry.known.now →
+        (first : List finding.Finding) → Rounds max_rounds base.entry.known.now.names told
+        base.entry.request.now first words too_long (end_outcome first end)) }
     ensures memory { IfErr result (λ fault. fault ≡ Memory) }
 {
     let mut words = words;
     let mut why = Why::TooLong;
     for _done in 0..MAX_ROUNDS {
         let lines = lines_text(alloc, &words)?;
-        let added = added_lines(alloc, own, lines.as_str())?;
-        if is_too_long(own, &added) {
+        let added = added_lines(alloc, base.own, lines.as_str())?;
+        if is_too_long(base.own, &added) {
             let reason = stopped(why, Stop::TooLong);
             return Ok(End::Unmended(reason));
         }
-        match round(alloc, request, own, known, &mut words, &added) {
+        match round(alloc, base, &mut words, &added) {
             Ok(Found::Right) => return Ok(End::Mended(added)),
             Ok(Found::Unknown(name)) => {
                 let fault = Fault::FileReadFailed(name);

@@ -6,9 +6,10 @@ ghost use Rattle.mk_core_repair.specs.NotRead.{first_not_read, survey_not_read};
 ghost use Rattle.mk_core_repair.specs.Survey.{GivesFirst, GivesSurvey, IsCycleFor, IsFirst, IsObstacleFor, IsSurvey, words_for};
 
 use crate::needing::cycle_of_needs;
+use crate::stuck::stuck;
 use mk_core::{Fault, Files, Judge, Name, Names, Verdict, verdict_of};
 use mk_read::Makefile;
-use mk_repair::{Obstacle, Words, obstacle_of, words_of};
+use mk_repair::{Obstacle, Words, words_of};
 use mk_subject::Subject;
 use std::alloc::{AllocError, Global};
 
@@ -126,7 +127,7 @@ fn obstacle_for(
         Verdict::Yes { .. } => Ok(no_obstacle(alloc)),
         Verdict::No(found) => match words {
             Some(_) => Ok(no_obstacle(alloc)),
-            None => obstacle_of(alloc, subject, found.as_slice()),
+            None => stuck(alloc, subject, found.as_slice()),
         },
     }
 }

@@ -1,7 +1,13 @@
 -- The answer of `repair` is one.
-use Rattle.std.proofs.Common.{◌≡◌, ◌++◌, ℕ, zero, suc, true, false, true≢false, List, map, Option, Some, None, Result, Ok, Err, inl, inr, refl, sym, ap, subst, ◌∙◌, string_bytes}
+use Rattle.std.proofs.Common.{◌≡◌, ◌++◌, ℕ, zero, suc, Bool, true, false, true≢false, List, [], ◌∷◌, map, Option, Some, None, Result, Ok, Err, inl, inr, refl, sym, ap, subst, ◌∙◌, string_bytes}
 use Rattle.mk_subject.specs.Subject.{Subject, footprints}
 use Rattle.mk_find.specs.declared.finding.Finding.{Finding}
+use Rattle.std.specs.List.{list_any}
+use Rattle.std.specs.Prelude.{fold, if◌then◌else◌}
+use Rattle.mk_find.specs.FindingLaws.{ListIsOne}
+use Rattle.mk_find.specs.Candidates.{Candidate, by_node, race_candidates}
+use Rattle.mk_find.specs.Findings.{AreHidden, hidden_reads}
+use Rattle.mk_find.specs.Listed.{named}
 use Rattle.mk_graph.specs.Graph.{Graph}
 use Rattle.mk_graph.specs.Laws.{WalkHasOneEnd}
 use Rattle.mk_build.specs.Setting.{name}
@@ -21,16 +27,21 @@ use Rattle.mk_core.specs.Ready.{ready_for}
 use Rattle.mk_core.proofs.Seen.{fault_same}
 use Rattle.mk_core_laws.specs.AnswerLaws.{IsSettled, VerdictIsOne}
 use Rattle.mk_repair.specs.Lines.{lines_text}
-use Rattle.mk_repair.specs.Word.{Word}
+use Rattle.mk_repair.specs.Word.{Word, with_word}
+use Rattle.mk_claims.specs.Claims.{Claim, claim_of}
+use Rattle.mk_claims.specs.Offers.{words_of}
+use Rattle.mk_claims.specs.Shown.{is_static}
+use Rattle.mk_claims.specs.Untouched.{untouched}
 use Rattle.mk_repair.specs.declared.obstacle.Obstacle.{Obstacle}
 use Rattle.mk_core_repair.specs.declared.outcome.Repair.{Repair}
 use Rattle.mk_core_repair.specs.declared.surveying.First.{First}
 use Rattle.mk_core_repair.specs.declared.surveying.Survey.{Survey}
-use Rattle.mk_core_repair.specs.Amending.{added_text, amended_among, makefile_name, makefile_text, names_known}
+use Rattle.mk_core_repair.specs.Amending.{added_lines, added_text, amended_among, makefile_name, makefile_text, names_known}
 use Rattle.mk_core_repair.specs.Outcome.{Outcome, Reason, unmended, untried, too_long, cycle, tried_all, outcome_of}
-use Rattle.mk_core_repair.specs.RepairAnswer.{AnswersRepair, IsFirstOf}
-use Rattle.mk_core_repair.specs.Rounds.{AfterFirst, AfterKnown, AfterRound, AfterVerdict, IsRound, Onward, Rounds, first_unknown, max_rounds, more_words}
-use Rattle.mk_core_repair.specs.Survey.{GivesSurvey, IsCycleFor, IsFirst, IsObstacleFor}
+use Rattle.mk_core_repair.specs.RepairAnswer.{AfterFirst, AnswersRepair, IsFirstOf}
+use Rattle.mk_core_repair.specs.Rounds.{AfterKnown, AfterRound, AfterVerdict, IsRound, Onward, Rounds, first_unknown, max_rounds, more_words}
+use Rattle.mk_core_repair.specs.Survey.{AreOtherLines, GivesSurvey, IsCycleFor, IsFirst, IsObstacleFor}
+use Rattle.mk_core_repair.specs.Trial.{AfterTrial, Trial, known_part, with_part}
 use Rattle.mk_core_repair.proofs.Cuts.{behind_same}
 use Rattle.mk_core_repair.proofs.Surveys.{first_surveys, survey_checks}
 use Rattle.mk_core_repair_laws.specs.RepairLaws.{IsReadThrough, RepairIsOne}
@@ -51,7 +62,25 @@ module _ (walks : WalkHasOneEnd) (g : Graph) where
       let same : path ≡ again = cc in
       ap (λ (l : List (List ℕ)). Some l) (e ∙ (ap (λ (p : List ℕ). map (name g) p) same ∙ sym k))
 
-module _ (verdicts : VerdictIsOne) (selection : SelectionIsOne) (walks : WalkHasOneEnd) (files : Told) (request : Request) where
+-- ---- the lines of hidden findings
+
+same_hidden : ListIsOne → (x : Subject) (hidden again : List Finding) → AreHidden x hidden → AreHidden x again → hidden ≡ again
+same_hidden listed x hidden again are those =
+    let kept = listed x (race_candidates x ++ by_node x (hidden_reads x)) are.kept those.kept are.right those.right in
+    are.added ∙ (ap (λ (l : List Candidate). map (named x) l) kept ∙ sym those.added)
+
+-- hidden findings count only where they are hidden
+later_one : (x : Subject) (found hidden again : List Finding) (hides : Bool) → (hides ≡ true → hidden ≡ again)
+    → ◌≡◌ {A = List Claim} (if hides then untouched (map (claim_of x) found) (map (claim_of x) hidden) else []) (if hides then untouched (map (claim_of x) found) (map (claim_of x) again) else [])
+later_one x found hidden again true same = ap (λ (l : List Finding). untouched (map (claim_of x) found) (map (claim_of x) l)) (same refl)
+later_one x found hidden again false same = refl
+
+lines_one : ListIsOne → (x : Subject) (found : List Finding) (one other : List ℕ) → AreOtherLines x found one → AreOtherLines x found other → one ≡ other
+lines_one listed x found one other (hidden, are, a) (again, those, b) =
+    let later = later_one x found hidden again (list_any is_static found) (λ hides. same_hidden listed x hidden again (are hides) (those hides)) in
+    a ∙ (ap (λ (l : List Claim). lines_text (fold with_word [] (words_of (map (claim_of x) found ++ l)))) later ∙ sym b)
+
+module _ (verdicts : VerdictIsOne) (listed : ListIsOne) (selection : SelectionIsOne) (walks : WalkHasOneEnd) (files : Told) (request : Request) where
   -- ---- one round
 
   round_one : (names : List (List ℕ)) (text : List ℕ) (one other : Result Survey Fault) → IsSettled one → IsSettled other → IsRound names files request text one → IsRound names files request text other → one ≡ other
@@ -96,6 +125,29 @@ module _ (verdicts : VerdictIsOne) (selection : SelectionIsOne) (walks : WalkHas
         let same = round_one names (added_text (makefile_text files request) words) survey again (read_through rounds words survey one s a) (read_through rounds words again other t b) is it in
         after_one rounds (λ more why a b. rounds_one left more why a b) words survey a (subst (λ (r : Result Survey Fault). AfterRound (makefile_text files request) rounds names first words r other) (sym same) b)
 
+    -- ---- lines that are tried once
+
+    module _ (found : List Finding) (why lines text : List ℕ) where
+      tried_one : (survey : Result Survey Fault) → AfterTrial (with_part found why) names lines text survey one → AfterTrial (with_part found why) names lines text survey other → one ≡ other
+      tried_one (Ok survey) a b = a ∙ sym b
+      tried_one (Err fault) (full, a) (also, b) = a ∙ sym b
+
+      -- no read failed in the trial whose outcome has no failed read
+      trial_through : (survey : Result Survey Fault) (outcome : Outcome) → IsReadThrough outcome → AfterTrial (with_part found why) names lines text survey outcome → IsSettled survey
+      trial_through (Ok survey) outcome k a = tt
+      trial_through (Err fault) outcome k (full, a) = settled_fault (List Finding) Survey fault (subst IsReadThrough a k)
+
+    trial_one : (found : List Finding) (why lines : List ℕ) → Trial names files request (with_part found why) lines one → Trial names files request (with_part found why) lines other → one ≡ other
+    trial_one found why [] a b = a ∙ sym b
+    trial_one found why (byte ∷ rest) (inl (long, a)) (inl (also, b)) = a ∙ sym b
+    trial_one found why (byte ∷ rest) (inl (long, a)) (inr (short, judged)) = absurd (true≢false (sym long ∙ short))
+    trial_one found why (byte ∷ rest) (inr (short, judged)) (inl (long, b)) = absurd (true≢false (sym long ∙ short))
+    trial_one found why (byte ∷ rest) (inr (short, (survey, is, a))) (inr (also, (again, it, b))) =
+        let lines : List ℕ = byte ∷ rest in
+        let text = added_lines (makefile_text files request) lines in
+        let same = round_one names text survey again (trial_through found why lines text survey one s a) (trial_through found why lines text again other t b) is it in
+        tried_one found why lines text survey a (subst (λ (r : Result Survey Fault). AfterTrial (with_part found why) names lines text r other) (sym same) b)
+
   -- ---- after the first judgement
 
   module _ (names : List (List ℕ)) (x : Subject) (one other : Outcome) (s : IsReadThrough one) (t : IsReadThrough other) where
@@ -104,8 +156,11 @@ module _ (verdicts : VerdictIsOne) (selection : SelectionIsOne) (walks : WalkHas
         → AfterFirst names files request verdict words path stuck one → AfterFirst names files request verdict words again also other → one ≡ other
     first_one (Yes certificate recipes reads) words path again stuck also is it of on a b = a ∙ sym b
     first_one (No found) None path again stuck also is it of on a b =
-        a ∙ (ap (λ (why : List ℕ). unmended found (untried why (string_bytes stuck.lines))) (of.is_why ∙ sym on.is_why)
-        ∙ (ap (λ (lines : List ℕ). unmended found (untried (string_bytes also.why) lines)) (of.is_lines ∙ sym on.is_lines) ∙ sym b))
+        let why = of.is_why ∙ sym on.is_why in
+        let lines = lines_one listed x found (string_bytes stuck.lines) (string_bytes also.lines) of.is_lines on.is_lines in
+        trial_one names found one other s t found (string_bytes stuck.why) (string_bytes stuck.lines) a
+        (subst (λ (w : List ℕ). Trial names files request (with_part found w) (string_bytes stuck.lines) other) (sym why)
+        (subst (λ (l : List ℕ). Trial names files request (with_part found (string_bytes also.why)) l other) (sym lines) b))
     first_one (No found) (Some words) None None stuck also is it of on a b = rounds_one names found one other s t max_rounds words too_long a b
     first_one (No found) (Some words) (Some path) (Some again) stuck also is it of on a b =
         let same : Some path ≡ Some again = cycle_one walks (needs_graph x.graph (footprints x.setting)) (Some path) (Some again) is it in
@@ -147,13 +202,13 @@ module _ (verdicts : VerdictIsOne) (selection : SelectionIsOne) (walks : WalkHas
   not_both verdict fault s a b =
       let e : ◌≡◌ {A = Result Verdict Fault} (Ok verdict) (Err fault) = verdicts files request (Ok verdict) (Err fault) tt (settled_fault Repair Verdict fault s) a (refused fault s b) in absurd cc
 
-pub repair_is_one : VerdictIsOne → SelectionIsOne → WalkHasOneEnd → RepairIsOne
-repair_is_one verdicts selection walks files request (Ok one) (Ok other) s t (first, is, a) (again, it, b) =
-    ap (λ (o : Outcome). Ok o) (outcome_one verdicts selection walks files request first again is it (outcome_of one) (outcome_of other) s t a b)
-repair_is_one verdicts selection walks files request (Ok one) (Err fault) s t (first, is, a) b =
-    absurd (not_both verdicts selection walks files request first.survey.verdict fault t (checked verdicts selection walks files request first is) b)
-repair_is_one verdicts selection walks files request (Err fault) (Ok other) s t a (first, is, b) =
-    absurd (not_both verdicts selection walks files request first.survey.verdict fault s (checked verdicts selection walks files request first is) a)
-repair_is_one verdicts selection walks files request (Err fault) (Err also) s t a b =
+pub repair_is_one : VerdictIsOne → ListIsOne → SelectionIsOne → WalkHasOneEnd → RepairIsOne
+repair_is_one verdicts listed selection walks files request (Ok one) (Ok other) s t (first, is, a) (again, it, b) =
+    ap (λ (o : Outcome). Ok o) (outcome_one verdicts listed selection walks files request first again is it (outcome_of one) (outcome_of other) s t a b)
+repair_is_one verdicts listed selection walks files request (Ok one) (Err fault) s t (first, is, a) b =
+    absurd (not_both verdicts listed selection walks files request first.survey.verdict fault t (checked verdicts listed selection walks files request first is) b)
+repair_is_one verdicts listed selection walks files request (Err fault) (Ok other) s t a (first, is, b) =
+    absurd (not_both verdicts listed selection walks files request first.survey.verdict fault s (checked verdicts listed selection walks files request first is) a)
+repair_is_one verdicts listed selection walks files request (Err fault) (Err also) s t a b =
     fault_same fault also
-    (verdicts files request (Err fault) (Err also) (settled_fault Repair Verdict fault s) (settled_fault Repair Verdict also t) (refused verdicts selection walks files request fault s a) (refused verdicts selection walks files request also t b))
+    (verdicts files request (Err fault) (Err also) (settled_fault Repair Verdict fault s) (settled_fault Repair Verdict also t) (refused verdicts listed selection walks files request fault s a) (refused verdicts listed selection walks files request also t b))

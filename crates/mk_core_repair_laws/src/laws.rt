@@ -3,6 +3,7 @@
 ghost use Rattle.mk_core_repair_laws.specs.RepairLaws.{RepairIsOne};
 
 use mk_core_laws::answer_laws::verdict_is_one;
+use mk_find::finding_laws::list_is_one;
 use mk_graph::laws::walk_has_one_end;
 use mk_infer_laws::laws::selection_is_one;
 
@@ -13,5 +14,6 @@ pub fn repair_is_one()
 {
     selection_is_one();
     verdict_is_one();
+    list_is_one();
     walk_has_one_end();
 }

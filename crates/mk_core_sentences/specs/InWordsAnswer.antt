@@ -4,7 +4,8 @@ use Rattle.std.specs.List.{list_any}
 use Rattle.mk_subject.specs.Subject.{Subject}
 use Rattle.mk_find.specs.declared.finding.Finding.{Finding}
 use Rattle.mk_find.specs.Findings.{AreFindings, AreHidden}
-use Rattle.mk_sentences.specs.Text.{HasSentences, is_static}
+use Rattle.mk_claims.specs.Shown.{is_static}
+use Rattle.mk_sentences.specs.Text.{HasSentences}
 use Rattle.mk_core_text.specs.declared.fault.Fault.{Fault}
 use Rattle.mk_core_text.specs.declared.verdict.Verdict.TheVariants as verdict
 use Rattle.mk_core.specs.CheckAnswer.{IsVerdict}

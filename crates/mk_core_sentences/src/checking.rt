@@ -10,11 +10,12 @@ ghost use Rattle.mk_core_text.specs.declared.fault.Fault.TheVariants.{Memory};
 ghost use Rattle.mk_core_sentences.specs.InWordsAnswer.{AnswersInWords, GivesInWords, HasYes, IsInWords, Tells};
 ghost use Rattle.mk_core_sentences.specs.NotRead.{in_words_not_read};
 
+use mk_claims::has_static;
 use mk_core::laws::yes_is_right;
 use mk_core::{Fault, Judge, Request, Verdict, answer_judged, drop_or_leak, verdict_of};
 use mk_find::{Finding, hidden_findings};
 use mk_read_files::Files;
-use mk_sentences::{has_static, sentences};
+use mk_sentences::sentences;
 use mk_subject::Subject;
 use std::alloc::{AllocError, Global};
 
@@ -27,8 +28,13 @@ pub enum InWords {
     No(Vec<u8>),
 }
 
-/// The findings of a no in sentences, with the races and stale reads that they hide.
-fn told(alloc: Global, subject: &Subject<'_>, found: &[Finding]) -> Result<Vec<u8>, AllocError>
+/// The findings of a no in sentences, with the races and stale reads that they hide, as `sentences`
+/// of mk_sentences tells them. The only error is out of memory.
+pub fn in_sentences(
+    alloc: Global,
+    subject: &Subject<'_>,
+    found: &[Finding],
+) -> Result<Vec<u8>, AllocError>
     ensures { IfOk result (λ text. Tells subject.now found.now text.items) }
 {
     if !has_static(found) {
@@ -50,7 +56,7 @@ fn in_words(
     match &verdict {
         Verdict::Yes { .. } => Ok(InWords::Yes(verdict)),
         Verdict::No(found) => {
-            let text = told(alloc, subject, found.as_slice())?;
+            let text = in_sentences(alloc, subject, found.as_slice())?;
             drop_or_leak(verdict, leaves_memory);
             Ok(InWords::No(text))
         }

@@ -4,5 +4,5 @@
 mod checking;
 mod refused_line;
 
-pub use checking::{InWords, check_in_words};
+pub use checking::{InWords, check_in_words, in_sentences};
 pub use refused_line::{FileLine, line_in_file, line_of_fault};

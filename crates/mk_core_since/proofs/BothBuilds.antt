@@ -1,5 +1,5 @@
 -- What comes of the old build and of the new one is an answer.
-use Rattle.std.proofs.Common.{◌≡◌, ◌⊎◌, ℕ, true, List, Result, Ok, Err, IfErr, inl, inr, refl, ap, subst}
+use Rattle.std.proofs.Common.{◌≡◌, ◌⊎◌, ℕ, Bool, true, List, Result, Ok, Err, IfErr, inl, inr, refl, ap, subst}
 use Rattle.mk_read.specs.Files.{Told}
 use Rattle.mk_core_text.specs.declared.fault.Fault.{Fault}
 use Rattle.mk_core_text.specs.declared.fault.Fault.TheVariants.{FileReadFailed, Memory}
@@ -33,13 +33,13 @@ module _ (was : Told) (request : Request) where
   old_answers q r (inr (inr (inl e))) a = absurd cc
   old_answers q r (inr (inr (inr e))) a = inr (inr (inr (subst (λ (p : Result Request Fault). AnswersBefore was p r) e a)))
 
-module _ (was told : Told) (folder : List ℕ) (request : Request) where
+module _ (words : Bool) (was told : Told) (folder : List ℕ) (request : Request) where
   -- something is known of the old build
-  pub known_answers : (before : OldBuild) (r : Result Since Fault) → AnswersOld was request (Ok before) → AfterOld told folder request (Ok before) r → AnswersSince was told folder request r
+  pub known_answers : (before : OldBuild) (r : Result Since Fault) → AnswersOld was request (Ok before) → AfterOld words told folder request (Ok before) r → AnswersSince words was told folder request r
   known_answers before r a after = inr (Ok before, a, after)
 
   -- it is refused
-  pub refused_answers : (fault : Fault) (r : Result Since Fault) → AnswersOld was request (Err fault) → (r ≡ Err Memory) ⊎ (r ≡ Ok (Refused (fault_in folder fault))) → AnswersSince was told folder request r
+  pub refused_answers : (fault : Fault) (r : Result Since Fault) → AnswersOld was request (Err fault) → (r ≡ Err Memory) ⊎ (r ≡ Ok (Refused (fault_in folder fault))) → AnswersSince words was told folder request r
   refused_answers fault r a (inl e) = inl e
   refused_answers fault r a (inr e) = inr (Err fault, a, e)
 

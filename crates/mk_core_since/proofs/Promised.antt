@@ -1,5 +1,5 @@
 -- Where files are named, both builds were judged.
-use Rattle.std.proofs.Common.{◌≡◌, ℕ, List, None, Result, Ok, Err, inl, inr, refl, sym, subst}
+use Rattle.std.proofs.Common.{◌≡◌, ℕ, Bool, List, None, Result, Ok, Err, inl, inr, refl, sym, subst}
 use Rattle.mk_graph.specs.Graph as value
 use Rattle.mk_infer.specs.Selection.{Selects}
 use Rattle.mk_read.specs.Files.{Told}
@@ -60,9 +60,9 @@ module _ (was : Told) (request : Request) (past : Past) where
   old_found (inr (inr (inl e))) = absurd cc
   old_found (inr (inr (inr a))) = old_before (before was request) refl a
 
-module _ (right : NamedIsRight) (was files : Told) (request : Request) (names : List (List ℕ)) where
+module _ (right : NamedIsRight) (words : Bool) (was files : Told) (request : Request) (names : List (List ℕ)) where
   module _ (past : Past) (q : Request) (is_old : before was request ≡ Ok q) (kept : Kept was q past) where
-    new_judged : (ready : Ready) → ready_for files None request ≡ Ok ready → AnswersJudged (GivesSince past) ready (Ok (Named names)) → IsNextFor was files request names
+    new_judged : (ready : Ready) → ready_for files None request ≡ Ok ready → AnswersJudged (GivesSince words past) ready (Ok (Named names)) → IsNextFor was files request names
     new_judged ready is (Ok g, s, inl (is_graph, is_subject, (Named found, (has, by), e))) =
         let x = subject_over kept.judged.ready kept.judged.graph in
         let y = subject_over ready g in
@@ -83,17 +83,17 @@ module _ (right : NamedIsRight) (was files : Told) (request : Request) (names : 
           are_named = both.0;
           are_right = both.1;
         }
-    new_judged ready is (Ok g, s, inl (is_graph, is_subject, (No found, found_is, e))) = absurd cc
+    new_judged ready is (Ok g, s, inl (is_graph, is_subject, (No found text, found_is, e))) = absurd cc
     new_judged ready is (Ok g, s, inl (is_graph, is_subject, (Unsure found, none, e))) = absurd none
     new_judged ready is (Ok g, s, inl (is_graph, is_subject, (Refused fault, none, e))) = absurd none
     new_judged ready is (Ok g, s, inr (fault, first, e)) = absurd cc
     new_judged ready is (Err fault, s, (settled, e)) = absurd cc
 
-    new_drawn : (r : Result Ready Fault) → ready_for files None request ≡ r → Draws (AnswersJudged (GivesSince past)) r (Ok (Named names)) → IsNextFor was files request names
+    new_drawn : (r : Result Ready Fault) → ready_for files None request ≡ r → Draws (AnswersJudged (GivesSince words past)) r (Ok (Named names)) → IsNextFor was files request names
     new_drawn (Ok ready) is d = new_judged ready is d
     new_drawn (Err fault) is e = absurd cc
 
-  next_of : (folder : List ℕ) (found : Result OldBuild Fault) → AnswersOld was request found → AfterOld files folder request found (Ok (Named names)) → IsNextFor was files request names
+  next_of : (folder : List ℕ) (found : Result OldBuild Fault) → AnswersOld was request found → AfterOld words files folder request found (Ok (Named names)) → IsNextFor was files request names
   next_of folder (Ok (old.Kept past)) a after =
       let (q, is_old, kept) = old_found was request past a in
       new_drawn past q is_old kept (ready_for files None request) refl after
@@ -101,9 +101,9 @@ module _ (right : NamedIsRight) (was files : Told) (request : Request) (names : 
   next_of folder (Err fault) a e = absurd cc
 
 pub since_is_next : NamedIsRight → SinceIsNext
-since_is_next right was files folder request (Ok (Named names)) (inl e) = absurd cc
-since_is_next right was files folder request (Ok (Named names)) (inr (found, a, after)) = next_of right was files request names folder found a after
-since_is_next right was files folder request (Ok (No found)) a = tt
-since_is_next right was files folder request (Ok (Unsure found)) a = tt
-since_is_next right was files folder request (Ok (Refused fault)) a = tt
-since_is_next right was files folder request (Err fault) a = tt
+since_is_next right words was files folder request (Ok (Named names)) (inl e) = absurd cc
+since_is_next right words was files folder request (Ok (Named names)) (inr (found, a, after)) = next_of right words was files request names folder found a after
+since_is_next right words was files folder request (Ok (No found text)) a = tt
+since_is_next right words was files folder request (Ok (Unsure found)) a = tt
+since_is_next right words was files folder request (Ok (Refused fault)) a = tt
+since_is_next right words was files folder request (Err fault) a = tt

@@ -3,6 +3,7 @@ pub mod InFolder
 pub mod Words
 pub mod Options
 pub mod Before
+pub mod Telling
 pub mod OldAnswer
 pub mod SinceAnswer
 pub mod SinceText

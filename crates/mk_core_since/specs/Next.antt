@@ -1,5 +1,5 @@
 -- What `since` promises where it names files.
-use Rattle.std.specs.Prelude.{◌≡◌, ℕ, List, None, Result, Ok}
+use Rattle.std.specs.Prelude.{◌≡◌, ℕ, Bool, List, None, Result, Ok}
 use Rattle.mk_graph.specs.Graph.{Graph, IsGraph}
 use Rattle.mk_build.specs.Setting.{FileName}
 use Rattle.mk_build.specs.World.{Disk, Idle}
@@ -75,5 +75,6 @@ IfNamed answer claim = Unit {0}
 -- If `since` names files, `IsNextFor` holds of them.
 abbrev pub SinceIsNext : Type 0
 SinceIsNext =
-    (was files : Told) (folder : List ℕ) (request : Request) (answer : Result Since Fault) →
-    AnswersSince was files folder request answer → IfNamed answer (IsNextFor was files request)
+    (words : Bool) (was files : Told) (folder : List ℕ) (request : Request)
+    (answer : Result Since Fault) → AnswersSince words was files folder request answer →
+    IfNamed answer (IsNextFor was files request)

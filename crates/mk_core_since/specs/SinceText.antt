@@ -3,6 +3,7 @@ use Rattle.std.specs.Prelude.{ℕ, List, [], ◌∷◌, ◌++◌, codes, Option,
 use Rattle.std.specs.List.{flat_map}
 use Rattle.mk_read.specs.declared.fault.ReadFault.TheVariants.{NoMakefile}
 use Rattle.mk_read_files.specs.declared.cause.Cause.{Cause}
+use Rattle.mk_find.specs.declared.finding.Finding.{Finding}
 use Rattle.mk_core_text.specs.Causes.{caused_words}
 use Rattle.mk_core_text.specs.FaultText.{fault_text}
 use Rattle.mk_core_text.specs.VerdictText.{findings_text}
@@ -42,11 +43,16 @@ abbrev pub said : Option Cause → Fault → List ℕ
 said None fault = fault_text fault
 said (Some cause) fault = caused_words fault cause
 
--- What standard error gets: findings or a refusal, and whether they are of the old build. A refusal
--- is in words where a cause is given.
+-- The text of findings: with a cause their sentences, else a line for each.
+abbrev pub told_findings : Option Cause → List Finding → List ℕ → List ℕ
+told_findings None found sentences = findings_text found
+told_findings (Some cause) found sentences = sentences
+
+-- What standard error gets: findings or a refusal, and whether they are of the old build. Findings
+-- of the new one and refusals are in words where a cause is given.
 abbrev pub since_message : List ℕ → Option Cause → Since → List ℕ
 since_message folder cause (Named names) = []
-since_message folder cause (No found) = findings_text found
+since_message folder cause (No found text) = told_findings cause found text.items
 since_message folder cause (Unsure found) = old_message (findings_text found) folder
 since_message folder cause (Refused fault) =
     refused_message fault (said cause fault ++ 10 ∷ []) folder

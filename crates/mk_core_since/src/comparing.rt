@@ -38,25 +38,28 @@ fn after_old<F: Files>(
     files: &mut F,
     change: &Change<'_>,
     known: OldBuild,
+    words: bool,
 ) -> Result<Since, Fault>
     ensures keeps { Keeps (F.fits files.old) (F.fits files.new) }
     ensures answer { IfFits (F.fits files.new)
-        (λ told. AfterOld told change.now.folder.now change.now.request.now (Ok known) result) }
+        (λ told. AfterOld words told change.now.folder.now change.now.request.now
+        (Ok known) result) }
     ensures memory { IfErr result (λ fault. is_out_of_memory fault ≡ true → fault ≡ Memory) }
     ensures noted { NotesFailure (F.failed files.old) (F.failed files.new) result }
     ensures untouched { OnErr (macros_for change.now.request.now) (files.new ≡ files.old) }
 {
     match known {
         OldBuild::Kept(past) => {
-            answer_judged(alloc, files, change.request, NameFiles { past: &past })
+            let name = NameFiles { past: &past, words };
+            answer_judged(alloc, files, change.request, name)
         }
         OldBuild::Unsure(found) => Ok(Since::Unsure(found)),
     }
 }
 
-/// The files to remove before the new build, for `mkcheck since`; or the findings of the new build;
-/// or the refusal or the findings of the old one. `old` reads the files of the folder by their
-/// names in it, `files` those of the new build.
+/// The files to remove before the new build, for `mkcheck since`; or the findings of the new build,
+/// with their sentences where `words` asks for them; or the refusal or the findings of the old one.
+/// `old` reads the files of the folder by their names in it, `files` those of the new build.
 ///
 /// Files are named, or none, only if `check` says yes of both builds. After the removal of the named
 /// ones makes of the new build are right, as `IsNextFor` says.
@@ -68,12 +71,13 @@ pub fn since<G: Files, F: Files>(
     old: &mut G,
     files: &mut F,
     change: &Change<'_>,
+    words: bool,
 ) -> Result<Since, Fault>
     ensures keeps_old { Keeps (G.fits old.old) (G.fits old.new) }
     ensures keeps { Keeps (F.fits files.old) (F.fits files.new) }
     ensures answer { IfFits (G.fits old.new) (λ was. IfFits (F.fits files.new)
-        (λ told. AnswersSince was told change.now.folder.now change.now.request.now
-        result)) }
+        (λ told. AnswersSince words was told change.now.folder.now
+        change.now.request.now result)) }
     ensures next { IfFits (G.fits old.new) (λ was. IfFits (F.fits files.new)
         (λ told. IfNamed result (IsNextFor was told change.now.request.now))) }
     ensures memory { IfErr result (λ fault. is_out_of_memory fault ≡ true → fault ≡ Memory) }
@@ -82,7 +86,7 @@ pub fn since<G: Files, F: Files>(
 {
     since_is_next();
     match old_build(alloc, old, change.request) {
-        Ok(known) => after_old(alloc, files, change, known),
+        Ok(known) => after_old(alloc, files, change, known, words),
         Err(fault) => refused(alloc, change.folder, fault),
     }
 }

@@ -11,6 +11,7 @@ mod old_build;
 mod old_request;
 mod options;
 mod outcome;
+mod telling;
 mod words;
 
 pub use below::{Below, Folder, name_below};

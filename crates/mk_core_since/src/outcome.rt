@@ -1,10 +1,11 @@
 //! What comes of `since`, and how it is printed.
 
 ghost use Rattle.std.specs.Prelude.{◌≡◌, ◌++◌, ◌∷◌, [], IfOk};
-ghost use Rattle.mk_core_since.specs.SinceText.{names_text, nothing_kept, old_message, refused_message, said, since_message, since_output};
+ghost use Rattle.mk_core_since.specs.SinceText.{names_text, nothing_kept, old_message, refused_message, said, since_message, since_output, told_findings};
 
 use mk_core::{Fault, Findings, Name, Names, fault_text};
 use mk_core_text::{caused_words, findings_text};
+use mk_find::Finding;
 use mk_read::ReadFault;
 use mk_read_files::Cause;
 use std::alloc::{AllocError, Global};
@@ -14,8 +15,8 @@ use std::alloc::{AllocError, Global};
 pub enum Since {
     /// The files to remove, in ascending order of their bytes.
     Named(Names),
-    /// The findings of the new build.
-    No(Findings),
+    /// The findings of the new build, and their sentences, where these are asked for.
+    No(Findings, Vec<u8>),
     /// Findings of the old build, by one of which what a recipe did is unknown.
     Unsure(Findings),
     /// Why the old build is refused.
@@ -40,7 +41,7 @@ pub fn since_output(alloc: Global, since: &Since) -> Result<Vec<u8>, AllocError>
 {
     match since {
         Since::Named(names) => names_text(alloc, names.as_slice()),
-        Since::No(_) | Since::Unsure(_) | Since::Refused(_) => Ok(Vec::new(alloc)),
+        Since::No(..) | Since::Unsure(_) | Since::Refused(_) => Ok(Vec::new(alloc)),
     }
 }
 
@@ -78,6 +79,21 @@ fn said(alloc: Global, fault: &Fault, cause: Option<Cause>) -> Result<Vec<u8>, A
     }
 }
 
+/// The text of findings: their sentences in words, else a line for each.
+fn told_findings(
+    alloc: Global,
+    found: &[Finding],
+    sentences: &[u8],
+    cause: Option<Cause>,
+) -> Result<Vec<u8>, AllocError>
+    ensures { IfOk result (λ text. text.items ≡ told_findings cause found.now sentences.now) }
+{
+    match cause {
+        Some(_) => Vec::from_slice(alloc, sentences),
+        None => findings_text(alloc, found),
+    }
+}
+
 /// The text of a refusal of the old build, and a line that says so.
 fn refused_message(
     alloc: Global,
@@ -95,8 +111,8 @@ fn refused_message(
 }
 
 /// What standard error gets: findings or a refusal, and whether they are of the old build, in this
-/// folder. A refusal is in words where the cause of the last failed read is given, else with
-/// numbers. The only error is out of memory.
+/// folder. Where the cause of the last failed read is given, findings of the new build are in
+/// sentences, and a refusal is in words; else findings have a line each, and a refusal has numbers. The only error is out of memory.
 pub fn since_message(
     alloc: Global,
     since: &Since,
@@ -107,7 +123,7 @@ pub fn since_message(
 {
     match since {
         Since::Named(_) => Ok(Vec::new(alloc)),
-        Since::No(found) => findings_text(alloc, found.as_slice()),
+        Since::No(found, text) => told_findings(alloc, found.as_slice(), text.as_slice(), cause),
         Since::Unsure(found) => {
             let text = findings_text(alloc, found.as_slice())?;
             of_old(alloc, text, folder)

@@ -120,38 +120,42 @@ fn shown_lines<'m>(
     }
 }
 
-/// Appends the line of a node, and its commands where they are asked for.
-fn push_shown<'m>(
-    alloc: Global,
-    out: &mut Vec<u8>,
+/// A graph, and what is shown of it.
+#[derive(Drop)]
+struct ShownGraph<'m> {
+    /// The graph.
+    graph: &'m Graph,
+    /// What its commands are expanded by.
     choices: &'m Choices<'m>,
-    graph: &Graph,
-    number: usize,
+    /// Whether the commands are shown.
     asked: bool,
-) -> Result<(), InferFault>
-    ensures { Extends out.old.items out.new.items result (shown_node (shown_lines asked
-        choices.now.makefile choices.now.exists) graph.now number) }
+}
+
+/// Appends the line of a node, and its commands where they are asked for.
+fn push_shown(out: &mut Vec<u8>, shown: &ShownGraph<'_>, number: usize) -> Result<(), InferFault>
+    ensures { Extends out.old.items out.new.items result (shown_node (shown_lines shown.now.asked
+        shown.now.choices.now.makefile shown.now.choices.now.exists) shown.now.graph.now number) }
 {
-    let lines = shown_lines(alloc, choices, name_at(graph, number), asked)?;
-    push_node(out, graph, number)?;
+    let alloc = *out.allocator();
+    let name = name_at(shown.graph, number);
+    let lines = shown_lines(alloc, shown.choices, name, shown.asked)?;
+    push_node(out, shown.graph, number)?;
     push_commands(out, &lines)?;
     Ok(())
 }
 
 /// Appends the lines of the nodes, each with its commands where they are asked for.
-fn push_nodes<'m>(
-    alloc: Global,
+fn push_nodes(
     out: &mut Vec<u8>,
-    choices: &'m Choices<'m>,
-    graph: &Graph,
+    shown: &ShownGraph<'_>,
     numbers: &[usize],
-    asked: bool,
 ) -> Result<(), InferFault>
-    ensures { Extends out.old.items out.new.items result (nodes_text (shown_lines asked
-        choices.now.makefile choices.now.exists) graph.now numbers.now) }
+    ensures { Extends out.old.items out.new.items result (nodes_text (shown_lines shown.now.asked
+        shown.now.choices.now.makefile shown.now.choices.now.exists) shown.now.graph.now
+        numbers.now) }
 {
     for number in numbers {
-        push_shown(alloc, out, choices, graph, *number, asked)?;
+        push_shown(out, shown, *number)?;
     }
     Ok(())
 }
@@ -182,6 +186,11 @@ pub fn text_of<'m>(
     let mut out = Vec::new(alloc);
     push_goals(&mut out, graph)?;
     let order = graph.serial()?;
-    push_nodes(alloc, &mut out, choices, graph, &order, asked)?;
+    let shown = ShownGraph {
+        graph,
+        choices,
+        asked,
+    };
+    push_nodes(&mut out, &shown, &order)?;
     Ok(out)
 }

@@ -21,6 +21,15 @@ pub enum Form {
     InWords,
 }
 
+/// Prints refusals in one form.
+#[derive(Clone, Copy, Drop)]
+pub struct Printer {
+    /// The allocator of the texts.
+    pub alloc: Global,
+    /// The form.
+    pub form: Form,
+}
+
 /// A place as `FILE:LINE`.
 fn place_text(alloc: Global, place: &Place) -> Result<String, AllocError>
     ensures { IfOk result (λ text. string_bytes text ≡ place_text place.now) }
@@ -119,134 +128,127 @@ fn in_words(
 /// The refusal in this form by the fault with this number and this name.
 #[tactic(auto, unfolding(crate::specs::FaultText::refusal))]
 pub fn refusal(
-    alloc: Global,
-    form: Form,
+    printer: Printer,
     number: usize,
     name: &str,
     place: Option<&str>,
     words: &[&[u8]],
 ) -> Result<Vec<u8>, AllocError>
     ensures { IfOk result (λ text. text.items ≡
-        refusal form number name.now (option_map (λ place. place.now) place.entry)
+        refusal printer.form number name.now (option_map (λ place. place.now) place.entry)
         (map (λ word. word.now) words.now)) }
 {
-    match form {
-        Form::Numbered => numbered(alloc, number, place, words),
-        Form::InWords => in_words(alloc, number, name, place, words),
+    match printer.form {
+        Form::Numbered => numbered(printer.alloc, number, place, words),
+        Form::InWords => in_words(printer.alloc, number, name, place, words),
     }
 }
 
 /// A refusal with a place and no words.
 pub fn refusal_at(
-    alloc: Global,
-    form: Form,
+    printer: Printer,
     number: usize,
     name: &str,
     place: &Place,
 ) -> Result<Vec<u8>, AllocError>
-    ensures { IfOk result (λ text. text.items ≡ refusal_at form number name.now place.now) }
+    ensures { IfOk result (λ text. text.items ≡ refusal_at printer.form number name.now place.now) }
 {
-    let place = place_text(alloc, place)?;
-    refusal(alloc, form, number, name, Some(place.as_str()), &[])
+    let place = place_text(printer.alloc, place)?;
+    refusal(printer, number, name, Some(place.as_str()), &[])
 }
 
 /// A refusal with a place and one word.
 pub fn refusal_of(
-    alloc: Global,
-    form: Form,
+    printer: Printer,
     number: usize,
     name: &str,
     place: &Place,
     word: &[u8],
 ) -> Result<Vec<u8>, AllocError>
     ensures { IfOk result (λ text. text.items ≡
-        refusal_of form number name.now place.now word.now) }
+        refusal_of printer.form number name.now place.now word.now) }
 {
-    let place = place_text(alloc, place)?;
-    refusal(alloc, form, number, name, Some(place.as_str()), &[word])
+    let place = place_text(printer.alloc, place)?;
+    refusal(printer, number, name, Some(place.as_str()), &[word])
 }
 
 /// A refusal with a place and a word that is printed only in words.
 pub fn refusal_about(
-    alloc: Global,
-    form: Form,
+    printer: Printer,
     number: usize,
     name: &str,
     place: &Place,
     word: &[u8],
 ) -> Result<Vec<u8>, AllocError>
     ensures { IfOk result (λ text. text.items ≡
-        refusal_about form number name.now place.now word.now) }
+        refusal_about printer.form number name.now place.now word.now) }
 {
-    match form {
-        Form::Numbered => refusal_at(alloc, form, number, name, place),
-        Form::InWords => refusal_of(alloc, form, number, name, place, word),
+    match printer.form {
+        Form::Numbered => refusal_at(printer, number, name, place),
+        Form::InWords => refusal_of(printer, number, name, place, word),
     }
 }
 
 /// A refusal with these words and with a place, if any, that is printed only in words.
 pub fn refusal_near(
-    alloc: Global,
-    form: Form,
+    printer: Printer,
     number: usize,
     name: &str,
     place: &Option<Place>,
     words: &[&[u8]],
 ) -> Result<Vec<u8>, AllocError>
     ensures { IfOk result (λ text. text.items ≡
-        refusal_near form number name.now place.now (map (λ word. word.now) words.now)) }
+        refusal_near printer.form number name.now place.now (map (λ word. word.now) words.now)) }
 {
-    match (form, place) {
+    match (printer.form, place) {
         (Form::InWords, Some(place)) => {
-            let place = place_text(alloc, place)?;
-            refusal(alloc, form, number, name, Some(place.as_str()), words)
+            let place = place_text(printer.alloc, place)?;
+            refusal(printer, number, name, Some(place.as_str()), words)
         }
-        _ => refusal_with(alloc, form, number, name, words),
+        _ => refusal_with(printer, number, name, words),
     }
 }
 
 /// A refusal with a line of this file and no words.
 pub fn refusal_in(
-    alloc: Global,
-    form: Form,
+    printer: Printer,
     number: usize,
     name: &str,
     file: &Name,
     line: usize,
 ) -> Result<Vec<u8>, AllocError>
-    ensures { IfOk result (λ text. text.items ≡ refusal_in form number name.now file.now line) }
+    ensures { IfOk result (λ text. text.items ≡
+        refusal_in printer.form number name.now file.now line) }
 {
     let file = file.as_str();
-    let place = format!(in alloc; "{file}:{line}")?;
-    refusal(alloc, form, number, name, Some(place.as_str()), &[])
+    let place = format!(in printer.alloc; "{file}:{line}")?;
+    refusal(printer, number, name, Some(place.as_str()), &[])
 }
 
 /// A refusal with these words and no place.
 pub fn refusal_with(
-    alloc: Global,
-    form: Form,
+    printer: Printer,
     number: usize,
     name: &str,
     words: &[&[u8]],
 ) -> Result<Vec<u8>, AllocError>
     ensures { IfOk result (λ text. text.items ≡
-        refusal_with form number name.now (map (λ word. word.now) words.now)) }
+        refusal_with printer.form number name.now (map (λ word. word.now) words.now)) }
 {
-    refusal(alloc, form, number, name, None, words)
+    refusal(printer, number, name, None, words)
 }
 
 /// A refusal of a line of a plan.
 pub fn refusal_of_line(
-    alloc: Global,
-    form: Form,
+    printer: Printer,
     number: usize,
     name: &str,
     line: usize,
 ) -> Result<Vec<u8>, AllocError>
-    ensures { IfOk result (λ text. text.items ≡ refusal_of_line form number name.now line) }
+    ensures { IfOk result (λ text. text.items ≡ refusal_of_line printer.form number name.now line) }
 {
-    let line = format!(in alloc; "{line}")?;
-    refusal_with(alloc, form, number, name, &[b"line", line.as_bytes()])
+    let line = format!(in printer.alloc; "{line}")?;
+    refusal_with(printer, number, name, &[b"line", line.as_bytes()])
 }
 
 /// The text that is printed for out of memory.

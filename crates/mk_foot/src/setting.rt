@@ -96,24 +96,24 @@ fn places_of(
 /// Makes a setting of a book and the tables of `tables_of`.
 fn of_tables(
     alloc: Global,
-    book: Book,
+    footprints: Book,
     tables: (NameTable, NameTable),
 ) -> Result<Setting, AllocError>
     ensures { IfOk result (λ setting. setting ≡
         record {
-          records = book.records;
-          sources = book.sources;
+          records = footprints.records;
+          sources = footprints.sources;
           texts = tables.0;
-          fixed = book.fixed;
+          fixed = footprints.fixed;
           passed_over = tables.1;
         }) }
 {
-    let targets = targets_of(alloc, &book.records)?;
+    let targets = targets_of(alloc, &footprints.records)?;
     let Book {
         fixed,
         sources,
         records,
-    } = book;
+    } = footprints;
     let (fixed, sources) = places_of(alloc, fixed, sources)?;
     let (texts, passed_over) = tables;
     Ok(Setting {
@@ -132,21 +132,21 @@ impl Setting {
     /// memory.
     pub fn new(
         alloc: Global,
-        book: Book,
+        footprints: Book,
         texts: &[String],
         passed_over: &[String],
     ) -> Result<Setting, AllocError>
         ensures { IfOk result (λ setting. setting ≡
             record {
-              records = book.records;
-              sources = book.sources;
+              records = footprints.records;
+              sources = footprints.sources;
               texts = map string_bytes texts.now;
-              fixed = book.fixed;
+              fixed = footprints.fixed;
               passed_over = map string_bytes passed_over.now;
             }) }
     {
         let tables = tables_of(alloc, texts, passed_over)?;
-        of_tables(alloc, book, tables)
+        of_tables(alloc, footprints, tables)
     }
 
     /// Whether a file is given: a source, a file under a fixed prefix, or a makefile text. It

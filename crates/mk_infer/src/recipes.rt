@@ -19,14 +19,14 @@ use std::alloc::Global;
 fn expanded_by<'m>(
     alloc: Global,
     choices: &'m Choices<'m>,
-    maker: &ResolvedRule<'m>,
+    rule: &ResolvedRule<'m>,
     name: &str,
 ) -> Result<Commands, InferFault>
-    requires { maker.now ≡ resolved_rule choices.now.makefile choices.now.exists name.now }
+    requires { rule.now ≡ resolved_rule choices.now.makefile choices.now.exists name.now }
     ensures { Gives (λ found. found) result
         (commands choices.now.makefile choices.now.exists name.now) }
 {
-    let Some(commands) = maker.commands else {
+    let Some(commands) = rule.commands else {
         let lines = Vec::new(alloc);
         return Ok(Commands {
             lines,
@@ -34,7 +34,7 @@ fn expanded_by<'m>(
         });
     };
     let table = choices.table();
-    let needs = needs_with(alloc, &maker.rules, maker.choice)?;
+    let needs = needs_with(alloc, &rule.rules, rule.choice)?;
     let (stem, _ending) = parted(table, name);
     let locals = Locals::Recipe {
         target: name,

@@ -1,8 +1,8 @@
 -- The claims that lines mend, by what the code's claims stand for.
 use Rattle.std.proofs.Common.{◌≡◌, Bool, true, false, cond, List, [], ◌∷◌, suc, filter, length, map, refl, ap}
-use Rattle.mk_sentences.specs.Claims.{Claim, claim_view}
+use Rattle.mk_claims.specs.Claims.{Claim, claim_view}
 use Rattle.mk_sentences.specs.Counts.{has_line}
-use Rattle.mk_sentences.specs.declared.claim.Claim as borrowed
+use Rattle.mk_claims.specs.declared.claim.Claim as borrowed
 
 -- a line mends the claim
 abbrev pub is_mended : borrowed.Claim → Bool

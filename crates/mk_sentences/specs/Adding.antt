@@ -2,8 +2,8 @@
 use Rattle.std.specs.Prelude.{ℕ, List, [], ◌∷◌, ◌++◌, codes}
 use Rattle.std.specs.List.{flat_map}
 use Rattle.mk_repair.specs.Lines.{Line, lines_between, line_text, line_with}
-use Rattle.mk_sentences.specs.declared.topic.Kind.{Kind}
-use Rattle.mk_sentences.specs.declared.topic.Kind.TheVariants.{NoTarget, OutputRace, OutputStale, OutputRaceAndStale, UnreachedRead}
+use Rattle.mk_claims.specs.declared.topic.Kind.{Kind}
+use Rattle.mk_claims.specs.declared.topic.Kind.TheVariants.{NoTarget, OutputRace, OutputStale, OutputRaceAndStale, UnreachedRead}
 
 -- The lines that mend a group of this kind: its targets become phony; or each gets, as
 -- prerequisites, the recipe that writes the files or the files themselves.

@@ -5,8 +5,8 @@ use Rattle.std.specs.List.{flat_map}
 use Rattle.mk_lines.specs.Bytes.{is_byte}
 use Rattle.mk_repair.specs.Lines.{line_text}
 use Rattle.mk_sentences.specs.Adding.{lines_of}
-use Rattle.mk_sentences.specs.Claims.{Claim}
-use Rattle.mk_sentences.specs.Grouping.{Group}
+use Rattle.mk_claims.specs.Claims.{Claim}
+use Rattle.mk_claims.specs.Grouping.{Group}
 use Rattle.mk_sentences.specs.declared.counts.Counts.{Counts}
 
 -- The text of the lines that mend a group; empty where none does.

@@ -1,13 +1,4 @@
-pub mod Topics
 pub mod Phrases
-pub mod Claims
-pub mod Untouched
-pub mod Offers
-pub mod Wider
-pub mod Joining
-pub mod Grouping
-pub mod Tables
-pub mod Numbering
 pub mod Places
 pub mod Sentences
 pub mod Advice

@@ -2,8 +2,8 @@
 use Rattle.std.specs.Prelude.{ℕ, List, [], ◌++◌, codes, length, map, nat_lt, if◌then◌else◌}
 use Rattle.std.specs.List.{flat_map}
 use Rattle.mk_repair.specs.Lines.{pieces, spaced}
-use Rattle.mk_sentences.specs.declared.topic.Kind.{Kind}
-use Rattle.mk_sentences.specs.declared.topic.Kind.TheVariants.{TwoWriters}
+use Rattle.mk_claims.specs.declared.topic.Kind.{Kind}
+use Rattle.mk_claims.specs.declared.topic.Kind.TheVariants.{TwoWriters}
 
 -- What the names that a group of this kind is about are: files that two recipes write, else
 -- targets.

@@ -1,9 +1,9 @@
 -- The sentence of a group: who, what, and what follows for the user.
 use Rattle.std.specs.Prelude.{ℕ, List, ◌++◌, codes}
-use Rattle.mk_sentences.specs.Topics.{Topic}
+use Rattle.mk_claims.specs.Topics.{Topic}
 use Rattle.mk_sentences.specs.Phrases.{by, shown}
-use Rattle.mk_sentences.specs.declared.topic.Kind.{Kind}
-use Rattle.mk_sentences.specs.declared.topic.Kind.TheVariants.{NoRecord, OtherCommands, VaryingCommands, NoTarget, TwoWriters, GivenWritten, OwnRead, UnknownRead, UnrecordedRead, UnreachedRead, Loose, OwnPrerequisite, Race, OutputRace, Stale, OutputStale, RaceAndStale, OutputRaceAndStale, Selection}
+use Rattle.mk_claims.specs.declared.topic.Kind.{Kind}
+use Rattle.mk_claims.specs.declared.topic.Kind.TheVariants.{NoRecord, OtherCommands, VaryingCommands, NoTarget, TwoWriters, GivenWritten, OwnRead, UnknownRead, UnrecordedRead, UnreachedRead, Loose, OwnPrerequisite, Race, OutputRace, Stale, OutputStale, RaceAndStale, OutputRaceAndStale, Selection}
 
 -- These recipes have no record.
 abbrev pub no_record : List (List ℕ) → List ℕ

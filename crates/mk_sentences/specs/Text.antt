@@ -1,25 +1,22 @@
 -- The text of findings in sentences.
-use Rattle.std.specs.Prelude.{◌≡◌, ℕ, Bool, true, false, List, [], ◌∷◌, ◌++◌, codes, drop, length, map, take, if◌then◌else◌}
+use Rattle.std.specs.Prelude.{◌≡◌, ℕ, List, [], ◌∷◌, ◌++◌, codes, drop, length, take, if◌then◌else◌}
 use Rattle.std.specs.List.{flat_map, list_any}
 use Rattle.mk_read.specs.Reading.{Makefile}
 use Rattle.mk_subject.specs.Subject.{Subject}
 use Rattle.mk_find.specs.declared.finding.Finding.{Finding}
-use Rattle.mk_find.specs.declared.finding.Finding.TheVariants as finding
-use Rattle.mk_sentences.specs.Topics.{Topic, kind_word}
-use Rattle.mk_sentences.specs.Claims.{Claim, claim_of}
+use Rattle.mk_claims.specs.declared.topic.Kind.{Kind}
+use Rattle.mk_claims.specs.declared.topic.Kind.TheVariants.{TwoWriters}
+use Rattle.mk_claims.specs.Topics.{Topic, kind_word}
+use Rattle.mk_claims.specs.Claims.{Claim}
+use Rattle.mk_claims.specs.Grouping.{Group, groups}
+use Rattle.mk_claims.specs.Joining.{joined}
+use Rattle.mk_claims.specs.Shown.{AreShown, all_claims, is_static}
 use Rattle.mk_sentences.specs.Counts.{counts_of, counts_text}
-use Rattle.mk_sentences.specs.Grouping.{Group, groups}
-use Rattle.mk_sentences.specs.Joining.{joined}
-use Rattle.mk_sentences.specs.Offers.{Offer, claim_offered}
-use Rattle.mk_sentences.specs.Wider.{AreOffers}
 use Rattle.mk_sentences.specs.Places.{first_name, head}
 use Rattle.mk_sentences.specs.Sentences.{sentence}
 use Rattle.mk_sentences.specs.Advice.{advice}
 use Rattle.mk_sentences.specs.Adding.{added_lines, lines_of}
 use Rattle.mk_sentences.specs.Listing.{left_out, who_are}
-use Rattle.mk_sentences.specs.Untouched.{untouched}
-use Rattle.mk_sentences.specs.declared.topic.Kind.{Kind}
-use Rattle.mk_sentences.specs.declared.topic.Kind.TheVariants.{TwoWriters}
 
 -- The name at whose line a group of this kind is shown: the first of two writers, else the first
 -- name of the group.
@@ -53,12 +50,6 @@ group_text m g =
     head m (shown_name g.topic g.who) ++ (sentence g.topic g.who g.what ++
     (word_text g.topic.kind ++ repair_text g.topic g.who g.what))
 
--- Findings of this kind hide races and stale reads.
-abbrev pub is_static : Finding → Bool
-is_static (finding.Race recipe writer file) = false
-is_static (finding.Stale recipe file) = false
-is_static found = true
-
 -- The text of groups, which are those of the claims, and a line with the counts.
 abbrev pub groups_text : Makefile → List Claim → List Group → List ℕ
 groups_text m claims gs = flat_map (group_text m) gs ++ counts_text (counts_of claims gs)
@@ -78,28 +69,11 @@ hidden_text m (c ∷ claims) =
 abbrev pub then_text : Makefile → List Finding → List Claim → List ℕ
 then_text m findings later = if list_any is_static findings then hidden_text m later else []
 
--- Where one of the findings hides others, what the hidden ones claim, but for what mending the
--- findings touches.
-abbrev pub later_claims : Subject → (findings hidden : List Finding) → List Claim
-later_claims x findings hidden =
-    if list_any is_static findings
-    then untouched (map (claim_of x) findings) (map (claim_of x) hidden) else []
-
--- What the findings claim, and then what those claim that they hide.
-abbrev pub all_claims : Subject → (findings hidden : List Finding) → List Claim
-all_claims x findings hidden = map (claim_of x) findings ++ later_claims x findings hidden
-
 -- The text of findings, by all claims.
 abbrev pub all_text : Makefile → List Finding → List Claim → List ℕ
 all_text m findings claims =
     claims_text m (take (length findings) claims) ++
     then_text m findings (drop (length findings) claims)
-
--- The claims as they are shown: without the lines that would close a cycle with the other lines, the
--- graph, and what the rules say of prerequisites that the goals don't reach.
-abbrev pub AreShown : Subject → (claims shown : List Claim) → Type 0
-AreShown x claims shown =
-    (offers : List Offer) × AreOffers x claims offers × (shown ≡ map claim_offered offers)
 
 -- The text of findings, and of those that they hide.
 abbrev pub HasSentences : Subject → (findings hidden : List Finding) → List ℕ → Type 0

@@ -5,10 +5,10 @@ ghost use Rattle.std.specs.List.{flat_map};
 ghost use Rattle.std.specs.String.{string_bytes};
 ghost use Rattle.mk_repair.specs.Lines.{line_text, lines_between};
 ghost use Rattle.mk_repair.specs.Rows.{names_view};
-ghost use Rattle.mk_sentences.specs.Topics.{topic_view};
+ghost use Rattle.mk_claims.specs.Topics.{topic_view};
 ghost use Rattle.mk_sentences.specs.Adding.{added_lines, added_with, lines_of};
 
-use crate::topic::{Kind, Topic};
+use mk_claims::{Kind, Topic};
 use mk_repair::{pieces_of, push_lines_between};
 use std::alloc::{AllocError, Global};
 

@@ -4,11 +4,11 @@ ghost use Rattle.std.specs.Prelude.{◌≡◌, ◌++◌, OnOk};
 ghost use Rattle.std.specs.String.{string_bytes};
 ghost use Rattle.mk_lines.specs.Names.{has_name};
 ghost use Rattle.mk_repair.specs.Rows.{names_view};
-ghost use Rattle.mk_sentences.specs.Topics.{topic_view};
+ghost use Rattle.mk_claims.specs.Topics.{topic_view};
 ghost use Rattle.mk_sentences.specs.Advice.{advice, choose_maker, find_maker, keep_first, keep_one, open_cycle, rename, split_writer, take_in, write_another, write_rule};
 
 use crate::phrases::{by, shown};
-use crate::topic::{Kind, Topic};
+use mk_claims::{Kind, Topic};
 use std::alloc::{AllocError, Global};
 
 /// Appends what to do about files whose names a makefile can't hold.

@@ -3,15 +3,14 @@
 ghost use Rattle.std.specs.Prelude.{◌≡◌, ◌++◌, filter, length, map, IfOk, OnOk};
 ghost use Rattle.std.specs.List.{flat_map};
 ghost use Rattle.std.specs.String.{string_bytes};
-ghost use Rattle.mk_sentences.specs.Claims.{claim_view};
+ghost use Rattle.mk_claims.specs.Claims.{claim_view};
 ghost use Rattle.mk_sentences.specs.Counts.{by_number, counts_of, counts_text, has_line, mending, no_mending, offered_text, some_mending, whom};
-ghost use Rattle.mk_sentences.specs.Grouping.{group_of};
-ghost use Rattle.mk_sentences.specs.Tables.{groups_view};
+ghost use Rattle.mk_claims.specs.Grouping.{group_of};
+ghost use Rattle.mk_claims.specs.Tables.{groups_view};
 ghost use Rattle.mk_lines.specs.Bytes.{is_byte};
 
 use crate::adding::push_lines;
-use crate::claim::Claim;
-use crate::grouping::Groups;
+use mk_claims::{Claim, Groups};
 use std::alloc::{AllocError, Global};
 
 /// How many findings there are, and how many of them lines mend.

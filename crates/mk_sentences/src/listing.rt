@@ -6,7 +6,7 @@ ghost use Rattle.std.specs.String.{string_bytes};
 ghost use Rattle.mk_repair.specs.Rows.{names_view};
 ghost use Rattle.mk_sentences.specs.Listing.{left_out, listed_line, who_are};
 
-use crate::topic::Kind;
+use mk_claims::Kind;
 use mk_repair::pieces_of;
 use std::alloc::{AllocError, Global};
 

@@ -1,31 +1,27 @@
 //! The text of findings in sentences.
 
 ghost use Rattle.std.specs.Prelude.{◌≡◌, ◌++◌, map, IfOk, OnOk};
-ghost use Rattle.std.specs.List.{flat_map, list_any};
+ghost use Rattle.std.specs.List.{flat_map};
 ghost use Rattle.std.specs.String.{string_bytes};
 ghost use Rattle.mk_repair.specs.Gathering.{gathered};
 ghost use Rattle.mk_repair.specs.Rows.{names_view};
-ghost use Rattle.mk_sentences.specs.Topics.{topic_view};
-ghost use Rattle.mk_sentences.specs.Claims.{claim_of, claim_view};
-ghost use Rattle.mk_sentences.specs.Grouping.{group_key_eq, group_of, group_pair};
-ghost use Rattle.mk_sentences.specs.Tables.{groups_view, rows_view};
+ghost use Rattle.mk_claims.specs.Topics.{topic_view};
+ghost use Rattle.mk_claims.specs.Claims.{claim_view};
+ghost use Rattle.mk_claims.specs.Grouping.{group_key_eq, group_of, group_pair};
+ghost use Rattle.mk_claims.specs.Tables.{groups_view, rows_view};
 ghost use Rattle.mk_sentences.specs.Places.{first_name};
-ghost use Rattle.mk_sentences.specs.Untouched.{untouched};
-ghost use Rattle.mk_sentences.specs.Text.{HasSentences, all_claims, all_text, claims_text, group_text, groups_text, hidden_text, is_static, repair_text, shown_name, then_text, to_do, word_text};
+ghost use Rattle.mk_sentences.specs.Text.{HasSentences, all_text, claims_text, group_text, groups_text, hidden_text, repair_text, shown_name, then_text, to_do, word_text};
 
 use crate::adding::push_added_lines;
 use crate::advice::push_advice;
-use crate::claim::{Claim, claims_of};
 use crate::counts::{counts_of, push_counts};
-use crate::grouping::{GroupKey, Groups, Rows, groups_of};
-use crate::joining::{claim_set, joined_rows};
-use crate::left_claims::untouched;
 use crate::listing::{push_left_out, who_are};
-use crate::offer::claims_offered;
 use crate::places::{Places, push_head};
 use crate::sentence::push_sentence;
-use crate::topic::{Kind, Topic, kind_word};
-use crate::wider::offers_of;
+use mk_claims::{
+    Claim, GroupKey, Groups, Kind, Rows, Topic, all_claims, claim_set, claims_offered, groups_of,
+    has_static, joined_rows, kind_word, offers_of,
+};
 use mk_find::Finding;
 use mk_read::Makefile;
 use mk_subject::Subject;
@@ -171,20 +167,6 @@ fn push_claims(
     push_rows(alloc, out, makefile, claims, &rows)
 }
 
-/// Whether findings of this kind hide races and stale reads.
-fn is_static(finding: &Finding) -> bool
-    ensures { result ≡ is_static finding.now }
-{
-    !matches!(finding, Finding::Race { .. } | Finding::Stale { .. })
-}
-
-/// Whether one of the findings hides races and stale reads.
-pub fn has_static(findings: &[Finding]) -> bool
-    ensures { result ≡ list_any is_static findings.now }
-{
-    findings.iter().any(|finding| is_static(finding))
-}
-
 /// Appends what the hidden findings claim.
 fn push_hidden(
     alloc: Global,
@@ -217,51 +199,6 @@ fn push_then(
         return Ok(());
     }
     push_hidden(alloc, out, makefile, later)
-}
-
-/// Adds claims at the end.
-fn push_all_claims<'a>(claims: &mut Vec<Claim<'a>>, more: &[Claim<'a>]) -> Result<(), AllocError>
-    ensures { OnOk result (map claim_view claims.new.items ≡
-        map claim_view claims.old.items ++ map claim_view more.now) }
-{
-    for claim in more {
-        claims.push(*claim)?;
-    }
-    Ok(())
-}
-
-/// Adds what the hidden findings claim, without what mending the others touches.
-fn add_later<'a>(
-    alloc: Global,
-    claims: &mut Vec<Claim<'a>>,
-    subject: &'a Subject<'_>,
-    hidden: &'a [Finding],
-) -> Result<(), AllocError>
-    ensures { OnOk result (map claim_view claims.new.items ≡ map claim_view claims.old.items ++
-        untouched (map claim_view claims.old.items)
-        (map (claim_of subject.entry.now) hidden.entry.now)) }
-{
-    let hidden = claims_of(alloc, subject, hidden)?;
-    let left = untouched(alloc, claims.as_slice(), &hidden)?;
-    push_all_claims(claims, &left)
-}
-
-/// What the findings of a no claim, and then, where one of them hides others, what these claim,
-/// without what mending the findings touches. The only error is out of memory.
-pub fn all_claims<'a>(
-    alloc: Global,
-    subject: &'a Subject<'_>,
-    findings: &'a [Finding],
-    hidden: &'a [Finding],
-) -> Result<Vec<Claim<'a>>, AllocError>
-    ensures { IfOk result (λ claims. map claim_view claims.items ≡
-        all_claims subject.entry.now findings.entry.now hidden.entry.now) }
-{
-    let mut claims = claims_of(alloc, subject, findings)?;
-    if has_static(findings) {
-        add_later(alloc, &mut claims, subject, hidden)?;
-    }
-    Ok(claims)
 }
 
 /// Appends the text of a no, given what its findings and then what those claim that they hide.

@@ -3,11 +3,11 @@
 ghost use Rattle.std.specs.Prelude.{◌≡◌, ◌++◌, IfOk, OnOk};
 ghost use Rattle.std.specs.String.{string_bytes};
 ghost use Rattle.mk_repair.specs.Rows.{names_view};
-ghost use Rattle.mk_sentences.specs.Topics.{topic_view};
+ghost use Rattle.mk_claims.specs.Topics.{topic_view};
 ghost use Rattle.mk_sentences.specs.Sentences.{both_effects, given_written, loose, no_record, no_target, other_commands, output_race, output_race_and_stale, output_stale, own_read, race, race_and_stale, reads, recipes_of, selection, sentence, stale, stays_old, two_writers, unknown_read, unreached_read, unrecorded_read, varying_commands};
 
 use crate::phrases::{by, shown};
-use crate::topic::{Kind, Topic};
+use mk_claims::{Kind, Topic};
 use std::alloc::{AllocError, Global};
 
 /// Appends the sentence on recipes without a record.

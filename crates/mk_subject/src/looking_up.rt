@@ -185,22 +185,22 @@ fn entry_of<'a>(
 
 /// Whether inference rules take a file to exist before any recipe has written it: it is a target or
 /// a source.
-fn is_there(table: &RuleTable<'_>, there: &Exists<'_>, name: &str) -> bool
-    ensures { result ≡ true → is_there table.now there.now name.now ≡ true }
+fn is_there(table: &RuleTable<'_>, exists: &Exists<'_>, name: &str) -> bool
+    ensures { result ≡ true → is_there table.now exists.now name.now ≡ true }
 {
     match table.target(name) {
         Some(_target) => true,
-        None => there.sources.contains(name),
+        None => exists.sources.contains(name),
     }
 }
 
 /// Whether inference rules take all these files to exist before any recipe has written them.
-fn are_there(table: &RuleTable<'_>, there: &Exists<'_>, files: &[String]) -> bool
+fn are_there(table: &RuleTable<'_>, exists: &Exists<'_>, files: &[String]) -> bool
     ensures { result ≡ true → (f : List ℕ) → Has (map string_bytes files.now) f →
-        is_there table.now there.now f ≡ true }
+        is_there table.now exists.now f ≡ true }
 {
     for file in files {
-        if !is_there(table, there, file.as_str()) {
+        if !is_there(table, exists, file.as_str()) {
             return false;
         }
     }
@@ -304,19 +304,19 @@ fn numbers_in_order(graph: &Graph) -> Result<Vec<usize>, AllocError>
 pub fn entries_for<'a>(
     alloc: Global,
     table: &RuleTable<'_>,
-    there: &Exists<'_>,
+    exists: &Exists<'_>,
     records: &Records<'a>,
 ) -> Result<Vec<NodeRow<'a>>, InferFault>
-    requires { there.now.more ≡ [] }
+    requires { exists.now.more ≡ [] }
     ensures entries { IfOk result (λ entries. AreRows
-        (subject_of table.now there.now
+        (subject_of table.now exists.now
         records.now.graph records.now.setting) entries.items) }
     ensures fault { IfErr result (λ fault. IsFaultOf
-        (subject_of table.now there.now
+        (subject_of table.now exists.now
         records.now.graph records.now.setting) fault) }
 {
     let order = numbers_in_order(records.graph())?;
-    let choices = Choices::new(alloc, table, there)?;
+    let choices = Choices::new(alloc, table, exists)?;
     if let Some(entries) = entries_that_stay(alloc, &choices, records, &order)? {
         return Ok(entries);
     }

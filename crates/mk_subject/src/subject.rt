@@ -74,27 +74,27 @@ impl<'a> Subject<'a> {
     pub fn new(
         alloc: Global,
         table: &'a RuleTable<'a>,
-        there: Exists<'a>,
+        exists: Exists<'a>,
         graph: &'a Graph,
         setting: &'a Setting,
     ) -> Result<Subject<'a>, InferFault>
-        requires selected { Selects table.now there
+        requires selected { Selects table.now exists
             (map (build.name graph.now) graph.now.goals) (Ok graph.now) }
-        requires no_leaf { there.any_leaf ≡ false }
-        requires nothing_more { there.more ≡ [] }
-        requires sources { there.sources ≡ setting.now.sources }
-        requires fixed { there.fixed ≡ setting.now.fixed }
-        requires texts { there.texts ≡ setting.now.texts }
+        requires no_leaf { exists.any_leaf ≡ false }
+        requires nothing_more { exists.more ≡ [] }
+        requires sources { exists.sources ≡ setting.now.sources }
+        requires fixed { exists.fixed ≡ setting.now.fixed }
+        requires texts { exists.texts ≡ setting.now.texts }
         ensures value { IfOk result (λ subject. subject ≡
-            subject_of table.now there.entry graph.now setting.now) }
+            subject_of table.now exists.entry graph.now setting.now) }
         ensures subject { IfOk result (λ subject. IsSubject subject) }
         ensures fault { IfErr result (λ fault. IsFaultOf
-            (subject_of table.now there.entry graph.now setting.now) fault) }
+            (subject_of table.now exists.entry graph.now setting.now) fault) }
     {
-        let tables = tables_for(alloc, table, &there, graph, setting)?;
+        let tables = tables_for(alloc, table, &exists, graph, setting)?;
         Ok(Subject {
             table,
-            there,
+            there: exists,
             graph,
             setting,
             tables,

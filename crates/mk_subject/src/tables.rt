@@ -39,41 +39,41 @@ pub struct Tables<'a> {
 fn entries_in<'a>(
     alloc: Global,
     table: &RuleTable<'_>,
-    there: &Exists<'_>,
+    exists: &Exists<'_>,
     records: &Records<'a>,
 ) -> Result<Vec<NodeRow<'a>>, InferFault>
-    requires { there.now.more ≡ [] }
+    requires { exists.now.more ≡ [] }
     ensures graph { IsGraph records.now.graph }
     ensures entries { IfOk result (λ entries. AreRows
-        (subject_of table.now there.now
+        (subject_of table.now exists.now
         records.now.graph records.now.setting) entries.items) }
     ensures fault { IfErr result (λ fault. IsFaultOf
-        (subject_of table.now there.now
+        (subject_of table.now exists.now
         records.now.graph records.now.setting) fault) }
 {
     let _nodes = records.graph().nodes();
-    entries_for(alloc, table, there, records)
+    entries_for(alloc, table, exists, records)
 }
 
 /// Builds all tables. The error is the first fault of the nodes' commands, or out of memory.
 pub fn tables_for<'a>(
     alloc: Global,
     table: &RuleTable<'_>,
-    there: &Exists<'_>,
+    exists: &Exists<'_>,
     graph: &'a Graph,
     setting: &'a Setting,
 ) -> Result<Tables<'a>, InferFault>
-    requires { there.now.more ≡ [] }
+    requires { exists.now.more ≡ [] }
     ensures tables { IfOk result (λ t. AreTables
-        (subject_of table.now there.now graph.now setting.now)
+        (subject_of table.now exists.now graph.now setting.now)
         t.entries.items t.names (map (λ name. name.now) t.files.names.keys) t.files.known.items
         t.files.nodes.items t.files.writes t.files.reads t.unsettled) }
     ensures fault { IfErr result (λ fault. IsFaultOf
-        (subject_of table.now there.now graph.now setting.now) fault) }
+        (subject_of table.now exists.now graph.now setting.now) fault) }
 {
     serial_reaches_each_once();
     let records = Records::new(alloc, graph, setting)?;
-    let entries = entries_in(alloc, table, there, &records)?;
+    let entries = entries_in(alloc, table, exists, &records)?;
     let writers = writers_among(alloc, &entries)?;
     let names = node_names(alloc, graph)?;
     let files = files_of(alloc, table, &records, &writers, &names)?;

@@ -1,5 +1,5 @@
 -- What the parts of a run make together.
-use Rattle.std.proofs.Common.{◌≡◌, ◌⊎◌, ◌∙◌, ℕ, Bool, true, true≢false, nat_eq, List, [], String, Global, map, Option, Some, None, refl, sym, ap, ap₂, subst, inl, inr, Result, Ok, Err, IfOk}
+use Rattle.std.proofs.Common.{◌≡◌, ◌⊎◌, ◌∙◌, ℕ, Bool, true, false, true≢false, nat_eq, List, [], String, Global, map, Option, Some, None, refl, sym, ap, ap₂, subst, inl, inr, Result, Ok, Err, IfOk}
 use Rattle.std.specs.Prelude.{IsErr, OnErr, unwrap_or}
 use Rattle.std.specs.Option.{option_map}
 use Rattle.std.specs.String.{string_bytes}
@@ -28,7 +28,7 @@ use Rattle.mk_command.specs.declared.invocation.Invocation.{Invocation}
 use Rattle.mk_command.specs.declared.invocation.Invocation.TheVariants.{Check, CheckInJson, CheckInWords, Explain, Graph, Repair, Simulate, Since, Verify}
 use Rattle.mk_command.specs.Invocation.{AreRefusedUnread, faults_of, invocation_of, request_in}
 use Rattle.mkcheck_host.specs.Outcome.{Written}
-use Rattle.mkcheck_run.specs.Run.{AnswersInvocation, AnswersOver, Explains, MendsIn, Promises, Response, Shows, evidence_response, refusal_written, repair_response, repair_status}
+use Rattle.mkcheck_run.specs.Run.{AnswersInvocation, AnswersOver, Explains, MendsIn, Promises, Response, Shows, evidence_response, lines_printed, refusal_written, repair_response, repair_status}
 
 -- what is explained is one of the kinds, and not out of memory
 pub explained_kind : (kind : ErrorKind) (kinds : Kinds) (w : Written) → Explains kind w → (kind ≡ OutOfMemory) ⊎ IsAmong kind kinds → IsAmong kind kinds
@@ -75,34 +75,36 @@ pub no_memory_runs : (told : Told) (request : Request) (plan : List ℕ) (form :
 no_memory_runs told request plan form = (Err Memory, tt, refl)
 
 -- and to one to mend a makefile
-pub no_memory_mends : (told : Told) (request : Request) (form : Form) → AnswersInvocation told (Repair request form) (Err Memory)
-no_memory_mends told request form = (Err Memory, tt, refl)
+pub no_memory_mends : (told : Told) (request : Request) (form : Form) (part : Bool) → AnswersInvocation told (Repair request form part) (Err Memory)
+no_memory_mends told request form part = (Err Memory, tt, refl)
 
 -- and to one to compare two builds
 pub no_memory_compares : (was told : Told) (request : Request) (folder : List ℕ) (form : Form) → AnswersOver was told (Since request folder form) (Err Memory)
 no_memory_compares was told request folder form = (Err Memory, inl refl, (Other, refl))
 
 module _ (told : Told) (request : Request) where
-  text_mends : (found : Repaired) → Suffices told request (Ok found) → repair_status (outcome_of found) ≡ 0 → Mends told request (outcome_text (outcome_of found))
-  text_mends repairs.Right s e = s
-  text_mends (repairs.Mended text) s e = s
-  text_mends (repairs.Unmended list why) s e = absurd cc
+  text_mends : (part : Bool) (found : Repaired) → Suffices told request (Ok found) → repair_status (outcome_of found) ≡ 0 → Mends told request (lines_printed part (outcome_of found))
+  text_mends true repairs.Right s e = s
+  text_mends false repairs.Right s e = s
+  text_mends true (repairs.Mended text) s e = s
+  text_mends false (repairs.Mended text) s e = s
+  text_mends part (repairs.Unmended list why) s e = absurd cc
 
-  json_mends : (found : Repaired) → Suffices told request (Ok found) → repair_status (outcome_of found) ≡ 0 → MendsIn Json told request (repair_response Json found).text
-  json_mends repairs.Right s e = ([], s, refl)
-  json_mends (repairs.Mended text) s e = (outcome_text (outcome_of (repairs.Mended text)), s, refl)
-  json_mends (repairs.Unmended list why) s e = absurd cc
+  json_mends : (part : Bool) (found : Repaired) → Suffices told request (Ok found) → repair_status (outcome_of found) ≡ 0 → MendsIn Json told request (repair_response Json part found).text
+  json_mends part repairs.Right s e = ([], s, refl)
+  json_mends part (repairs.Mended text) s e = (outcome_text (outcome_of (repairs.Mended text)), s, refl)
+  json_mends part (repairs.Unmended list why) s e = absurd cc
 
-  form_mends : (form : Form) (found : Repaired) → Suffices told request (Ok found) → (repair_response form found).status ≡ 0 → MendsIn form told request (repair_response form found).text
-  form_mends Lines found s e = text_mends found s e
-  form_mends Words found s e = text_mends found s e
-  form_mends Json found s e = json_mends found s e
+  form_mends : (form : Form) (part : Bool) (found : Repaired) → Suffices told request (Ok found) → (repair_response form part found).status ≡ 0 → MendsIn form told request (repair_response form part found).text
+  form_mends Lines part found s e = text_mends part found s e
+  form_mends Words part found s e = text_mends part found s e
+  form_mends Json part found s e = json_mends part found s e
 
   -- with status 0 the text that is shown mends the makefile, or has the lines that do
-  pub shown_mends : (form : Form) (found : Repaired) (shown : Response) → Suffices told request (Ok found) → shown ≡ repair_response form found → shown.status ≡ 0 → MendsIn form told request shown.text
-  shown_mends form found shown s e done =
+  pub shown_mends : (form : Form) (part : Bool) (found : Repaired) (shown : Response) → Suffices told request (Ok found) → shown ≡ repair_response form part found → shown.status ≡ 0 → MendsIn form told request shown.text
+  shown_mends form part found shown s e done =
       let ends = sym (ap (λ (r : Response). r.status) e) ∙ done in
-      subst (λ (r : Response). MendsIn form told request r.text) (sym e) (form_mends form found s ends)
+      subst (λ (r : Response). MendsIn form told request r.text) (sym e) (form_mends form part found s ends)
 
 -- what the words spell
 abbrev pub texts_of : List (String Global) → List Text
@@ -123,7 +125,7 @@ refusal_status (Graph request form) text = refl
 refusal_status (Check request only_certificate evidence) text = refl
 refusal_status (CheckInWords request only_certificate) text = refl
 refusal_status (CheckInJson request) text = refl
-refusal_status (Repair request form) text = refl
+refusal_status (Repair request form part) text = refl
 refusal_status (Explain what) text = refl
 refusal_status (Verify request certificate form) text = refl
 refusal_status (Since request folder Lines) text = refl

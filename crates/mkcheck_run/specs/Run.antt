@@ -37,7 +37,7 @@ use Rattle.mk_read.specs.declared.fault.Place.{Place}
 use Rattle.mk_core_repair.specs.declared.outcome.Repair.{Repair as Repaired}
 use Rattle.mk_core_repair.specs.Outcome.{Outcome, right, mended, unmended, outcome_of}
 use Rattle.mk_core_repair.specs.RepairAnswer.{AnswersRepair, Mends}
-use Rattle.mk_core_repair.specs.RepairText.{outcome_message, outcome_text}
+use Rattle.mk_core_repair.specs.RepairText.{outcome_message, outcome_part, outcome_text}
 use Rattle.mk_core_since.specs.declared.outcome.Since.{Since as Found}
 use Rattle.mk_core_since.specs.declared.outcome.Since.TheVariants as since
 use Rattle.mk_core_since.specs.SinceAnswer.{AnswersSince}
@@ -126,28 +126,34 @@ repair_status right = 0
 repair_status (mended text) = 0
 repair_status (unmended found reason) = 1
 
--- The response with what comes of mending: the lines go to standard output; why there are none goes
--- to standard error.
-abbrev pub lines_response : Outcome → Response
-lines_response outcome =
+-- The lines for standard output: those that mend the makefile; also those for a part of its
+-- findings, where these are asked for.
+abbrev pub lines_printed : (part : Bool) → Outcome → List ℕ
+lines_printed part outcome = if part then outcome_part outcome else outcome_text outcome
+
+-- The response with what comes of mending: the lines go to standard output; why nothing mends the
+-- makefile goes to standard error.
+abbrev pub lines_response : (part : Bool) → Outcome → Response
+lines_response part outcome =
     record {
-      text = outcome_text outcome;
+      text = lines_printed part outcome;
       err = outcome_message outcome;
       status = repair_status outcome;
     }
 
--- What comes of mending, as JSON.
+-- What comes of mending, as JSON, always with the lines for a part of the findings.
 abbrev pub repair_in_json : Outcome → List ℕ
 repair_in_json right = answer_text (mended_value (outcome_text right))
 repair_in_json (mended text) = answer_text (mended_value (outcome_text (mended text)))
 repair_in_json (unmended found reason) =
-    answer_text (unmended_value (outcome_message (unmended found reason)))
+    answer_text (unmended_value (outcome_message (unmended found reason))
+    (outcome_part (unmended found reason)))
 
 -- The response with what comes of mending, in this form.
-abbrev pub repair_response : Form → Repaired → Response
-repair_response Lines found = lines_response (outcome_of found)
-repair_response Words found = lines_response (outcome_of found)
-repair_response Json found =
+abbrev pub repair_response : Form → (part : Bool) → Repaired → Response
+repair_response Lines part found = lines_response part (outcome_of found)
+repair_response Words part found = lines_response part (outcome_of found)
+repair_response Json part found =
     printed_response (repair_in_json (outcome_of found)) (repair_status (outcome_of found))
 
 -- The text of a run in this form.
@@ -163,14 +169,14 @@ run_status run = if is_some run.refused then 2 else 0
 -- The status of what comes of `since`: 1 for findings, 2 for a refusal of the old build.
 abbrev pub since_status : Found → ℕ
 since_status (since.Named names) = 0
-since_status (since.No found) = 1
+since_status (since.No found text) = 1
 since_status (since.Unsure found) = 1
 since_status (since.Refused fault) = 2
 
 -- What comes of `since`, as JSON; a refusal with this cause of a failed read.
 abbrev pub since_in_json : Cause → Found → List ℕ
 since_in_json cause (since.Named names) = answer_text (named_value names)
-since_in_json cause (since.No found) = answer_text (told_values (codes "new") found)
+since_in_json cause (since.No found text) = answer_text (told_values (codes "new") found)
 since_in_json cause (since.Unsure found) = answer_text (told_values (codes "old") found)
 since_in_json cause (since.Refused fault) = answer_text (old_refusal_value fault cause)
 
@@ -183,6 +189,11 @@ since_lines folder cause found =
       err = since_message folder cause found;
       status = since_status found;
     }
+
+-- The form is that of words.
+abbrev pub is_words : Form → Bool
+is_words Words = true
+is_words form = false
 
 -- The response with what comes of `since` in this form, with this cause of a failed read.
 abbrev pub since_response : Form → Cause → List ℕ → Found → Response
@@ -274,9 +285,9 @@ AnswersInvocation files (CheckInWords request only_certificate) answer =
 AnswersInvocation files (CheckInJson request) answer =
     (found : Result InJson Fault) ×
     Answers files request AnswersInJson found × (answer ≡ seen json_response found)
-AnswersInvocation files (Repair request form) answer =
+AnswersInvocation files (Repair request form part) answer =
     (found : Result Repaired Fault) ×
-    AnswersRepair files request found × (answer ≡ seen (repair_response form) found)
+    AnswersRepair files request found × (answer ≡ seen (repair_response form part) found)
 AnswersInvocation files (Explain what) answer =
     (answer ≡ Err Memory) ⊎ (answer ≡ Ok (explain_response what))
 AnswersInvocation files (Verify request certificate form) answer =
@@ -294,7 +305,7 @@ AnswersInvocation files (Since request folder form) answer = ⊥
 abbrev pub AnswersOver : Told → Told → Invocation → Result Response Fault → Type 0
 AnswersOver was files (Since request folder form) answer =
     (found : Result Found Fault) ×
-    AnswersSince was files folder request found ×
+    AnswersSince (is_words form) was files folder request found ×
     ((cause : Cause) × (answer ≡ seen (since_response form cause folder) found))
 AnswersOver was files asked answer = AnswersInvocation files asked answer
 
@@ -311,7 +322,7 @@ abbrev pub Promises : Told → Invocation → List ℕ → Type 0
 Promises files (Check request only_certificate evidence) text = IsRightFor files request
 Promises files (CheckInWords request only_certificate) text = IsRightFor files request
 Promises files (CheckInJson request) text = IsRightFor files request
-Promises files (Repair request form) text = MendsIn form files request text
+Promises files (Repair request form part) text = MendsIn form files request text
 Promises files (Verify request certificate form) text = IsRightFor files request
 Promises files asked text = Unit {0}
 

@@ -12,7 +12,7 @@ ghost use Rattle.mk_cert_text.specs.Writing.{value_of};
 ghost use Rattle.serde_json.specs.Written.{compact_text};
 ghost use Rattle.mk_command.specs.Invocation.{request_in};
 ghost use Rattle.mk_core_repair.specs.Outcome.{outcome_of};
-ghost use Rattle.mkcheck_run.specs.Run.{AnswersInvocation, AnswersOver, Promises, evidence_response, form_response, plan_response, lines_response, repair_in_json, repair_response, repair_status, explain_response, explained_response, first_explained, first_near, instead_text, near, printed_response, json_response, noted_response, run_printed, run_response, run_status, since_response, since_status, text_response, unknown_text, verdict_response, words_response, response_without_plan, since_in_json, since_lines, yes_note};
+ghost use Rattle.mkcheck_run.specs.Run.{AnswersInvocation, AnswersOver, Promises, evidence_response, form_response, plan_response, lines_response, repair_in_json, repair_response, repair_status, lines_printed, explain_response, explained_response, first_explained, first_near, instead_text, is_words, near, printed_response, json_response, noted_response, run_printed, run_response, run_status, since_response, since_status, text_response, unknown_text, verdict_response, words_response, response_without_plan, since_in_json, since_lines, yes_note};
 ghost use Rattle.mk_command.specs.declared.invocation.Invocation.TheVariants.{Check, CheckInJson, CheckInWords, Explain, Graph, Repair as Mend, Simulate, Since as Compare, Verify};
 
 use crate::running::{DONE, NO, REFUSED};
@@ -27,7 +27,7 @@ use mk_core_json::{
     InJson, check_in_json, mended_in_json, named_in_json, old_refusal_in_json, printed_in_json,
     run_in_json, told_in_json, unmended_in_json,
 };
-use mk_core_repair::{Repair, repair, repair_message, repair_text};
+use mk_core_repair::{Repair, repair, repair_message, repair_part, repair_text};
 use mk_core_sentences::{InWords, check_in_words};
 use mk_core_since::{Change, Folder, Since, since, since_message, since_output};
 use mk_explain::{explain, near_words, overview};
@@ -414,7 +414,7 @@ fn repair_status(found: &Repair) -> u8
     }
 }
 
-// What comes of mending, as JSON.
+// What comes of mending, as JSON, always with the lines for a part of the findings.
 fn repair_in_json(alloc: Global, found: &Repair) -> Result<Vec<u8>, AllocError>
     ensures { IfOk result (λ text. text.items ≡ repair_in_json (outcome_of found.now)) }
 {
@@ -425,16 +425,27 @@ fn repair_in_json(alloc: Global, found: &Repair) -> Result<Vec<u8>, AllocError>
         }
         Repair::Unmended(..) => {
             let message = repair_message(alloc, found)?;
-            unmended_in_json(alloc, &message)
+            unmended_in_json(alloc, &message, repair_part(found))
         }
     }
 }
 
-// The response with what comes of mending, in lines.
-fn lines_response(alloc: Global, found: &Repair) -> Result<Response, AllocError>
-    ensures { IfOk result (λ shown. shown ≡ lines_response (outcome_of found.now)) }
+// The lines for standard output, also those for a part of the findings where these are asked
+// for.
+fn lines_printed(alloc: Global, found: &Repair, part: bool) -> Result<Vec<u8>, AllocError>
+    ensures { IfOk result (λ text. text.items ≡ lines_printed part (outcome_of found.now)) }
 {
-    let text = repair_text(alloc, found)?;
+    if part {
+        return Vec::from_slice(alloc, repair_part(found));
+    }
+    repair_text(alloc, found)
+}
+
+// The response with what comes of mending, in lines.
+fn lines_response(alloc: Global, found: &Repair, part: bool) -> Result<Response, AllocError>
+    ensures { IfOk result (λ shown. shown ≡ lines_response part (outcome_of found.now)) }
+{
+    let text = lines_printed(alloc, found, part)?;
     let err = repair_message(alloc, found)?;
     Ok(Response {
         text,
@@ -444,11 +455,16 @@ fn lines_response(alloc: Global, found: &Repair) -> Result<Response, AllocError>
 }
 
 // The response with what comes of mending, in this form.
-fn repair_response(alloc: Global, form: Form, found: &Repair) -> Result<Response, AllocError>
-    ensures { IfOk result (λ shown. shown ≡ repair_response form found.now) }
+fn repair_response(
+    alloc: Global,
+    form: Form,
+    found: &Repair,
+    part: bool,
+) -> Result<Response, AllocError>
+    ensures { IfOk result (λ shown. shown ≡ repair_response form part found.now) }
 {
     match form {
-        Form::Lines | Form::Words => lines_response(alloc, found),
+        Form::Lines | Form::Words => lines_response(alloc, found, part),
         Form::Json => {
             let text = repair_in_json(alloc, found)?;
             Ok(printed_response(alloc, text, repair_status(found)))
@@ -462,18 +478,19 @@ fn answer_repair<F: Files>(
     files: &mut F,
     request: &Request,
     form: Form,
+    part: bool,
 ) -> Result<Response, Fault>
     ensures keeps { Keeps (F.fits files.old) (F.fits files.new) }
     ensures answer { IfFits (F.fits files.new)
-        (λ told. AnswersInvocation told (Mend request.now form) result) }
+        (λ told. AnswersInvocation told (Mend request.now form part) result) }
     ensures right { IfFits (F.fits files.new)
         (λ told. IfOk result (λ shown.
-        shown.status ≡ 0 → Promises told (Mend request.now form) shown.text)) }
+        shown.status ≡ 0 → Promises told (Mend request.now form part) shown.text)) }
     ensures noted { NotesFailure (F.failed files.old) (F.failed files.new) result }
     ensures untouched { OnErr (macros_for request.now) (files.new ≡ files.old) }
 {
     let found = repair(alloc, files, request)?;
-    let shown = repair_response(alloc, form, &found)?;
+    let shown = repair_response(alloc, form, &found, part)?;
     drop_or_leak(found, request.leaves_memory);
     Ok(shown)
 }
@@ -542,7 +559,7 @@ fn since_status(found: &Since) -> u8
 {
     match found {
         Since::Named(_) => DONE,
-        Since::No(_) | Since::Unsure(_) => NO,
+        Since::No(..) | Since::Unsure(_) => NO,
         Since::Refused(_) => REFUSED,
     }
 }
@@ -553,7 +570,7 @@ fn since_in_json(alloc: Global, found: &Since, cause: Cause) -> Result<Vec<u8>, 
 {
     match found {
         Since::Named(names) => named_in_json(alloc, names.as_slice()),
-        Since::No(found) => told_in_json(alloc, "new", found.as_slice()),
+        Since::No(found, _) => told_in_json(alloc, "new", found.as_slice()),
         Since::Unsure(found) => told_in_json(alloc, "old", found.as_slice()),
         Since::Refused(fault) => old_refusal_in_json(alloc, fault, cause),
     }
@@ -597,6 +614,13 @@ fn since_response(
     }
 }
 
+// Whether the form is that of words.
+fn is_words(form: Form) -> bool
+    ensures { result ≡ is_words form }
+{
+    matches!(form, Form::Words)
+}
+
 // Carries out `since`.
 fn answer_since<F: Files, B: Folder>(
     alloc: Global,
@@ -614,7 +638,7 @@ fn answer_since<F: Files, B: Folder>(
     ensures untouched { OnErr (macros_for change.now.request.now) (files.new ≡ files.old) }
 {
     below.enter(alloc, change.folder)?;
-    let found = since(alloc, below, files, change)?;
+    let found = since(alloc, below, files, change, is_words(form))?;
     let shown = since_response(alloc, form, below.cause(), &found, change.folder)?;
     drop_or_leak(found, change.request.leaves_memory);
     Ok(shown)
@@ -656,7 +680,11 @@ pub fn answer<F: Files, B: Folder>(
             only_certificate,
         } => answer_in_words(alloc, files, request, *only_certificate),
         Invocation::CheckInJson(request) => answer_in_json(alloc, files, request),
-        Invocation::Repair { request, form } => answer_repair(alloc, files, request, *form),
+        Invocation::Repair {
+            request,
+            form,
+            part,
+        } => answer_repair(alloc, files, request, *form, *part),
         Invocation::Explain(words) => answer_explain(alloc, words),
         Invocation::Verify {
             request,

@@ -213,7 +213,8 @@ fn answered<F: Files, B: Folder>(
     requires met { has_subcommand matches.now ≡ true }
     ensures keeps { Keeps (F.fits files.old) (F.fits files.new) }
     ensures answered { IfOk result (λ outcome. IsAnswered (B.fits below.new) (F.fits files.new)
-        (F.failed files.old) (F.failed files.new) (asked_with (subcommand_rows_of matches.now)) (written outcome)) }
+        (F.failed files.old) (F.failed files.new)
+        (asked_with (subcommand_rows_of matches.now)) (written outcome)) }
     ensures right { IfOk result (λ outcome. outcome.status ≡ 0 → IfFits (F.fits files.new)
         (λ told. Promises told (asked_with (subcommand_rows_of matches.now)) outcome.out.items)) }
     ensures untouched { OnErr

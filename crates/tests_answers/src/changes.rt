@@ -38,7 +38,7 @@ fn expect_from(alloc: Global, old: &mut MemFiles, want: &str) -> Result<(), Fail
         request: &asked,
         folder: "old",
     };
-    let text = match since(alloc, old, &mut new, &change) {
+    let text = match since(alloc, old, &mut new, &change, false) {
         Ok(found) => shown(alloc, &found)?,
         Err(fault) => fault_text(alloc, &fault)?,
     };

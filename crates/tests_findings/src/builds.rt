@@ -98,23 +98,38 @@ fn graph_of(
     Ok(graph)
 }
 
+/// A graph, and what it was selected by.
+#[derive(Drop)]
+struct Selection<'s> {
+    /// The makefile.
+    table: &'s RuleTable<'s>,
+    /// The files that exist.
+    there: Exists<'s>,
+    /// The graph.
+    graph: &'s Graph,
+}
+
 /// What a call returns for the build of a graph.
 fn over_graph(
     alloc: Global,
-    table: &RuleTable<'_>,
-    there: Exists<'_>,
-    graph: &Graph,
+    selection: Selection<'_>,
     setting: &Setting,
     call: &Call<'_>,
 ) -> Result<String, Fail>
-    requires selected { Selects table.now there
-        (map (build.name graph.now) graph.now.goals) (Ok graph.now) }
-    requires no_leaf { there.any_leaf ≡ false }
-    requires nothing_more { there.more ≡ [] }
-    requires sources { there.sources ≡ setting.now.sources }
-    requires fixed { there.fixed ≡ setting.now.fixed }
-    requires texts { there.texts ≡ setting.now.texts }
+    requires selected { Selects selection.table.now selection.there
+        (map (build.name selection.graph.now) selection.graph.now.goals)
+        (Ok selection.graph.now) }
+    requires no_leaf { selection.there.any_leaf ≡ false }
+    requires nothing_more { selection.there.more ≡ [] }
+    requires sources { selection.there.sources ≡ setting.now.sources }
+    requires fixed { selection.there.fixed ≡ setting.now.fixed }
+    requires texts { selection.there.texts ≡ setting.now.texts }
 {
+    let Selection {
+        table,
+        there,
+        graph,
+    } = selection;
     let subject = Subject::new(alloc, table, there, graph, setting)?;
     answer(alloc, &subject, call)
 }
@@ -129,7 +144,12 @@ fn over_setting(
 ) -> Result<String, Fail> {
     let more = NameTable::new(alloc, Vec::new(alloc))?;
     let graph = graph_of(alloc, table, &there(setting, &more), goals)?;
-    over_graph(alloc, table, there(setting, &more), &graph, setting, call)
+    let selection = Selection {
+        table,
+        there: there(setting, &more),
+        graph: &graph,
+    };
+    over_graph(alloc, selection, setting, call)
 }
 
 /// What a call returns for a build, over its indexed makefile.

@@ -240,23 +240,13 @@ fn names(alloc: Global, words: &str) -> Result<PackedNames, AllocError> {
     Ok(names)
 }
 
-/// Appends a way. The words of `path` are the names of its path.
-fn add(
-    alloc: Global,
-    ways: &mut Ways,
-    recipe: &str,
-    file: &str,
-    path: &str,
-    finish: Finish,
-) -> Result<(), AllocError> {
-    ways.push(recipe, file, &names(alloc, path)?, finish)
-}
-
 /// Appends the ways of `THREE`.
 fn add_three(alloc: Global, ways: &mut Ways) -> Result<(), AllocError> {
-    add(alloc, ways, "a.o", "a.c", "a.o", Finish::Source)?;
-    add(alloc, ways, "p", "a.o", "p a.o", Finish::Written)?;
-    add(alloc, ways, "p", "a.c", "p a.o", Finish::Source)
+    let to_object = names(alloc, "a.o")?;
+    ways.push("a.o", "a.c", &to_object, Finish::Source)?;
+    let to_program = names(alloc, "p a.o")?;
+    ways.push("p", "a.o", &to_program, Finish::Written)?;
+    ways.push("p", "a.c", &to_program, Finish::Source)
 }
 
 /// Returns the text of a certificate with these goals and ways.
@@ -370,16 +360,16 @@ const NESTED: [(&str, &str, usize, &str); 8] = [
     ),
 ];
 
-/// Returns a text with brackets nested this deep.
-fn nested(alloc: Global, front: &str, levels: usize, rest: &str) -> Result<String, AllocError> {
-    let mut text = String::from_str(alloc, front)?;
+/// Returns a text with brackets nested this deep between the texts of `around`.
+fn nested(alloc: Global, around: (&str, &str), levels: usize) -> Result<String, AllocError> {
+    let mut text = String::from_str(alloc, around.0)?;
     for _ in 0..levels {
         text.push('[')?;
     }
     for _ in 0..levels {
         text.push(']')?;
     }
-    text.push_str(rest)?;
+    text.push_str(around.1)?;
     Ok(text)
 }
 
@@ -387,12 +377,11 @@ fn nested(alloc: Global, front: &str, levels: usize, rest: &str) -> Result<Strin
 fn see_nested(
     rt: &impl Abort,
     alloc: Global,
-    front: &str,
+    around: (&str, &str),
     levels: usize,
-    rest: &str,
     want: &str,
 ) -> Result<(), Fail> {
-    let text = nested(alloc, front, levels, rest)?;
+    let text = nested(alloc, around, levels)?;
     see(rt, alloc, text.as_bytes(), want)
 }
 
@@ -401,9 +390,10 @@ fn see_nested(
 fn reads_nested_values(rt: HostRuntime) -> Result<(), Fail> {
     let alloc = rt.alloc();
     for row in &NESTED {
-        let (front, rest, around, want) = *row;
-        see_nested(&rt, alloc, front, 127 - around, rest, want)?;
-        see_nested(&rt, alloc, front, 128 - around, rest, "refused 71")?;
+        let (front, rest, levels, want) = *row;
+        let around = (front, rest);
+        see_nested(&rt, alloc, around, 127 - levels, want)?;
+        see_nested(&rt, alloc, around, 128 - levels, "refused 71")?;
     }
     Ok(())
 }

@@ -26,13 +26,13 @@ fn push_record(out: &mut String, record: &Record) -> Result<(), AllocError> {
 }
 
 /// Returns a book as text.
-fn printed(alloc: Global, book: &Book) -> Result<String, AllocError> {
+fn printed(alloc: Global, footprints: &Book) -> Result<String, AllocError> {
     let mut out = String::from_str(alloc, "fixed")?;
-    add_names(&mut out, &book.fixed)?;
+    add_names(&mut out, &footprints.fixed)?;
     out.push_str("; sources")?;
-    add_names(&mut out, &book.sources)?;
+    add_names(&mut out, &footprints.sources)?;
     out.push(';')?;
-    for record in &book.records {
+    for record in &footprints.records {
         push_record(&mut out, record)?;
     }
     Ok(out)
@@ -467,11 +467,11 @@ fn told(alloc: Global, setting: &Setting) -> Result<String, AllocError> {
 /// passed over.
 fn told_with(
     alloc: Global,
-    book: Book,
+    footprints: Book,
     texts: &[String],
     passed_over: &[String],
 ) -> Result<String, AllocError> {
-    let setting = Setting::new(alloc, book, texts, passed_over)?;
+    let setting = Setting::new(alloc, footprints, texts, passed_over)?;
     let told = told(alloc, &setting);
     drop(setting);
     told

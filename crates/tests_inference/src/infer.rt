@@ -354,17 +354,26 @@ fn expect_there(
     expect_rows(rt, alloc, &exists, rows)
 }
 
-/// Checks a table of rows with these sources and fixed prefixes.
+/// The names that are given, each set as words.
+#[derive(Drop)]
+struct GivenNames<'g> {
+    /// The sources.
+    sources: &'g str,
+    /// The prefixes of fixed names.
+    fixed: &'g str,
+    /// Whether each name without a rule is given.
+    any_leaf: bool,
+}
+
+/// Checks a table of rows where these names are given.
 fn expect_given(
     rt: &impl Abort,
     alloc: Global,
-    sources: &str,
-    fixed: &str,
-    any_leaf: bool,
+    given: &GivenNames<'_>,
     rows: &str,
 ) -> Result<(), Fail> {
-    let tables = tables(alloc, sources, fixed)?;
-    let seen = expect_there(rt, alloc, &tables, any_leaf, rows);
+    let tables = tables(alloc, given.sources, given.fixed)?;
+    let seen = expect_there(rt, alloc, &tables, given.any_leaf, rows);
     drop(tables);
     seen
 }
@@ -372,7 +381,12 @@ fn expect_given(
 /// Checks a table of rows without sources and fixed prefixes, where each name without a rule is
 /// given.
 fn expect_anywhere(rt: &impl Abort, alloc: Global, rows: &str) -> Result<(), Fail> {
-    expect_given(rt, alloc, "", "", true, rows)
+    let given = GivenNames {
+        sources: "",
+        fixed: "",
+        any_leaf: true,
+    };
+    expect_given(rt, alloc, &given, rows)
 }
 
 /// Makefiles after the default text, and the graphs of their default goals.
@@ -415,7 +429,12 @@ p: /usr/a.o¶/usr/a.c:‖p| /usr/a.o¶/usr/a.o¶
 
 #[test]
 fn minds_what_is_given(rt: HostRuntime) -> Result<(), Fail> {
-    expect_given(&rt, rt.alloc(), "a.c", "/usr/", false, GIVEN)
+    let given = GivenNames {
+        sources: "a.c",
+        fixed: "/usr/",
+        any_leaf: false,
+    };
+    expect_given(&rt, rt.alloc(), &given, GIVEN)
 }
 
 /// What a row asks about a name of `OBJECT`, the answer, and the name.

@@ -87,15 +87,15 @@ fn precedes(rows: &BitRows<'_>, o: usize, t: usize) -> bool {
 }
 
 /// Asserts that `BitRows::before`, `BitRows::predecessors`, `Greedy` and `Without` agree on which
-/// nodes `o` runs before.
+/// nodes the node runs before that `without` leaves out.
 fn compare_with(
     rt: &impl Abort,
     rows: &BitRows<'_>,
     greedy: &Greedy<'_>,
     without: &Without<'_>,
-    o: usize,
     count: usize,
 ) {
+    let o = without.other();
     for t in 0..count {
         see_before(rt, told(rows, o, t), told(greedy, o, t), (o, t));
         see_before(rt, told(rows, o, t), without.is_before(t), (o, t));
@@ -109,7 +109,7 @@ fn compare_each(rt: &impl Abort, graph: &Graph, rows: &BitRows<'_>, greedy: &Gre
     for o in 0..count {
         let without = Without::new(graph, o);
         same_number(rt, without.other(), o, "the node without");
-        compare_with(rt, rows, greedy, &without, o, count);
+        compare_with(rt, rows, greedy, &without, count);
     }
 }
 

@@ -216,10 +216,10 @@ fn see_recorded(
     rt: &impl Abort,
     alloc: Global,
     graph: &Graph,
-    book: Book,
+    footprints: Book,
     rows: &str,
 ) -> Result<(), AllocError> {
-    let setting = Setting::new(alloc, book, &[], &[])?;
+    let setting = Setting::new(alloc, footprints, &[], &[])?;
     let seen = see_rows(rt, alloc, graph, &setting, rows);
     drop(setting);
     seen

@@ -83,16 +83,24 @@ fn see(rt: &impl Abort, alloc: Global, makefile: &Makefile, want: Seen<'_>) -> R
     Ok(())
 }
 
-/// Reads files, with or without the default text, with operands, and checks the makefile.
+/// What is asked of a reading.
+#[derive(Drop)]
+struct Request<'a> {
+    /// Whether the default text is read.
+    defaults: bool,
+    /// The operands.
+    operands: &'a [Vec<u8>],
+}
+
+/// Reads files as requested, and checks the makefile.
 fn see_read(
     rt: &impl Abort,
     alloc: Global,
     files: &mut MemFiles,
-    defaults: bool,
-    operands: &[Vec<u8>],
+    request: &Request<'_>,
     want: Seen<'_>,
 ) -> Result<(), Fail> {
-    let makefile = read_makefile(alloc, files, None, defaults, operands)?;
+    let makefile = read_makefile(alloc, files, None, request.defaults, request.operands)?;
     let seen = see(rt, alloc, &makefile, want);
     drop(makefile);
     seen
@@ -108,7 +116,11 @@ const BOTH: Seen<'static> = (
 /// Checks both files.
 fn see_both(rt: &impl Abort, alloc: Global, files: &mut MemFiles) -> Result<(), Fail> {
     let operand = b"OUT=a.out".to_vec(alloc)?;
-    see_read(rt, alloc, files, false, &[operand], BOTH)
+    let request = Request {
+        defaults: false,
+        operands: &[operand],
+    };
+    see_read(rt, alloc, files, &request, BOTH)
 }
 
 #[test]
@@ -137,7 +149,11 @@ const DEFAULT: Seen<'static> = (
 fn reads_the_default_text(rt: HostRuntime) -> Result<(), Fail> {
     let text = b".SUFFIXES: .x\n.c.o:\n\tcc -c $<\n";
     let mut files = file_of(rt.alloc(), "Makefile", text)?;
-    let seen = see_read(&rt, rt.alloc(), &mut files, true, &[], DEFAULT);
+    let request = Request {
+        defaults: true,
+        operands: &[],
+    };
+    let seen = see_read(&rt, rt.alloc(), &mut files, &request, DEFAULT);
     drop(files);
     seen
 }

@@ -20,6 +20,7 @@ complete -c mkcheck -n "__fish_seen_subcommand_from $judging" -l json -d 'Print 
 complete -c mkcheck -n '__fish_seen_subcommand_from graph' -s c -d 'Print the commands'
 complete -c mkcheck -n '__fish_seen_subcommand_from check' -s c -d 'Print only the certificate'
 complete -c mkcheck -n '__fish_seen_subcommand_from check' -s e -x -d 'Print the plan of a finding'
+complete -c mkcheck -n '__fish_seen_subcommand_from repair' -l part -d 'Print lines for a part'
 complete -c mkcheck -n '__fish_seen_subcommand_from verify' -s k -r -d 'The certificate'
 complete -c mkcheck -n '__fish_seen_subcommand_from simulate' -s p -r -d 'The plan'
 complete -c mkcheck -n '__fish_seen_subcommand_from explain' -f \

@@ -11,25 +11,28 @@ from mkcheck_tools.answers.members import Members
 from mkcheck_tools.faults import Fault
 
 BAD_NAME, NO_MAKEFILE, NO_RULE, CYCLE = "BadName", "NoMakefile", "NoRule", "Cycle"
-# What stands in the place of a line where a word of the command line is refused: a goal by these
-# faults, and an operand by the faults of macros, which have these numbers.
-GOAL, OF_GOALS = "goal", ("BadGoal", "GoalIsMember")
-OPERAND, OF_MACROS = "operand", range(11, 18)
+# The kinds of words of the command line that can be refused.
+GOAL, OPERAND = "goal", "operand"
 SHOWN_AT_MOST = 200
 
 
 @dataclass(frozen=True)
 class Refusal:
-    """A refusal: its number, its name, its words, its sentence, how `check` prints it, and its
-    place if it has one: a line of a file, or the number of an operand or of a goal."""
+    """A refusal: its number, its name, the names that it is about, its sentence, how `check` prints
+    it, and its place if it has one: a line of a file, or the number of an operand or of a goal."""
 
     number: int
     name: str
-    words: str
+    names: tuple[str, ...]
+    """The names of targets and files in its text."""
+
     sentence: str
     """What is said of it to people, with its place, its name and its words."""
 
     text: str
+    word: str | None = None
+    """The word of the makefile that is no name, where that is why."""
+
     file: str | None = None
     line: int | None = None
     is_of_word: bool = False
@@ -55,12 +58,8 @@ class Refusal:
 
     @property
     def bad_name(self) -> str:
-        """The word that is no name, where that is why. No member has it, so it is taken from the
-        sentence, in which it stands behind what other members have."""
-        if self.name != BAD_NAME:
-            return ""
-        front = f"{self.file}:{self.line}: {self.name} ({self.number}): "
-        return self.sentence.removeprefix(front).partition(": ")[0]
+        """The word that is no name, where it is refused as one."""
+        return (self.word or "") if self.name == BAD_NAME else ""
 
 
 class Refused(Fault):
@@ -80,28 +79,34 @@ class Refused(Fault):
     @property
     def missing(self) -> str | None:
         """The name that no rule makes and that is no source, where that was the reason."""
-        return self.refusal.words if self.refusal.name == NO_RULE else None
+        return self.refusal.names[0] if self.refusal.name == NO_RULE else None
 
 
 def refusal_of(value: Members) -> Refusal:
-    """A refusal by its members. Its text is `refused`, its number, its place and its words."""
+    """A refusal by its members."""
+    word = None if value.is_null("word") else value.text("word")
+    names = value.texts("names")
     number, name, text = value.number("number"), value.text("name"), value.text("text")
-    said, _, words = text.removeprefix("refused ").partition(" ")
-    if said != str(number):
-        raise value.wrong("text", f"refusal {number}")
+    if name == NO_RULE and not names:
+        raise value.wrong("names", "list of a name")
+    file, line, is_of_word = place_of(value)
     sentence = value.text("sentence")
+    return Refusal(number, name, names, sentence, text, word, file, line, is_of_word)
+
+
+def place_of(value: Members) -> tuple[str | None, int | None, bool]:
+    """The place of a refusal: a file and a line of it, or `goal` or `operand` and a number among
+    these; and whether it is the latter."""
     if not value.is_null("place"):
         place = value.inner("place")
-        file, line = place.text("file"), place.number("line")
-        words = words.removeprefix(f"{file}:{line}").removeprefix(" ")
-        return Refusal(number, name, words, sentence, text, file, line)
-    kind = GOAL if name in OF_GOALS else OPERAND if number in OF_MACROS else ""
-    if not kind:
-        return Refusal(number, name, words, sentence, text)
-    where, _, words = words.removeprefix(f"{kind}:").partition(" ")
-    if not where.isdecimal():
-        raise value.wrong("text", f"refusal of one {kind}")
-    return Refusal(number, name, words, sentence, text, kind, int(where), True)
+        return place.text("file"), place.number("line"), False
+    if value.is_null("argument"):
+        return None, None, False
+    argument = value.inner("argument")
+    kind = argument.text("kind")
+    if kind not in (GOAL, OPERAND):
+        raise argument.wrong("kind", "goal or operand")
+    return kind, argument.number("number"), True
 
 
 def line_of(path: str, number: int) -> str:

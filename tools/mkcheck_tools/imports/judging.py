@@ -203,9 +203,9 @@ class Judge:
     def refusal(self, refusal: Refusal, name: str) -> str:
         """A refusal of mkcheck as a sentence."""
         if refusal.name == CYCLE:
-            return f"the prerequisites of the build form a cycle: {refusal.words}"
+            return f"the prerequisites of the build form a cycle: {' '.join(refusal.names)}"
         if refusal.name == NO_RULE:
-            return f"nothing makes {refusal.words}, and it isn't there"
+            return f"nothing makes {refusal.names[0]}, and it isn't there"
         return f"mkcheck doesn't read {name}, the translated makefile: {refusal.text}"
 
     def checker(self, name: str, book: str) -> Checker:

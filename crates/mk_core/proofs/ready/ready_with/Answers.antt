@@ -1,8 +1,6 @@
-use Rattle.std.proofs.Common.{◌∙◌, ap}
 use Rattle.std.proofs.lemmas.Result.{err_from_is_err_and}
 use Rattle.std.specs.Option.{option_copied}
-use Rattle.mk_core.proofs.Answering.{book_fails, book_found, made_with}
-use Rattle.mk_core.proofs.Faults.{turned}
+use Rattle.mk_core.proofs.Answering.{book_fails, book_found}
 use Rattle.mk_core.proofs.ready.ready_with.Goals as goal
 
 pub returns-in_err-book-clause-ready : goal.returns-in_err-book-clause-ready
@@ -16,5 +14,4 @@ pub returns-clause-ready : goal.returns-clause-ready
 returns-clause-ready g c =
     let name = option_copied c.as_ref.result in
     let book = c.in_ok-book.book in
-    let leaf = ap (λ any_leaf. made_with c.args.table.now c.args.goals book any_leaf) (turned _ c.is_none-any_leaf.result c.is_none-any_leaf.ensures) in
-    λ told fits. book_found told c.args.request.now c.args.table.now c.args.goals name c.as_ref.ensures.value book c.in_ok-ready.ready (c.in_ok-book.ensures.book told fits) (c.in_ok-ready.ensures ∙ leaf)
+    λ told fits. book_found told c.args.request.now c.args.table.now c.args.goals name c.as_ref.ensures.value book c.in_ok-ready.ready (c.in_ok-book.ensures.book told fits) c.in_ok-ready.ensures

@@ -1,13 +1,8 @@
 use Rattle.std.proofs.Common.{ap, ◌∙◌}
 use Rattle.serde_json.specs.Written.{has_float}
-use Rattle.mk_repair.specs.Rows.{names_view}
-use Rattle.mk_sentences.specs.Topics.{topic_view}
+use Rattle.mk_core_json.specs.GroupView.{group_view}
 use Rattle.mk_core_json.proofs.NoTexts.{group_has_no_float}
 use Rattle.mk_core_json.proofs.group.push_group.Goals as goal
 
 pub push_value-requires : goal.push_value-requires
-push_value-requires c = ap has_float c.in_ok-value.ensures ∙ group_has_no_float c.args.places.now (record {
-  topic = topic_view c.args.topic.now;
-  what = names_view c.args.what.now;
-  who = names_view c.args.who.now;
-})
+push_value-requires c = ap has_float c.in_ok-value.ensures ∙ group_has_no_float c.args.places.now (group_view c.args.group)

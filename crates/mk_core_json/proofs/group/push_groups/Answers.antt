@@ -4,9 +4,9 @@ use Rattle.serde_json.specs.Data.{Data}
 use Rattle.serde_json.specs.Written.{compact_text}
 use Rattle.mk_repair.specs.Rows.{names_view}
 use Rattle.mk_repair.proofs.Appending.{drop_at_get}
-use Rattle.mk_sentences.specs.Topics.{topic_view}
-use Rattle.mk_sentences.specs.Grouping.{GroupKey, group_of}
-use Rattle.mk_sentences.specs.Tables.{groups_view}
+use Rattle.mk_claims.specs.Topics.{topic_view}
+use Rattle.mk_claims.specs.Grouping.{GroupKey, group_of}
+use Rattle.mk_claims.specs.Tables.{groups_view}
 use Rattle.mk_core_json.specs.GroupValue.{group_value}
 use Rattle.mk_core_json.proofs.NoTexts.{items_step}
 use Rattle.mk_core_json.proofs.group.push_groups.Goals as goal

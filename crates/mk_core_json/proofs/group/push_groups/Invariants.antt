@@ -1,8 +1,8 @@
 use Rattle.std.proofs.Common.{◌≡◌, ◌++◌, false, drop, map, string_bytes}
 use Rattle.serde_json.specs.View.{items_of}
 use Rattle.serde_json.specs.Written.{items_text}
-use Rattle.mk_sentences.specs.Grouping.{group_of}
-use Rattle.mk_sentences.specs.Tables.{groups_view}
+use Rattle.mk_claims.specs.Grouping.{group_of}
+use Rattle.mk_claims.specs.Tables.{groups_view}
 use Rattle.mk_core_json.specs.GroupValue.{group_value}
 use Rattle.mk_core_json.proofs.group.push_groups.Given as goal
 

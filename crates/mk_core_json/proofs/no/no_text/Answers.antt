@@ -2,11 +2,11 @@ use Rattle.std.proofs.Common.{◌≡◌, ◌∙◌, ◌∷◌, ◌++◌, [], ℕ
 use Rattle.std.proofs.lemmas.Result.{IfOk-weaker}
 use Rattle.serde_json.specs.Written.{compact_text}
 use Rattle.mk_read.specs.Reading.{Makefile}
-use Rattle.mk_sentences.specs.Claims.{Claim, claim_view}
-use Rattle.mk_sentences.specs.Offers.{claim_offered, offer_view}
-use Rattle.mk_sentences.specs.Text.{all_claims}
-use Rattle.mk_sentences.specs.Wider.{AreOffers}
-use Rattle.mk_sentences.specs.declared.offer.Offer as borrowed
+use Rattle.mk_claims.specs.Claims.{Claim, claim_view}
+use Rattle.mk_claims.specs.Offers.{claim_offered, offer_view}
+use Rattle.mk_claims.specs.Shown.{all_claims}
+use Rattle.mk_claims.specs.Wider.{AreOffers}
+use Rattle.mk_claims.specs.declared.offer.Offer as borrowed
 use Rattle.mk_core_json.specs.NoValue.{no_value}
 use Rattle.mk_core_json.proofs.no.no_text.Goals as goal
 

@@ -1,9 +1,9 @@
 use Rattle.std.proofs.Common.{◌∙◌, List, ◌++◌, ap, false, length, map, string_bytes}
 use Rattle.serde_json.specs.View.{items_of}
 use Rattle.serde_json.specs.Written.{items_text}
-use Rattle.mk_sentences.specs.Claims.{Claim, claim_view}
-use Rattle.mk_sentences.specs.Grouping.{groups}
-use Rattle.mk_sentences.specs.Joining.{joined}
+use Rattle.mk_claims.specs.Claims.{Claim, claim_view}
+use Rattle.mk_claims.specs.Grouping.{groups}
+use Rattle.mk_claims.specs.Joining.{joined}
 use Rattle.mk_sentences.proofs.Fronts.{back_seen, front_seen}
 use Rattle.mk_core_json.specs.NoValue.{found_text, groups_values}
 use Rattle.mk_core_json.proofs.NoTexts.{no_joined}

@@ -3,12 +3,12 @@ use Rattle.std.proofs.lemmas.Result.{on_ok_weaker}
 use Rattle.serde_json.specs.View.{items_of}
 use Rattle.serde_json.specs.Written.{compact_text, items_text}
 use Rattle.mk_repair.specs.Gathering.{gathered}
-use Rattle.mk_sentences.specs.Claims.{Claim, claim_view}
+use Rattle.mk_claims.specs.Claims.{Claim, claim_view}
 use Rattle.mk_sentences.specs.Counts.{counts_of}
-use Rattle.mk_sentences.specs.Grouping.{Group, RowKey, group_key_eq, group_of, group_pair, groups, rows}
-use Rattle.mk_sentences.specs.Joining.{joined, joined_claim}
-use Rattle.mk_sentences.specs.Numbering.{group_number}
-use Rattle.mk_sentences.specs.Tables.{groups_view}
+use Rattle.mk_claims.specs.Grouping.{Group, RowKey, group_key_eq, group_of, group_pair, groups, rows}
+use Rattle.mk_claims.specs.Joining.{joined, joined_claim}
+use Rattle.mk_claims.specs.Numbering.{group_number}
+use Rattle.mk_claims.specs.Tables.{groups_view}
 use Rattle.mk_sentences.specs.declared.counts.Counts.{Counts}
 use Rattle.mk_core_json.specs.FindingValue.{finding_values}
 use Rattle.mk_core_json.specs.NoValue.{counts_value, group_numbers, groups_values}
@@ -19,7 +19,7 @@ pub returns : goal.returns
 returns c =
     let m = c.args.makefile.now in
     let found = c.args.found.now in
-    let claims : List Claim = map claim_view c.args.claims.now in
+    let claims : List Claim = map claim_view c.args.claims.now.list.now in
     let gs : List Group = groups (joined claims) in
     let table : map group_of (groups_view c.in_ok-groups.groups.entries) ≡ gs =
     ap (map group_of) (c.in_ok-groups.ensures ∙ ap (λ (r : List (RowKey × List (List ℕ))). gathered group_key_eq (map group_pair r)) c.requires.rows) in

@@ -9,6 +9,6 @@ pub returns-in_ok-push_led-in-Tried : goal.returns-in_ok-push_led-in-Tried
 returns-in_ok-push_led-in-Tried c =
     on_ok_weaker c.push_after.result
     (λ is. two_joined c.args.out.now.items _ _ _ _
-    (c.in_ok-push_led-in-Tried.ensures ∙ ap (λ text. c.args.out.now.items ++ led (codes "tried ") true text) c.as_str.ensures.value) is
+    (c.in_ok-push_led-in-Tried.ensures ∙ ap (λ text. c.args.out.now.items ++ led (codes "tried ") true text) c.as_str-in-Tried.ensures.value) is
     ∙ ap (λ why. c.args.out.now.items ++ reason_text (reason_of why)) (sym c.in-Tried.is))
     c.push_after.ensures

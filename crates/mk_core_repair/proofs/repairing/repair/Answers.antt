@@ -1,6 +1,6 @@
 use Rattle.std.proofs.lemmas.Result.{err_from_is_err_and}
 use Rattle.mk_core_repair.proofs.Answered.{followed, refused}
-use Rattle.mk_core_repair.proofs.Sufficing.{repair_finds_cycle, repair_suffices}
+use Rattle.mk_core_repair.proofs.Sufficing.{repair_finds_cycle, repair_suffices, repair_takes}
 use Rattle.mk_core_repair.proofs.Surveys.{first_refuses}
 use Rattle.mk_core_repair.proofs.repairing.repair.Goals as goal
 
@@ -18,6 +18,10 @@ returns-clause-answer g c =
 pub returns-clause-suffices : goal.returns-clause-suffices
 returns-clause-suffices g c =
     λ told fits. repair_suffices c.yes_is_right.ensures c.only_named_files_count.ensures told c.args.request.now c.after_first.result (returns-clause-answer g c told fits)
+
+pub returns-clause-part : goal.returns-clause-part
+returns-clause-part g c =
+    λ told fits. repair_takes c.yes_is_right.ensures c.only_named_files_count.ensures told c.args.request.now c.after_first.result (returns-clause-answer g c told fits)
 
 pub returns-clause-cycle : goal.returns-clause-cycle
 returns-clause-cycle g c =

@@ -12,10 +12,10 @@ returns-then-is_too_long-clause-answer c =
     let left = max_rounds - (c.loop-done._done + 1) in
     let more : max_rounds - c.loop-done._done ≡ suc left = omega arith in
     let text = string_bytes c.in_ok-lines.lines in
-    let added = c.in_ok-added.ensures ∙ ap (λ (t : List ℕ). added_lines c.args.own.now.text.items t) c.as_str.ensures.value in
+    let added = c.in_ok-added.ensures ∙ ap (λ (t : List ℕ). added_lines c.args.base.own.now.text.items t) c.as_str.ensures.value in
     λ told base first.
     c.loop-done.invariant told base first _
-    (step_long told c.args.request.now c.args.own.now c.args.known.now base first c.loop-done.words (reason_of c.loop-done.why) _ left more text c.in_ok-added.added.items c.deref.result.now
+    (step_long told c.args.base.request.now c.args.base.own.now c.args.base.known.now base first c.loop-done.words (reason_of c.loop-done.why) _ left more text c.in_ok-added.added.items c.deref.result.now
     c.in_ok-lines.ensures added c.deref.ensures.value (reason_of c.stopped-reason.result) c.stopped-reason.ensures c.if-is_too_long.ensures)
 
 pub returns-in-Ok-Right-clause-answer : goal.returns-in-Ok-Right-clause-answer
@@ -23,12 +23,12 @@ returns-in-Ok-Right-clause-answer c =
     let left = max_rounds - (c.loop-done._done + 1) in
     let more : max_rounds - c.loop-done._done ≡ suc left = omega arith in
     let text = string_bytes c.in_ok-lines.lines in
-    let added = c.in_ok-added.ensures ∙ ap (λ (t : List ℕ). added_lines c.args.own.now.text.items t) c.as_str.ensures.value in
+    let added = c.in_ok-added.ensures ∙ ap (λ (t : List ℕ). added_lines c.args.base.own.now.text.items t) c.as_str.ensures.value in
     let ok = c.in-Ok-Right.ensures.ok in
-    let is = subst (λ (f : Found). IsFound c.args.known.now.names c.loop-done.words c.round.new.words ok.0 f) c.in-Ok-Right.field-0-is ok.1 in
+    let is = subst (λ (f : Found). IsFound c.args.base.known.now.names c.loop-done.words c.round.new.words ok.0 f) c.in-Ok-Right.field-0-is ok.1 in
     λ told base first.
     c.loop-done.invariant told base first _
-    (step_right told c.args.request.now c.args.own.now c.args.known.now base first c.loop-done.words (reason_of c.loop-done.why) _ left more text c.in_ok-added.added.items c.deref.result.now
+    (step_right told c.args.base.request.now c.args.base.own.now c.args.base.known.now base first c.loop-done.words (reason_of c.loop-done.why) _ left more text c.in_ok-added.added.items c.deref.result.now
     c.in_ok-lines.ensures added c.deref.ensures.value c.deref-in-loop-done.result.now c.deref-in-loop-done.ensures.value c.if-is_too_long.ensures ok.0 is.0 is.1 (ok.2 told base))
 
 pub returns-in-Ok-Unknown-clause-answer : goal.returns-in-Ok-Unknown-clause-answer
@@ -36,12 +36,12 @@ returns-in-Ok-Unknown-clause-answer c =
     let left = max_rounds - (c.loop-done._done + 1) in
     let more : max_rounds - c.loop-done._done ≡ suc left = omega arith in
     let text = string_bytes c.in_ok-lines.lines in
-    let added = c.in_ok-added.ensures ∙ ap (λ (t : List ℕ). added_lines c.args.own.now.text.items t) c.as_str.ensures.value in
+    let added = c.in_ok-added.ensures ∙ ap (λ (t : List ℕ). added_lines c.args.base.own.now.text.items t) c.as_str.ensures.value in
     let ok = c.in-Ok-Unknown.ensures.ok in
-    let is = subst (λ (f : Found). IsFound c.args.known.now.names c.loop-done.words c.round.new.words ok.0 f) c.in-Ok-Unknown.field-0-is ok.1 in
+    let is = subst (λ (f : Found). IsFound c.args.base.known.now.names c.loop-done.words c.round.new.words ok.0 f) c.in-Ok-Unknown.field-0-is ok.1 in
     λ told base first.
     c.loop-done.invariant told base first _
-    (step_unknown told c.args.request.now c.args.own.now c.args.known.now base first c.loop-done.words (reason_of c.loop-done.why) _ left more text c.in_ok-added.added.items c.deref.result.now
+    (step_unknown told c.args.base.request.now c.args.base.own.now c.args.base.known.now base first c.loop-done.words (reason_of c.loop-done.why) _ left more text c.in_ok-added.added.items c.deref.result.now
     c.in_ok-lines.ensures added c.deref.ensures.value c.deref-in-loop-done.result.now c.deref-in-loop-done.ensures.value c.if-is_too_long.ensures ok.0 c.in-Ok-Unknown.name is (ok.2 told base))
 
 pub returns-then-not-is_new-clause-answer : goal.returns-then-not-is_new-clause-answer
@@ -49,12 +49,12 @@ returns-then-not-is_new-clause-answer c =
     let left = max_rounds - (c.loop-done._done + 1) in
     let more : max_rounds - c.loop-done._done ≡ suc left = omega arith in
     let text = string_bytes c.in_ok-lines.lines in
-    let added = c.in_ok-added.ensures ∙ ap (λ (t : List ℕ). added_lines c.args.own.now.text.items t) c.as_str.ensures.value in
+    let added = c.in_ok-added.ensures ∙ ap (λ (t : List ℕ). added_lines c.args.base.own.now.text.items t) c.as_str.ensures.value in
     let ok = c.in-Ok-Lacks.ensures.ok in
-    let is = subst (λ (f : Found). IsFound c.args.known.now.names c.loop-done.words c.round.new.words ok.0 f) c.in-Ok-Lacks.field-0-is ok.1 in
+    let is = subst (λ (f : Found). IsFound c.args.base.known.now.names c.loop-done.words c.round.new.words ok.0 f) c.in-Ok-Lacks.field-0-is ok.1 in
     λ told base first.
     c.loop-done.invariant told base first _
-    (step_lacking told c.args.request.now c.args.own.now c.args.known.now base first c.loop-done.words (reason_of c.loop-done.why) _ left more text c.in_ok-added.added.items c.deref.result.now
+    (step_lacking told c.args.base.request.now c.args.base.own.now c.args.base.known.now base first c.loop-done.words (reason_of c.loop-done.why) _ left more text c.in_ok-added.added.items c.deref.result.now
     c.in_ok-lines.ensures added c.deref.ensures.value c.deref-in-loop-done.result.now c.deref-in-loop-done.ensures.value c.if-is_too_long.ensures ok.0 c.in-Ok-Lacks.found c.in-Ok-Lacks.is_new _
     is.0 is.1 is.2 (ok.2 told base) c.if-not-is_new.true)
 
@@ -63,10 +63,10 @@ returns-in-Err-clause-answer c =
     let left = max_rounds - (c.loop-done._done + 1) in
     let more : max_rounds - c.loop-done._done ≡ suc left = omega arith in
     let text = string_bytes c.in_ok-lines.lines in
-    let added = c.in_ok-added.ensures ∙ ap (λ (t : List ℕ). added_lines c.args.own.now.text.items t) c.as_str.ensures.value in
+    let added = c.in_ok-added.ensures ∙ ap (λ (t : List ℕ). added_lines c.args.base.own.now.text.items t) c.as_str.ensures.value in
     λ told base first.
     c.loop-done.invariant told base first _
-    (step_refused told c.args.request.now c.args.own.now c.args.known.now base first c.loop-done.words (reason_of c.loop-done.why) _ left more text c.in_ok-added.added.items c.deref.result.now
+    (step_refused told c.args.base.request.now c.args.base.own.now c.args.base.known.now base first c.loop-done.words (reason_of c.loop-done.why) _ left more text c.in_ok-added.added.items c.deref.result.now
     c.in_ok-lines.ensures added c.deref.ensures.value c.deref-in-loop-done.result.now c.deref-in-loop-done.ensures.value c.if-is_too_long.ensures c.in-Err.fault (sym c.if-is_out_of_memory.ensures)
     (c.in-Err.ensures.err told base))
 
@@ -75,12 +75,12 @@ loop-done-preserved c =
     let left = max_rounds - (c.loop-done._done + 1) in
     let more : max_rounds - c.loop-done._done ≡ suc left = omega arith in
     let text = string_bytes c.in_ok-lines.lines in
-    let added = c.in_ok-added.ensures ∙ ap (λ (t : List ℕ). added_lines c.args.own.now.text.items t) c.as_str.ensures.value in
+    let added = c.in_ok-added.ensures ∙ ap (λ (t : List ℕ). added_lines c.args.base.own.now.text.items t) c.as_str.ensures.value in
     let ok = c.in-Ok-Lacks.ensures.ok in
-    let is = subst (λ (f : Found). IsFound c.args.known.now.names c.loop-done.words c.round.new.words ok.0 f) c.in-Ok-Lacks.field-0-is ok.1 in
+    let is = subst (λ (f : Found). IsFound c.args.base.known.now.names c.loop-done.words c.round.new.words ok.0 f) c.in-Ok-Lacks.field-0-is ok.1 in
     λ told base first outcome h.
     c.loop-done.invariant told base first outcome
-    (step_further told c.args.request.now c.args.own.now c.args.known.now base first c.loop-done.words (reason_of c.loop-done.why) _ left more text c.in_ok-added.added.items c.deref.result.now
+    (step_further told c.args.base.request.now c.args.base.own.now c.args.base.known.now base first c.loop-done.words (reason_of c.loop-done.why) _ left more text c.in_ok-added.added.items c.deref.result.now
     c.in_ok-lines.ensures added c.deref.ensures.value c.deref-in-loop-done.result.now c.deref-in-loop-done.ensures.value c.if-is_too_long.ensures ok.0 c.in-Ok-Lacks.found c.in-Ok-Lacks.is_new _
     is.0 is.1 is.2 (ok.2 told base) c.if-not-is_new.false outcome h)
 
@@ -89,4 +89,4 @@ returns-clause-answer c =
     let none : max_rounds - c.loop-done._done ≡ 0 = omega arith in
     λ told base first.
     c.loop-done.invariant told base first _
-    (ends_last c.args.known.now.names told c.args.request.now first c.loop-done.words (reason_of c.loop-done.why) (max_rounds - c.loop-done._done) (reason_of c.stopped-last.result) c.stopped-last.ensures none)
+    (ends_last c.args.base.known.now.names told c.args.base.request.now first c.loop-done.words (reason_of c.loop-done.why) (max_rounds - c.loop-done._done) (reason_of c.stopped-last.result) c.stopped-last.ensures none)

@@ -9,6 +9,6 @@ use Rattle.mk_core_repair.proofs.rounds.rounds.Given as goal
 -- the outcome of the rounds that are left is that of all
 abbrev pub invariant-loop-done : goal.invariant-loop-done
 invariant-loop-done l =
-    (told : Told) → IsBase told l.request l.own l.known → (first : List Finding) (outcome : Outcome)
-    → Rounds (max_rounds - l._done) l.known.names told l.request first l.words (reason_of l.why) outcome
-    → Rounds max_rounds l.known.names told l.request first l.fn.words too_long outcome
+    (told : Told) → IsBase told l.base.request.now l.base.own.now l.base.known.now → (first : List Finding) (outcome : Outcome)
+    → Rounds (max_rounds - l._done) l.base.known.now.names told l.base.request.now first l.words (reason_of l.why) outcome
+    → Rounds max_rounds l.base.known.now.names told l.base.request.now first l.fn.words too_long outcome

@@ -16,7 +16,7 @@ use Rattle.mk_infer.proofs.recipes.expanded_by.Goals as goal
 
 pub returns-in_default : goal.returns-in_default
 returns-in_default c =
-    let made = c.maker.view_is ∙ c.requires in
+    let made = c.rule.view_is ∙ c.requires in
     let none = sym (ap (option_map (λ commands. commands.now)) c.in_default.is) ∙ ap (λ (x : ResolvedRule). x.commands) made in
     sym (ap (λ (lines : List (List ℕ)). let found : Commands = record { lines = lines; varying = false } in Ok found) (ap (map (λ line. line.items)) c.new-lines.ensures.items)
     ∙ no_commands_are c.args.choices.now.makefile c.args.choices.now.exists c.args.name.now none)
@@ -26,7 +26,7 @@ returns c =
     let m = c.args.choices.now.makefile in
     let e = c.args.choices.now.exists in
     let name = c.args.name.now in
-    let made = c.maker.view_is ∙ c.requires in
+    let made = c.rule.view_is ∙ c.requires in
     let table : c.table-table.result.now ≡ m = c.table-table.ensures in
     let found = sym (ap (option_map (λ commands. commands.now)) c.in-Some.is) ∙ ap (λ (x : ResolvedRule). x.commands) made in
     let all : texts c.in_ok-needs.needs.items ≡ needs m e name = c.in_ok-needs.ensures

@@ -6,9 +6,9 @@ use Rattle.mk_repair.specs.Rows.{names_view}
 use Rattle.mk_repair.proofs.Appending.{drop_at_get}
 use Rattle.mk_sentences.specs.Adding.{lines_of}
 use Rattle.mk_sentences.specs.Counts.{offered, offered_text}
-use Rattle.mk_sentences.specs.Grouping.{Group, group_of}
-use Rattle.mk_sentences.specs.Tables.{groups_view}
-use Rattle.mk_sentences.specs.Topics.{topic_view}
+use Rattle.mk_claims.specs.Grouping.{Group, group_of}
+use Rattle.mk_claims.specs.Tables.{groups_view}
+use Rattle.mk_claims.specs.Topics.{topic_view}
 use Rattle.mk_sentences.proofs.counts.push_offered.Goals as goal
 
 -- what a group offers, with a line and without one

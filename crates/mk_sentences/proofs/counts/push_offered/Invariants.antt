@@ -1,7 +1,7 @@
 use Rattle.std.proofs.Common.{◌≡◌, ◌++◌, drop, map, string_bytes}
 use Rattle.mk_sentences.specs.Counts.{offered_text}
-use Rattle.mk_sentences.specs.Grouping.{group_of}
-use Rattle.mk_sentences.specs.Tables.{groups_view}
+use Rattle.mk_claims.specs.Grouping.{group_of}
+use Rattle.mk_claims.specs.Tables.{groups_view}
 use Rattle.mk_sentences.proofs.counts.push_offered.Given as goal
 
 -- the text so far, with that of the groups that are left

@@ -1,6 +1,6 @@
 use Rattle.std.proofs.Common.{◌≡◌, ◌∙◌, ℕ, ◌-◌, List, ◌++◌, ap, map, length, take, drop, append_assoc, string_bytes}
 use Rattle.std.proofs.lemmas.Result.{on_ok_weaker}
-use Rattle.mk_sentences.specs.Claims.{Claim, claim_view}
+use Rattle.mk_claims.specs.Claims.{Claim, claim_view}
 use Rattle.mk_sentences.specs.Text.{claims_text, then_text}
 use Rattle.mk_sentences.proofs.Fronts.{back_seen, front_seen}
 use Rattle.mk_sentences.proofs.rendering.push_all.Goals as goal

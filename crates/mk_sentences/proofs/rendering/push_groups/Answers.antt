@@ -3,9 +3,9 @@ use Rattle.std.specs.Borrow.{Bor}
 use Rattle.std.specs.List.{flat_map}
 use Rattle.mk_repair.specs.Rows.{names_view}
 use Rattle.mk_repair.proofs.Appending.{append_step, drop_at_get}
-use Rattle.mk_sentences.specs.Topics.{topic_view}
-use Rattle.mk_sentences.specs.Grouping.{GroupKey, group_of}
-use Rattle.mk_sentences.specs.Tables.{groups_view}
+use Rattle.mk_claims.specs.Topics.{topic_view}
+use Rattle.mk_claims.specs.Grouping.{GroupKey, group_of}
+use Rattle.mk_claims.specs.Tables.{groups_view}
 use Rattle.mk_sentences.specs.Text.{group_text}
 use Rattle.mk_sentences.proofs.rendering.push_groups.Goals as goal
 

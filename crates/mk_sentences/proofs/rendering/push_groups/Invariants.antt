@@ -1,7 +1,7 @@
 use Rattle.std.proofs.Common.{◌≡◌, ◌++◌, drop, map, string_bytes}
 use Rattle.std.specs.List.{flat_map}
-use Rattle.mk_sentences.specs.Grouping.{group_of}
-use Rattle.mk_sentences.specs.Tables.{groups_view}
+use Rattle.mk_claims.specs.Grouping.{group_of}
+use Rattle.mk_claims.specs.Tables.{groups_view}
 use Rattle.mk_sentences.specs.Text.{group_text}
 use Rattle.mk_sentences.proofs.rendering.push_groups.Given as goal
 

@@ -3,9 +3,9 @@ use Rattle.std.proofs.Common.{◌≡◌, ◌∙◌, ◌==◌, ℕ, Bool, false, 
 use Rattle.std.specs.Prelude.{codes}
 use Rattle.std.proofs.lemmas.Bool.{false≢true}
 use Rattle.std.proofs.lemmas.Result.{on_ok_weaker}
-use Rattle.mk_sentences.specs.Claims.{Claim, claim_view}
+use Rattle.mk_claims.specs.Claims.{Claim, claim_view}
 use Rattle.mk_sentences.specs.Text.{claims_text, hidden_text}
-use Rattle.mk_sentences.specs.declared.claim.Claim as borrowed
+use Rattle.mk_claims.specs.declared.claim.Claim as borrowed
 use Rattle.mk_read.specs.Reading.{Makefile}
 use Rattle.mk_sentences.proofs.rendering.push_hidden.Goals as goal
 

@@ -1,10 +1,11 @@
 use Rattle.std.proofs.Common.{◌≡◌, ◌∙◌, ◌++◌, ℕ, List, map, ap, refl, subst, Vec, Global}
-use Rattle.mk_sentences.specs.Claims.{Claim, claim_view}
-use Rattle.mk_sentences.specs.Offers.{claim_offered, offer_view}
-use Rattle.mk_sentences.specs.Wider.{AreOffers}
-use Rattle.mk_sentences.specs.Text.{all_claims, all_text}
+use Rattle.mk_claims.specs.Claims.{Claim, claim_view}
+use Rattle.mk_claims.specs.Offers.{claim_offered, offer_view}
+use Rattle.mk_claims.specs.Wider.{AreOffers}
+use Rattle.mk_claims.specs.Shown.{all_claims}
+use Rattle.mk_sentences.specs.Text.{all_text}
 use Rattle.mk_read.specs.Reading.{Makefile}
-use Rattle.mk_sentences.specs.declared.offer.Offer as borrowed
+use Rattle.mk_claims.specs.declared.offer.Offer as borrowed
 use Rattle.mk_sentences.proofs.rendering.sentences.Goals as goal
 
 pub returns : goal.returns

@@ -8,7 +8,7 @@ use Rattle.mk_subject.proofs.looking_up.are_there.Goals as goal
 
 pub loop-file-preserved : goal.loop-file-preserved
 loop-file-preserved c =
-    in_more (λ (f : List ℕ). is_there c.args.table.now c.args.there.now f ≡ true) string_bytes
+    in_more (λ (f : List ℕ). is_there c.args.table.now c.args.exists.now f ≡ true) string_bytes
     c.args.files.now c.loop-file.file-index c.file-item.result c.as_str.result.now c.loop-file-test.true
     (c.as_str.ensures.value ∙ ap string_bytes c.file-item.is) (c.is_there.ensures c.if-not-is_there.false)
     c.loop-file.invariant

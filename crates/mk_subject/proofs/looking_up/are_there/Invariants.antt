@@ -6,4 +6,4 @@ use Rattle.mk_subject.proofs.looking_up.are_there.Given as goal
 
 -- the files so far are there
 abbrev pub invariant-loop-file : goal.invariant-loop-file
-invariant-loop-file l = (f : List ℕ) → Has (map string_bytes (take l.file-index l.files)) f → is_there l.table l.there f ≡ true
+invariant-loop-file l = (f : List ℕ) → Has (map string_bytes (take l.file-index l.files)) f → is_there l.table l.exists f ≡ true

@@ -25,7 +25,7 @@ same_fault m e r other fault same h = subst (λ (k : Recorded). IsFaultOf (subje
 pub returns-in_err-entries-clause-fault : goal.returns-in_err-entries-clause-fault
 returns-in_err-entries-clause-fault c =
     let p = err_from_is_err_and c.from_residual-in_err-entries.result c.from_residual-in_err-entries.ensures.1 in
-    rw (p.1, p.2) (same_fault c.args.table.now c.args.there.now c.in_ok-records.records (recorded_of c.args.graph.now c.args.setting.now) _ c.in_ok-records.ensures c.in_err-entries.ensures.fault)
+    rw (p.1, p.2) (same_fault c.args.table.now c.args.exists.now c.in_ok-records.records (recorded_of c.args.graph.now c.args.setting.now) _ c.in_ok-records.ensures c.in_err-entries.ensures.fault)
 
 pub returns-in_err-writers-clause-fault : goal.returns-in_err-writers-clause-fault
 returns-in_err-writers-clause-fault c =
@@ -49,10 +49,10 @@ returns-in_err-unsettled-clause-fault c =
 
 pub returns : goal.returns
 returns c =
-    let x = subject_of c.args.table.now c.args.there.now c.args.graph.now c.args.setting.now in
+    let x = subject_of c.args.table.now c.args.exists.now c.args.graph.now c.args.setting.now in
     let entries = c.in_ok-entries.entries.items in
     let m = c.args.table.now in
-    let e = c.args.there.now in
+    let e = c.args.exists.now in
     let recorded = c.in_ok-records.ensures in
     let held : AreRows x entries = subst (λ (r : Recorded). AreRows (subject_of m e r.graph r.setting) entries) recorded c.in_ok-entries.ensures.entries in
     let is_graph : IsGraph x.graph = subst (λ (r : Recorded). IsGraph r.graph) recorded c.in_ok-entries.ensures.graph in

@@ -22,7 +22,7 @@ returns-in_err-tables-clause-fault c =
 pub invariant_of-result : goal.invariant_of-result
 invariant_of-result c =
     let x = λ (e : Exists). subject_of c.args.table.now e c.args.graph.now c.args.setting.now in
-    let is : IsSubject (x c.args.there) = record {
+    let is : IsSubject (x c.args.exists) = record {
       selected = c.requires.selected;
       no_leaf = c.requires.no_leaf;
       nothing_more = c.requires.nothing_more;
@@ -36,7 +36,7 @@ invariant_of-result c =
 pub returns : goal.returns
 returns c =
     let x = λ (e : Exists). subject_of c.args.table.now e c.args.graph.now c.args.setting.now in
-    let is : IsSubject (x c.args.there) = record {
+    let is : IsSubject (x c.args.exists) = record {
       selected = c.requires.selected;
       no_leaf = c.requires.no_leaf;
       nothing_more = c.requires.nothing_more;

@@ -1,0 +1,12 @@
+pub mod SameKeys
+pub mod HeldClaims
+pub mod RowSteps
+pub mod ClaimSets
+pub mod JoinedClaims
+pub mod OfferRows
+pub mod WiderGraphs
+pub mod OfferCycles
+pub mod Numbers
+pub mod NoSteps
+pub mod ShownLines
+pub mod LedGraphs

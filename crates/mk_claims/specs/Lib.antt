@@ -1,0 +1,11 @@
+pub mod Topics
+pub mod Claims
+pub mod Untouched
+pub mod Offers
+pub mod Wider
+pub mod Shown
+pub mod Joining
+pub mod Grouping
+pub mod Tables
+pub mod Numbering
+pub mod Laws

@@ -1,5 +1,0 @@
-use Rattle.mk_sentences.proofs.ShownLines.{shown_close_none}
-use Rattle.mk_sentences.proofs.laws.shown_close_no_cycle.Goals as goal
-
-pub returns : goal.returns
-returns c = shown_close_none

@@ -1,8 +1,0 @@
-use Rattle.std.proofs.Common.{◌≡◌, ◌++◌, drop}
-use Rattle.mk_repair.specs.Rows.{names_view}
-use Rattle.mk_sentences.specs.Wider.{goals_with}
-use Rattle.mk_sentences.proofs.wider.goals_with.Given as goal
-
--- the goals so far, with the names that are left
-abbrev pub invariant-loop-name : goal.invariant-loop-name
-invariant-loop-name l = l.goals.items ++ names_view (drop l.name-index l.names) ≡ goals_with l.subject (names_view l.names)
