@@ -18,7 +18,7 @@ Item = TypeVar("Item")
 # How often a terminal and another file get a line, in seconds.
 SECONDS_ON_TERMINAL = 1.0
 SECONDS_ELSEWHERE = 60.0
-# After so many seconds without another line of a program, its time left is no longer told.
+# After this many seconds without another line of a program, its time left isn't shown any more.
 SECONDS_SILENT = 30.0
 # A count in a line of another program, as `[replay 3/10 0:05 left] a.o` or `[3/10] `, and `[3/0]`
 # where the whole isn't known; and what such a line says of a recipe that goes on.

@@ -15,7 +15,7 @@ from mkcheck_tools.replay.surroundings import SEEDS, Surroundings
 from mkcheck_tools.replay.worlds import Trial
 
 PROGRAM = re.compile(r"(?:python|pypy|perl|ruby|lua|luajit|texlua|guile)[0-9.]*(?:-[0-9.]+)?")
-# How many runs there are of a recipe that takes at most so many seconds, and of others.
+# How many runs there are of a recipe that takes at most this many seconds, and of others.
 RUNS = ((1.0, 6), (5.0, 4))
 FEWEST = 3
 

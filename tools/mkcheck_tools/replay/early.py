@@ -37,7 +37,7 @@ from mkcheck_tools.run.progress import Progress
 from mkcheck_tools.trace.accesses import Accesses
 
 PROCESSES = "/proc"
-# What is told of replays that are waited for.
+# What is said of replays that are waited for.
 EARLY = "a replay that began early"
 # How long a wait goes on before signals are looked for, in seconds.
 MOMENT = 0.2
