@@ -452,6 +452,26 @@ class TargetWithoutRecipeTest(MakeFolderTest):
         self.assertEqual(found, ["no stale app lib/x"])
 
 
+    def test_without_a_rule(self) -> None:
+        """As a header that only a dependency file names. With several jobs the make above looks at
+        it before the make below has written it."""
+        self.write(
+            {
+                "Makefile": "all: lib app\n.PHONY: all lib\nlib:\n\t$(MAKE) -C lib\n"
+                "app: a | lib\n\tcat a lib/x > app; echo 'app: lib/x' > app.d\n-include app.d\n",
+                "a": "a\n",
+                "lib/Makefile": "x: y\n\tsleep 0.3; cp y x\n",
+                "lib/y": "1\n",
+            }
+        )
+        answer = self.imported()
+        self.assertEqual(answer.findings, ["no stale app lib/x"], answer.output + answer.errors)
+        folder = self.built()
+        (folder / "lib/y").write_text("2\n")
+        self.assertEqual(self.make(folder, "-j2").returncode, 0)
+        self.assertEqual((folder / "app").read_text(), "a\n1\n")
+
+
 @can_judge
 class MakesThatAreNotJudgedTest(MakeFolderTest):
     """Makes of which it isn't known when they run, or what they do: the answer is never yes."""

@@ -49,6 +49,7 @@ class Settling:
         self.name_remade()
         self.settle_order()
         self.settle_between_makes()
+        self.settle_seen_early()
         self.settle_without_rule()
         self.drop_relinked()
         split_alike(self.build, self.footprints)
@@ -236,6 +237,26 @@ class Settling:
                 node = self.build.node(name)
                 node.has_rule, node.rereads = True, True
                 node.groups = [[writer.name for writer in writers]]
+
+    def settle_seen_early(self) -> None:
+        """Takes away prerequisites that another make writes and for which the make that was started
+        first has no rule, as those of dependency files: with several jobs it looks at such a file
+        before the other make has ended."""
+        for node in list(self.build.nodes.values()):
+            if node.make in self.build.starters or not node.late:
+                continue
+            own = [word for word in node.prerequisites(later=True) if "@make" in word]
+            known = {word.partition("@make")[0] for word in own}
+            found = {name for name in node.late if self.is_of_another(name, node)} - known
+            if found:
+                node.late = [name for name in node.late if name not in found]
+                self.build.blind |= found
+
+    def is_of_another(self, name: str, user: Node) -> bool:
+        """Whether the recipe of a file belongs to another make than that of its user."""
+        node = self.build.nodes.get(name)
+        is_made = node is not None and bool(node.commands) and name in self.writers
+        return node is not None and is_made and node.make != user.make
 
     def settle_without_rule(self) -> None:
         """Takes away prerequisites that recipes write and for which the tool has no rule, as those
