@@ -147,8 +147,8 @@ class BareTest(ReplayTest):
         said = self.refused("out: a\n\tcat a; date +%N > out\n", CONTENTS, BARE, {"a": ""})
         self.assertIn(
             f"{CONTENTS}: nothing for which it looked was missing in that run, so it depends on"
-            " something else, such as the time, a random name, a process number or the order of"
-            " the names in a folder. Take that out of the recipe, or",
+            " something else, such as the time, a random name, a process number, or the size of a"
+            " folder or the order of the names in it. Take that out of the recipe, or",
             said,
         )
 

@@ -660,6 +660,9 @@ class Replay:
         }
         if JOBS in own:
             return replace(own[JOBS], run=HANDED)
+        if CLOCK in own:
+            # Each time is another one in another time zone, too.
+            own.pop(VARIABLES, None)
         if STALE in shown and not shown[STALE][0].failed:
             found = replace(found, stale=bench.stale())
         return replace(found, amid=own)
