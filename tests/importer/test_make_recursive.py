@@ -451,7 +451,6 @@ class TargetWithoutRecipeTest(MakeFolderTest):
         found = self.judged("all: lib app\nlib/x: lib\nlib:\n\t$(MAKE) -C lib\n")
         self.assertEqual(found, ["no stale app lib/x"])
 
-
     def test_without_a_rule(self) -> None:
         """As a header that only a dependency file names. With several jobs the make above looks at
         it before the make below has written it."""

@@ -7,7 +7,7 @@ import subprocess
 import sys
 import unittest
 
-from mkcheck_tools.book.choices import Trust
+from mkcheck_tools.judge.trust import Trust
 from mkcheck_tools.run import places
 from recorder.project import MKCHECK, ROOT, traced
 from recorder.test_joined import FAILING, TOLD

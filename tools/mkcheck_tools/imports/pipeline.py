@@ -17,7 +17,6 @@ from pathlib import Path
 from typing import Generic
 
 from mkcheck_tools.answers.checkers import find_checker
-from mkcheck_tools.book.choices import ALIKE, KEPT
 from mkcheck_tools.book.footprint_files import Footprints
 from mkcheck_tools.book.paths import path_of_notes, path_of_state
 from mkcheck_tools.book.states import Entry, State, Unusable
@@ -62,6 +61,7 @@ from mkcheck_tools.imports.telling import COUNT, Far
 from mkcheck_tools.imports.told import Teller
 from mkcheck_tools.imports.tools import Built, NinjaTool, Shown, Tool, program_of, tool_of
 from mkcheck_tools.judge.notes import Kind
+from mkcheck_tools.judge.trust import ALIKE, KEPT
 from mkcheck_tools.replay.versions import digest_of
 from mkcheck_tools.run import places
 from mkcheck_tools.run.folders import prefix_of

@@ -8,7 +8,6 @@ from collections.abc import Iterable, Iterator, Mapping
 from dataclasses import dataclass, field
 
 from mkcheck_tools.answers.graphs import Recipe
-from mkcheck_tools.book.choices import Trust
 from mkcheck_tools.faults import Failure, Fault, failure_of
 from mkcheck_tools.judge.footprints import LOCK_CURE
 from mkcheck_tools.judge.late import Met
@@ -16,6 +15,7 @@ from mkcheck_tools.judge.modules import CURE as MODULES_CURE
 from mkcheck_tools.judge.modules import folder_of_modules
 from mkcheck_tools.judge.notes import Kind, Note
 from mkcheck_tools.judge.refusals import listed
+from mkcheck_tools.judge.trust import Trust
 from mkcheck_tools.replay.runs import (
     AGAIN,
     BARE,
