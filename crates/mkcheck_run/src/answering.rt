@@ -472,6 +472,22 @@ fn repair_response(
     }
 }
 
+// The response with what comes of mending, in this form. What came of it is dropped, or leaked
+// where memory may be left. The only error is out of memory.
+fn mending_shown(
+    alloc: Global,
+    form: Form,
+    found: Repair,
+    part: bool,
+    leaves_memory: bool,
+) -> Result<Response, AllocError>
+    ensures { IfOk result (λ shown. shown ≡ repair_response form part found) }
+{
+    let shown = repair_response(alloc, form, &found, part);
+    drop_or_leak(found, leaves_memory);
+    shown
+}
+
 // Carries out `repair`.
 fn answer_repair<F: Files>(
     alloc: Global,
@@ -490,8 +506,7 @@ fn answer_repair<F: Files>(
     ensures untouched { OnErr (macros_for request.now) (files.new ≡ files.old) }
 {
     let found = repair(alloc, files, request)?;
-    let shown = repair_response(alloc, form, &found, part)?;
-    drop_or_leak(found, request.leaves_memory);
+    let shown = mending_shown(alloc, form, found, part, request.leaves_memory)?;
     Ok(shown)
 }
 

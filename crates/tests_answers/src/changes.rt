@@ -63,6 +63,29 @@ fn tells_of_an_old_build_with_findings(rt: HostRuntime) -> Result<(), Fail> {
     expect(rt.alloc(), STALE, want)
 }
 
+/// What `check -w` says of the program with a header that its makefile doesn't name.
+const SENTENCES: &str = "\
+makefile:3: a.o reads h.h, but doesn't depend on it: when it changes, a.o stays old [stale]
+  add: a.o: h.h
+1 finding in 1 group; 1 line mends it
+";
+
+#[test]
+fn tells_findings_of_the_new_build_in_sentences(rt: HostRuntime) -> Result<(), Fail> {
+    let alloc = rt.alloc();
+    let mut old = files_of(alloc, MAKEFILE, "footprint.json", RIGHT)?;
+    let mut new = files_of(alloc, MAKEFILE, "B", STALE)?;
+    let asked = request(alloc, &[])?;
+    let change = Change {
+        request: &asked,
+        folder: "old",
+    };
+    match since(alloc, &mut old, &mut new, &change, true) {
+        Ok(Since::No(_, text)) => same(str::from_utf8(&text).unwrap_or(""), SENTENCES),
+        _ => same("", SENTENCES),
+    }
+}
+
 #[test]
 fn refuses_an_old_build_without_footprints(rt: HostRuntime) -> Result<(), Fail> {
     let want = "refused 51\nthis is the old build, in old: begin with a clean build\n";

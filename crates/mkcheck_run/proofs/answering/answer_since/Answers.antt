@@ -1,5 +1,6 @@
-use Rattle.std.proofs.Common.{Ok, ap}
+use Rattle.std.proofs.Common.{Bool, Ok, ap, subst}
 use Rattle.std.proofs.lemmas.Result.{err_from_is_err_and}
+use Rattle.mk_core_since.specs.SinceAnswer.{AnswersSince}
 use Rattle.mkcheck_run.proofs.RunLemmas.{no_memory_compares}
 use Rattle.mkcheck_run.proofs.answering.answer_since.Goals as goal
 
@@ -15,4 +16,8 @@ returns-in_err-shown-clause-answer g c =
 
 pub returns-clause-answer : goal.returns-clause-answer
 returns-clause-answer g c =
-    λ was below told fits. (Ok c.in_ok-found.found, c.in_ok-found.ensures.answer was below told fits, (c.cause.result, ap Ok c.in_ok-shown.ensures))
+    λ was below told fits. (
+      Ok c.in_ok-found.found,
+      subst (λ (words : Bool). AnswersSince words was told c.args.change.now.folder.now c.args.change.now.request.now (Ok c.in_ok-found.found)) c.is_words.ensures (c.in_ok-found.ensures.answer was below told fits),
+      (c.cause.result, ap Ok c.in_ok-shown.ensures),
+    )
