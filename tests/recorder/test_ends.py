@@ -261,8 +261,9 @@ class SignalTest(EndTest):
 
     @namespaces
     def test_while_a_replay_reads_what_is_very_large(self) -> None:
-        """The recipe makes a file as large as one at which it only looks."""
-        sized = "rm -f c; truncate -s `stat -c %s c.in || echo 2` c"
+        """The recipe makes a file as large as one at which it only looks, if that is large."""
+        sized = "n=`stat -c %s c.in || echo 2`; test $$n -gt 1000000 || n=2; truncate -s $$n c"
+        sized = f"rm -f c; {sized}"
         self.write({"makefile": MAKEFILE.replace("c: a\n\tcp a c", f"c: a\n\t{sized}")})
         self.write({"c.in": "1\n"})
         patch = WAITING.format(

@@ -377,8 +377,8 @@ class DrawsTest(SurroundingsTest):
         self.passes(f"out: a\n\t{sorting}\n")
         self.passes("out: a\n\tperl -e 'print sort keys %{{1..10}}' > out\n")
 
-    def test_random_numbers_of_two_values(self) -> None:
-        drawing = f"{PYTHON} -c 'import random; print(random.choice(range(4)))' > out"
+    def test_random_numbers(self) -> None:
+        drawing = f"{PYTHON} -c 'import random; print(random.random())' > out"
         self.refused(f"out: a\n\t{drawing}\n", "it depends on something else, such as the time")
 
 
