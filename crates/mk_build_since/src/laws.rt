@@ -22,7 +22,8 @@ pub fn prerequisites_name_nothing()
     ensures { PrerequisitesNameNothing }
 {}
 
-/// If no last runs of recipes overlap on a disk, it is coherent for a graph with more prerequisites.
+/// If no last runs of recipes overlap on a disk, it is coherent for a graph with more
+/// prerequisites.
 pub fn added_prerequisites_keep_coherence()
     ensures { AddedPrerequisitesKeepCoherence }
 {}

@@ -57,8 +57,8 @@ there_with x claims = with_more x.there (line_targets claims)
 abbrev pub is_made : Makefile → Exists → List ℕ → Bool
 is_made m e name = is_target m name || has_some (choice m e name)
 
--- The prerequisites in the lines of claims which rules make, once the lines are added, and which the
--- goals don't reach.
+-- The prerequisites in the lines of claims which rules make, once the lines are added, and which
+-- the goals don't reach.
 abbrev pub far_names : Subject → List Claim → List (List ℕ)
 far_names x claims = filter (is_made x.makefile (there_with x claims)) (unreached_names x claims)
 
