@@ -170,9 +170,12 @@ class LoadingTest(unittest.TestCase):
 class SignalTest(EndTest):
     """Signals in each phase."""
 
-    def stopped(self, patch: str, number: signal.Signals, *more: str) -> str:
-        """Starts a recorder that waits in a phase, and sends it a signal: it has to end within a
-        second, or what a machine that is busy makes of it. Returns what it said."""
+    def stopped(
+        self, patch: str, number: signal.Signals, *more: str, seconds: float = 0.0
+    ) -> str:
+        """Starts a recorder that waits in a phase, and sends it a signal this many seconds later: it
+        has to end within a second, or what a machine that is busy makes of it. Returns what it
+        said."""
         begun = time.monotonic()
         subprocess.run([*self.patched(""), "--version"], capture_output=True, check=True)
         allowed = 1.0 + 3 * (time.monotonic() - begun)
@@ -187,6 +190,7 @@ class SignalTest(EndTest):
             while not self.mark.exists() and run.poll() is None:
                 self.assertLess(time.monotonic(), until)
                 time.sleep(0.02)
+            time.sleep(seconds)
             sent = time.monotonic()
             run.send_signal(number)
             _, errors = run.communicate(timeout=60)
@@ -299,7 +303,8 @@ class SignalTest(EndTest):
             waits="pass",
         )
         patch += "room.LEAST = 600 * room.SECOND\n"
-        errors = self.stopped(patch, signal.SIGTERM)
+        # The replay begins as its recipe is recorded, beside the recording.
+        errors = self.stopped(patch, signal.SIGTERM, seconds=0.5)
         self.assertIn("stopped by SIGTERM, what was recorded is kept", errors)
         self.assertEqual(self.kept(), {"a", "b", "c"})
 
