@@ -173,8 +173,8 @@ class SignalTest(EndTest):
     def stopped(
         self, patch: str, number: signal.Signals, *more: str, seconds: float = 0.0
     ) -> str:
-        """Starts a recorder that waits in a phase, and sends it a signal this many seconds later: it
-        has to end within a second, or what a machine that is busy makes of it. Returns what it
+        """Starts a recorder that waits in a phase, and sends it a signal this many seconds later:
+        it has to end within a second, or what a machine that is busy makes of it. Returns what it
         said."""
         begun = time.monotonic()
         subprocess.run([*self.patched(""), "--version"], capture_output=True, check=True)
