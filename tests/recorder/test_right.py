@@ -434,6 +434,17 @@ class InstalledTest(RightTest):
         self.assertEqual(outcome.status, 1)
         self.assertIn("give --fixed ../home/own/ where they never change", outcome.errors)
 
+    def test_scripts_of_the_user_are_not(self) -> None:
+        """What stands in .local/bin may be his own, and edited."""
+        (self.home / ".local").mkdir()
+        os.rename(self.home / ".nvm", self.home / ".local" / "nvm")
+        os.rename(self.home / ".local" / "nvm" / "bin", self.home / ".local" / "bin")
+        (self.home / ".local" / "table").write_text("table\n")
+        path = f"{self.home}/.local/bin:{os.environ['PATH']}"
+        outcome = self.record(environment={**self.environment, "PATH": path})
+        self.assertEqual(outcome.status, 1)
+        self.assertIn("where they never change", outcome.errors)
+
     def test_a_variable_names_an_environment(self) -> None:
         os.rename(self.home / ".nvm", self.home / "own")
         path = f"{self.home}/own/bin:{os.environ['PATH']}"

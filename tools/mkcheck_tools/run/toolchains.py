@@ -11,8 +11,9 @@ from mkcheck_tools.run.folders import SYSTEM, is_plain_path
 # Folders of package managers that belong to no user.
 SHARED = ("/nix/store/", "/gnu/store/", "/snap/", "/home/linuxbrew/.linuxbrew/")
 # Folders below the home folder into which managers of compilers, interpreters and packages install.
+# .local/bin is none of them, since users keep scripts of their own there, which they edit.
 OWN = (
-    *(".local/bin/", ".local/lib/", ".local/share/uv/", ".local/share/mise/", ".local/pipx/"),
+    *(".local/lib/", ".local/share/uv/", ".local/share/mise/", ".local/pipx/"),
     *(".pyenv/", ".conda/", "anaconda3/", "miniconda3/", "miniforge3/", "mambaforge/"),
     *(".rustup/", ".cargo/bin/", ".cargo/registry/", ".nvm/", ".volta/", ".bun/", ".deno/"),
     *(".asdf/", ".nodenv/", ".rbenv/", ".rvm/", ".sdkman/", ".jenv/", ".ghcup/", ".stack/"),
