@@ -14,6 +14,9 @@ WORDS = b"words"
 OPTIONS = b"options"
 BOOK = b"footprint.json"
 OLD = b"this is the old build, in %b: begin with a clean build\n"
+# Findings with which an old build is taken all the same, by the word that names them. The word
+# after that is the recipe that reads.
+DOUBTS = (b"race", b"stale")
 NOTHING_KEPT = (
     b"there is no makefile of an old build in %b: mkcheck-record --keep DIR keeps one; "
     b"begin with a clean build\n"
@@ -124,10 +127,38 @@ def was_file(old: Subject, file: bytes) -> bool:
     return file in old.there.sources or file in makefile.texts or file in old.writers
 
 
-def cant_stay(old: Subject, new: Subject, recipe: bytes) -> bool:
-    """Whether what a recipe of the new build wrote before can't stay."""
+def doubtful_files(old: Subject, readers: set[bytes]) -> set[bytes]:
+    """The files of the old build that may be wrong though all its makes have ended: those that
+    these recipes write, and then, as long as there are more, each whose recipe reads one of
+    them."""
+    doubtful: set[bytes] = set()
+    while True:
+        more = {
+            file
+            for file, writers in old.writers.items()
+            for writer in writers
+            if writer in readers or not doubtful.isdisjoint(old.reads(writer))
+        }
+        if more == doubtful:
+            return doubtful
+        doubtful = more
+
+
+def doubted(old: Subject, found: list[Finding]) -> set[bytes]:
+    """The recipes of the old build that are doubted, by its races and stale reads."""
+    readers = {finding[1] for finding in found}
+    doubtful = doubtful_files(old, readers)
+    return readers | {
+        recipe for recipe in old.recipes if not doubtful.isdisjoint(old.reads(recipe))
+    }
+
+
+def cant_stay(old: Subject, new: Subject, doubts: set[bytes], recipe: bytes) -> bool:
+    """Whether what a recipe of the new build wrote before can't stay. The old build's recipes in
+    `doubts` are doubted."""
     return (
         recipe not in old.recipes
+        or recipe in doubts
         or old.commands[recipe].texts != new.commands[recipe].texts
         or set(old.writes(recipe)) != set(new.writes(recipe))
         or set(old.reads(recipe)) != set(new.reads(recipe))
@@ -140,11 +171,11 @@ def is_always_made(subject: Subject, recipe: bytes) -> bool:
     return node.phony or any(subject.node(name).phony for name in node.prerequisites)
 
 
-def named(old: Subject, new: Subject) -> list[bytes]:
-    """The files to remove."""
+def named(old: Subject, new: Subject, doubts: set[bytes]) -> list[bytes]:
+    """The files to remove, where these recipes of the old build are doubted."""
     found = [file for file in old.writers if not is_file(new, file)]
     for recipe in new.recipes:
-        if not is_always_made(new, recipe) and cant_stay(old, new, recipe):
+        if not is_always_made(new, recipe) and cant_stay(old, new, doubts, recipe):
             found += [file for file in new.writes(recipe) if was_file(old, file)]
     return sorted(set(found))
 
@@ -176,7 +207,7 @@ def compared(request: Request, files: Files) -> tuple[bytes, int]:
     except Refused as fault:
         return refused(request, files, seen_from_outside(fault, request.folder)), 2
     found = old.findings()
-    if found:
+    if any(finding[0] not in DOUBTS for finding in found):
         return told(request, found, "old"), 1
     graph, book, passed_over = prepared(request, files)
     new = Subject(graph, book, passed_over)
@@ -185,7 +216,7 @@ def compared(request: Request, files: Files) -> tuple[bytes, int]:
         return in_sentences(new, findings), 1
     if findings:
         return told(request, findings, "new"), 1
-    names = named(old, new)
+    names = named(old, new, doubted(old, found))
     if request.in_json:
         files_named = [name.decode("utf-8") for name in names]
         return shown({"answer": "yes", "files": files_named, "format": 1}), 0

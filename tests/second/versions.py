@@ -32,6 +32,7 @@ class Version:
         self.recipes: dict[str, Recipe] = {}
         self.goals: list[str] = []
         self.fixed: list[str] = []
+        self.waits = False
 
     def writer(self, file: str) -> str | None:
         """The target of the recipe that writes a file."""
@@ -43,9 +44,9 @@ class Version:
 
     def makefile(self) -> bytes:
         """The text of the makefile."""
-        lines = ["all: " + " ".join(self.goals)]
+        lines = ["all: " + (" .WAIT " if self.waits else " ").join(self.goals)]
         phony = [target for target, one in self.recipes.items() if one.phony]
-        lines += [".PHONY: " + " ".join(["all", *phony])]
+        lines += [".PHONY: " + " ".join(["all", "force", *phony]), "force:"]
         for target, one in self.recipes.items():
             lines += [f"{target}: " + " ".join(one.prerequisites), "\t" + one.command]
         return ("\n".join(lines) + "\n").encode()
@@ -86,6 +87,8 @@ def version(rng: Random) -> Version:
         made.recipes[target] = recipe
     made.goals = list(made.recipes)[-1:] + rng.sample(list(made.recipes), 1)
     made.goals = list(dict.fromkeys(made.goals))
+    if rng.random() < 0.4:
+        made.goals = rng.sample(list(made.recipes), len(made.recipes))
     return made
 
 
@@ -202,6 +205,15 @@ def phony(rng: Random, made: Version) -> None:
     recipe.phony = not recipe.phony
 
 
+def forced(rng: Random, made: Version) -> None:
+    """A recipe is made in every make now, by a prerequisite, or no more."""
+    recipe = some(rng, made)[1]
+    if "force" in recipe.prerequisites:
+        recipe.prerequisites.remove("force")
+    else:
+        recipe.prerequisites.append("force")
+
+
 def other_goals(rng: Random, made: Version) -> None:
     """Other goals."""
     made.goals = rng.sample(list(made.recipes), rng.randint(1, len(made.recipes)))
@@ -218,6 +230,7 @@ EDITS: list[Callable[[Random, Version], None]] = [
     to_source,
     to_recipe,
     phony,
+    forced,
     other_goals,
 ]
 
@@ -230,6 +243,40 @@ def changed(rng: Random, made: Version) -> Version:
     later.goals = [goal for goal in later.goals if goal in later.recipes]
     later.goals = list(dict.fromkeys(later.goals)) or list(later.recipes)[-1:]
     return later
+
+
+def two_writers(_rng: Random, made: Version) -> None:
+    """The last recipe writes what the first one writes."""
+    first, last = list(made.recipes.values())[0], list(made.recipes.values())[-1]
+    last.writes += [file for file in first.writes if file not in last.writes]
+
+
+def own_read(rng: Random, made: Version) -> None:
+    """A recipe reads what it writes."""
+    recipe = some(rng, made)[1]
+    recipe.reads += [file for file in recipe.writes if file not in recipe.reads]
+
+
+def unknown_read(rng: Random, made: Version) -> None:
+    """A recipe reads what nobody makes."""
+    some(rng, made)[1].reads.append("note")
+
+
+def lacking(rng: Random, made: Version) -> Version:
+    """The version with fewer prerequisites: mostly it has races and stale reads, and at times
+    another finding too."""
+    less = copy.deepcopy(made)
+    kept = rng.choice([0.5, 0.8, 0.9])
+    for recipe in less.recipes.values():
+        recipe.prerequisites = [name for name in recipe.prerequisites if rng.random() < kept]
+    if rng.random() < 0.8:
+        less.goals = rng.sample(list(less.recipes), len(less.recipes))
+    if rng.random() < 0.2:
+        forced(rng, less)
+    less.waits = rng.random() < 0.2
+    if rng.random() < 0.15:
+        rng.choice([two_writers, own_read, unknown_read])(rng, less)
+    return less
 
 
 def old_words(rng: Random, made: Version) -> bytes | None:
@@ -283,6 +330,8 @@ def two_versions(rng: Random, name: bytes) -> tuple[str, dict[bytes, Contents], 
     """A folder with the old build, all files, and the new build. The makefile has this name."""
     first = version(rng)
     second = changed(rng, first)
+    if rng.random() < 0.6:
+        first = lacking(rng, first)
     old: dict[bytes, Contents] = {name: first.makefile(), b"footprint.json": first.book()}
     words = old_words(rng, first)
     if words is not None:

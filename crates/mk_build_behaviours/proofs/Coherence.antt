@@ -160,7 +160,7 @@ module _ (g : Graph) (s : Setting) (b : Behaviours) (d : Disk) (is : IsCoherentB
     start = 0;
     known = known g (without_reads s) b d is;
     is = fits_before;
-    are = record { saw = λ t run e f. saw_in t (place t) run e f; wrote = λ t run e. wrote_in t (place t) run refl e };
+    are = record { saw = λ t run recipe e f. saw_in t (place t) run e f; wrote = λ t run recipe e. wrote_in t (place t) run refl e };
   }
 
 module _ (g : Graph) (s : Setting) (b : Behaviours) (epoch : ℕ) (p : Runs) (running : List ℕ) (d : Disk) (known : List Outcome) (fits : Fits g (without_reads s) epoch p running (record d { known = known })) (are : AreKnown g s b p known d) where
@@ -189,12 +189,12 @@ module _ (g : Graph) (s : Setting) (b : Behaviours) (epoch : ℕ) (p : Runs) (ru
   -- a recipe is bound to run or is as this run left it
   pub left_of : (t : ℕ) (c : Status t) → (node g t).recipe ≡ true → ¬ (Has running t) → IsBoundToRun g s d t ⊎ IsAsLeftBy g s b (last_of t c) d t
   left_of t (inl ran) recipe stopped =
-      let both : Some ran.1.whole.written ≡ Some (result (behaviour g b t) ran.0.saw) = sym ran.1.whole.known ∙ are.wrote t ran.0 ran.1.is_last in
+      let both : Some ran.1.whole.written ≡ Some (result (behaviour g b t) ran.0.saw) = sym ran.1.whole.known ∙ are.wrote t ran.0 recipe ran.1.is_last in
       let same : ran.1.whole.written ≡ result (behaviour g b t) ran.0.saw = cc in
       inr (record {
         holds = ran.1.whole.holds ∙ ap (λ (l : List ℕ). map (λ c. Some c) l) same;
         during = λ f stamp wrote has. (ran.1.after_begin f stamp wrote has, ran.1.whole.early f stamp wrote has);
-        saw = are.saw t ran.0 ran.1.is_last;
+        saw = are.saw t ran.0 recipe ran.1.is_last;
       })
   left_of t (inr bound) recipe stopped = inl (bound recipe stopped)
 

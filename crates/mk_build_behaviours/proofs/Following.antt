@@ -26,7 +26,7 @@ use Rattle.mk_build.proofs.Invariant.{start_after}
 use Rattle.mk_build.proofs.Histories.{step_keeps, step_settles, IsWhole}
 use Rattle.mk_build_behaviours.specs.Behaviours.{Behaviours, behaviour, path, result}
 use Rattle.mk_build_behaviours.specs.StepsBy.{saw_in, MayEndBy, AllowedBy, after_by, IsLegalBy, after_all_by, IsUndisturbed, AreUndisturbed}
-use Rattle.mk_build_behaviours.proofs.Paths.{same_walk, if_some_from}
+use Rattle.mk_build_behaviours.proofs.Paths.{same_walk}
 use Rattle.mk_build_behaviours.proofs.Putting.{put_is_held}
 use Rattle.mk_build_behaviours.proofs.CleanContents.{IsClean}
 use Rattle.mk_build_behaviours.proofs.Seeing.{Sees, SeesIn, AreOthers, sees_after}
@@ -203,7 +203,7 @@ module _ (g : Graph) (s : Setting) (b : Behaviours) (graph : IsGraph g) (sound :
     removed_or_same t false f must differ = refl
 
     -- today's invariant after a step of today's world
-    whole_after : (epoch : ℕ) (w : World) (p : Runs) (start : ℕ) (step : Step) → IsWhole g s graph sound epoch no_race p start w → Allowed g s w step → IsWhole g s graph sound epoch no_race (runs_after w step p) (start_after w step start) (after g s w step)
+    pub whole_after : (epoch : ℕ) (w : World) (p : Runs) (start : ℕ) (step : Step) → IsWhole g s graph sound epoch no_race p start w → Allowed g s w step → IsWhole g s graph sound epoch no_race (runs_after w step p) (start_after w step start) (after g s w step)
     whole_after epoch w p start step whole may = (step_keeps g s graph sound epoch no_race p start w step whole.0 may, step_settles g s graph sound epoch no_race (λ q began n e at are k ready recipe need_not. passed_is_up_to_date g s graph sound epoch q began n e at.fits at.make are k ready recipe need_not no_race ways) p start w step whole may)
 
     abbrev today : World

@@ -8,7 +8,7 @@ use Rattle.mk_graph.specs.Membership.{Has}
 use Rattle.mk_graph.specs.Graph.{Graph, node, IsGraph}
 use Rattle.mk_build.specs.Setting.{FileName, Setting, name, reads, writes}
 use Rattle.mk_build.specs.World.{File, Outcome, Disk, Making, World, Idle, Busy, disk_of, content, written, without, outcome}
-use Rattle.mk_build.specs.Steps.{Step, Edit, Make, Begin, Look, Put, End, Break, Pass, Stop, EndMake, Allowed, after, MayEnd, IsLeftToRun, noted, seen_by, put_by, HasPutWhatIsKnown}
+use Rattle.mk_build.specs.Steps.{Step, Edit, Make, Begin, Look, Put, End, Break, Pass, Stop, EndMake, Allowed, after, MayEnd, IsLeftToRun, noted, finished, seen_by, put_by, HasPutAll, HasPutWhatIsKnown}
 use Rattle.mk_build.specs.Runs.{WholeRun, Runs, run_of, runs_after}
 use Rattle.mk_build.specs.Ways.{CanChange}
 use Rattle.mk_build.specs.Right.{AreSound, HaveNoRace}
@@ -18,13 +18,14 @@ use Rattle.mk_build.proofs.Writing.{content_there, stamp_here, stamp_kept}
 use Rattle.mk_build.proofs.Putting.{look_holds}
 use Rattle.mk_build.proofs.Outcomes.{noted_new, noted_old, outcome_here}
 use Rattle.mk_build.proofs.Removing.{gone_here, stays_there, none_still}
-use Rattle.mk_build.proofs.Invariant.{RanWhole, Holds, IsInvariant, start_after}
+use Rattle.mk_build.proofs.Invariant.{Holds, IsInvariant, start_after}
 use Rattle.mk_build.proofs.Histories.{step_keeps}
-use Rattle.mk_build_behaviours.specs.Behaviours.{Behaviours, behaviour, path, result}
-use Rattle.mk_build_behaviours.specs.StepsBy.{saw_in, MayEndBy, AllowedBy, after_by, IsLegalBy, after_all_by, IsUndisturbed, AreUndisturbed}
+use Rattle.mk_build_behaviours.specs.Behaviours.{Behaviour, Behaviours, behaviour, path, result}
+use Rattle.mk_build_behaviours.specs.StepsBy.{saw_in, AllowedBy, after_by, IsLegalBy, after_all_by, IsUndisturbed, AreUndisturbed}
 use Rattle.mk_build_behaviours.specs.CoherentBy.{without_reads}
 use Rattle.mk_build_behaviours.specs.Straight.{with_outcomes}
 use Rattle.mk_build_behaviours.proofs.Known.{outcome_other}
+use Rattle.mk_build_behaviours.proofs.OtherOutcomes.{holds_with}
 
 -- a footprint without reads has none
 pub reads_none : (g : Graph) (s : Setting) (t : ℕ) (f : FileName) → ¬ (Has (reads g (without_reads s) t) f)
@@ -56,10 +57,10 @@ module _ (g : Graph) (s : Setting) (d : Disk) (f : FileName) where
       (λ missing. inr (inr (none_still d f h missing.0, missing.1))) changed) before)
       (cases_name f h)
 
--- what last runs saw on their paths is there or has changed since, and what they wrote is known
+-- what last runs of recipes saw on their paths is there or has changed since, and what they wrote is known
 pub record AreKnown (g : Graph) (s : Setting) (b : Behaviours) (p : Runs) (known : List Outcome) (d : Disk) : Type 0 where
-  pub saw : (t : ℕ) (run : WholeRun) → p.last t ≡ Some run → (f : FileName) → Has (path (behaviour g b t) run.saw) f → ContainsOrChanged g s d f (run.saw f) run.ended
-  pub wrote : (t : ℕ) (run : WholeRun) → p.last t ≡ Some run → outcome known t (map run.saw (reads g (without_reads s) t)) ≡ Some (result (behaviour g b t) run.saw)
+  pub saw : (t : ℕ) (run : WholeRun) → (node g t).recipe ≡ true → p.last t ≡ Some run → (f : FileName) → Has (path (behaviour g b t) run.saw) f → ContainsOrChanged g s d f (run.saw f) run.ended
+  pub wrote : (t : ℕ) (run : WholeRun) → (node g t).recipe ≡ true → p.last t ≡ Some run → outcome known t (map run.saw (reads g (without_reads s) t)) ≡ Some (result (behaviour g b t) run.saw)
 
 -- a world is as some runs left it
 pub record IsKept (g : Graph) (s : Setting) (b : Behaviours) (w : World) : Type 0 where
@@ -71,46 +72,7 @@ pub record IsKept (g : Graph) (s : Setting) (b : Behaviours) (w : World) : Type 
   pub are : AreKnown g s b runs known (disk_of w)
 
 module _ (g : Graph) (s : Setting) (b : Behaviours) (graph : IsGraph g) (sound : AreSound g (without_reads s)) where
-  -- what is known of running recipes doesn't matter
-  ran_with : (p : Runs) (d : Disk) (known more : List Outcome) (t : ℕ) (run : WholeRun) → ((seen : List (Option ℕ)) → outcome more t seen ≡ outcome known t seen) → RanWhole g (without_reads s) p run (record d { known = known }) t → RanWhole g (without_reads s) p run (record d { known = more }) t
-  ran_with p d known more t run same ran = record {
-    is_last = ran.is_last;
-    begin_step = ran.begin_step;
-    in_order = ran.in_order;
-    whole = record {
-      written = ran.whole.written;
-      known = same (map run.saw (reads g (without_reads s) t)) ∙ ran.whole.known;
-      holds = ran.whole.holds;
-      early = ran.whole.early;
-    };
-    after_begin = ran.after_begin;
-  }
-
-  holds_with : (epoch : ℕ) (p : Runs) (start : ℕ) (m : Making) (d : Disk) (known more : List Outcome) → ((t : ℕ) → ¬ (Has m.running t) → (seen : List (Option ℕ)) → outcome more t seen ≡ outcome known t seen) → Holds g (without_reads s) epoch p start m (record d { known = known }) → Holds g (without_reads s) epoch p start m (record d { known = more })
-  holds_with epoch p start m d known more same is = record {
-    fits = record {
-      stamped = is.fits.stamped;
-      began = is.fits.began;
-      ended = is.fits.ended;
-      end_step = is.fits.end_step;
-      whole = λ t recipe stopped. ⊎_elim (λ bound. inl bound) (λ ran. inr (ran.0, ran_with p d known more t ran.0 (same t stopped) ran.1)) (is.fits.whole t recipe stopped);
-      saw = is.fits.saw;
-      epoch_came = is.fits.epoch_came;
-      apart = λ o t before. ⊎_elim (λ one. inl (record { stopped = one.stopped; early = one.early; ended = one.ended; end_step = one.end_step })) (λ rest. inr (⊎_elim (λ two. inl (record { stopped = two.stopped; early = two.early; ended = two.ended; end_step = two.end_step })) (λ old. inr old) rest)) (is.fits.apart o t before);
-    };
-    make = record {
-      order = is.make.order;
-      start_came = is.make.start_came;
-      epoch_before = is.make.epoch_before;
-      seen = is.make.seen;
-      put = is.make.put;
-      put_late = is.make.put_late;
-      waits = is.make.waits;
-      runs = is.make.runs;
-    };
-  }
-
-  module _ (m : Making) (d : Disk) (kept : IsKept g s b (Busy m d)) (x : ℕ) (may : MayEndBy g s b m x) where
+  module _ (m : Making) (d : Disk) (kept : IsKept g s b (Busy m d)) (x : ℕ) (runs : Has m.running x) (has_put : HasPutAll g s m x) where
     -- its outcome
     abbrev pub own : Outcome
     own = record { recipe = x; seen = seen_by g (without_reads s) m x; written = put_by g (without_reads s) m x }
@@ -120,7 +82,7 @@ module _ (g : Graph) (s : Setting) (b : Behaviours) (graph : IsGraph g) (sound :
     before_end = record d { known = own ∷ kept.known }
 
     pub holds_before : Holds g (without_reads s) kept.epoch kept.runs kept.start m before_end
-    holds_before = holds_with kept.epoch kept.runs kept.start m d kept.known (own ∷ kept.known) (λ t stopped seen. outcome_other own kept.known t seen (λ same. stopped (subst (λ (k : ℕ). Has m.running k) same may.runs))) kept.is
+    holds_before = holds_with g (without_reads s) kept.epoch kept.runs kept.start m d kept.known (own ∷ kept.known) (λ t stopped seen. outcome_other own kept.known t seen (λ same. stopped (subst (λ (k : ℕ). Has m.running k) same runs))) kept.is
 
     -- it agrees with what is known
     agrees : HasPutWhatIsKnown g (without_reads s) m before_end x
@@ -128,7 +90,7 @@ module _ (g : Graph) (s : Setting) (b : Behaviours) (graph : IsGraph g) (sound :
 
     -- so it may end
     pub may_end : MayEnd g (without_reads s) m before_end x
-    may_end = record { runs = may.runs; seen = λ f read none. reads_none g s x f read; put = may.put; agrees = agrees }
+    may_end = record { runs = runs; seen = λ f read none. reads_none g s x f read; put = has_put; agrees = agrees }
 
     -- the runs after it
     abbrev pub runs_then : Runs
@@ -141,30 +103,51 @@ module _ (g : Graph) (s : Setting) (b : Behaviours) (graph : IsGraph g) (sound :
         (λ differ. inr (differ, sym (changed_at_there kept.runs.last x t (Some (run_of kept.runs m before_end x)) differ) ∙ e))
         (cases_eq x t)
 
-    pub known_then : (undisturbed : (f : FileName) → Has (path (behaviour g b x) (saw_in m x)) f → content d f ≡ saw_in m x f) → AreKnown g s b runs_then (noted before_end own).known d
-    known_then undisturbed = record {
-      saw = λ t run e f on. ⊎_elim
-          (λ here. subst (λ (r : WholeRun). Has (path (behaviour g b t) r.saw) f → ContainsOrChanged g s d f (r.saw f) r.ended) here.1
-          (subst (λ (k : ℕ). Has (path (behaviour g b k) (saw_in m x)) f → ContainsOrChanged g s d f (saw_in m x f) d.clock) here.0 (λ own_on. inl (undisturbed f own_on))) on)
-          (λ there. kept.are.saw t run there.1 f on) (last_cases t run e);
-      wrote = λ t run e. ⊎_elim
-          (λ here. subst (λ (r : WholeRun). outcome (noted before_end own).known t (map r.saw (reads g (without_reads s) t)) ≡ Some (result (behaviour g b t) r.saw)) here.1
-          (subst (λ (k : ℕ). outcome (noted before_end own).known k (map (saw_in m x) (reads g (without_reads s) k)) ≡ Some (result (behaviour g b k) (saw_in m x))) here.0
-          (noted_new before_end own agrees ∙ ap (λ (l : List ℕ). Some l) may.agrees)))
-          (λ there. noted_old before_end own t (map run.saw (reads g (without_reads s) t)) (result (behaviour g b t) run.saw) (outcome_other own kept.known t (map run.saw (reads g (without_reads s) t)) there.0 ∙ kept.are.wrote t run there.1)) (last_cases t run e);
-    }
+    -- it ends by behaviours that are the same for the others
+    module _ (after : Behaviours) (same : (t : ℕ) → (node g t).recipe ≡ true → ¬ (x ≡ t) → behaviour g b t ≡ behaviour g after t)
+        (wrote : put_by g s m x ≡ result (behaviour g after x) (saw_in m x))
+        (undisturbed : (f : FileName) → Has (path (behaviour g after x) (saw_in m x)) f → content d f ≡ saw_in m x f) where
+      -- what another one saw and wrote
+      saw_there : (t : ℕ) (run : WholeRun) → (node g t).recipe ≡ true → ¬ (x ≡ t) → kept.runs.last t ≡ Some run → (f : FileName) → Has (path (behaviour g after t) run.saw) f → ContainsOrChanged g s d f (run.saw f) run.ended
+      saw_there t run recipe differ e f = subst (λ (k : Behaviour). Has (path k run.saw) f → ContainsOrChanged g s d f (run.saw f) run.ended) (same t recipe differ) (kept.are.saw t run recipe e f)
+
+      wrote_there : (t : ℕ) (run : WholeRun) → (node g t).recipe ≡ true → ¬ (x ≡ t) → kept.runs.last t ≡ Some run → outcome kept.known t (map run.saw (reads g (without_reads s) t)) ≡ Some (result (behaviour g after t) run.saw)
+      wrote_there t run recipe differ e = subst (λ (k : Behaviour). outcome kept.known t (map run.saw (reads g (without_reads s) t)) ≡ Some (result k run.saw)) (same t recipe differ) (kept.are.wrote t run recipe e)
+
+      pub known_then : AreKnown g s after runs_then (noted before_end own).known d
+      known_then = record {
+        saw = λ t run recipe e f on. ⊎_elim
+            (λ here. subst (λ (r : WholeRun). Has (path (behaviour g after t) r.saw) f → ContainsOrChanged g s d f (r.saw f) r.ended) here.1
+            (subst (λ (k : ℕ). Has (path (behaviour g after k) (saw_in m x)) f → ContainsOrChanged g s d f (saw_in m x f) d.clock) here.0 (λ own_on. inl (undisturbed f own_on))) on)
+            (λ there. saw_there t run recipe there.0 there.1 f on) (last_cases t run e);
+        wrote = λ t run recipe e. ⊎_elim
+            (λ here. subst (λ (r : WholeRun). outcome (noted before_end own).known t (map r.saw (reads g (without_reads s) t)) ≡ Some (result (behaviour g after t) r.saw)) here.1
+            (subst (λ (k : ℕ). outcome (noted before_end own).known k (map (saw_in m x) (reads g (without_reads s) k)) ≡ Some (result (behaviour g after k) (saw_in m x))) here.0
+            (noted_new before_end own agrees ∙ ap (λ (l : List ℕ). Some l) wrote)))
+            (λ there. noted_old before_end own t (map run.saw (reads g (without_reads s) t)) (result (behaviour g after t) run.saw) (outcome_other own kept.known t (map run.saw (reads g (without_reads s) t)) there.0 ∙ wrote_there t run recipe there.0 there.1)) (last_cases t run e);
+      }
+
+      abbrev pub keeps_end : IsKept g s after (Busy (finished m x) d)
+      keeps_end = record {
+        epoch = kept.epoch;
+        runs = runs_then;
+        start = kept.start;
+        known = (noted before_end own).known;
+        is = step_keeps g (without_reads s) graph sound kept.epoch (none_races g s) kept.runs kept.start (Busy m before_end) (End x) holds_before may_end;
+        are = known_then;
+      }
 
   -- what the last runs saw stays over a writing and a removal
   pub are_written : (p : Runs) (known : List Outcome) (d : Disk) (f : FileName) (c : ℕ) → ((t : ℕ) (run : WholeRun) → p.last t ≡ Some run → run.ended ≤ d.clock) → CanChange s f → AreKnown g s b p known d → AreKnown g s b p known (written d f c)
-  are_written p known d f c ended can are = record { saw = λ t run e h on. changed_written g s d f c h (run.saw h) run.ended can (ended t run e) (are.saw t run e h on); wrote = are.wrote }
+  are_written p known d f c ended can are = record { saw = λ t run recipe e h on. changed_written g s d f c h (run.saw h) run.ended can (ended t run e) (are.saw t run recipe e h on); wrote = are.wrote }
 
   pub are_removed : (p : Runs) (known : List Outcome) (d : Disk) (x : ℕ) (removed : Bool) → IsLeftToRun g s d x removed → AreKnown g s b p known d → AreKnown g s b p known (if removed then without d (name g x) else d)
-  are_removed p known d x true wrote are = record { saw = λ t run e h on. changed_without g s d (name g x) x wrote h (run.saw h) run.ended (are.saw t run e h on); wrote = are.wrote }
+  are_removed p known d x true wrote are = record { saw = λ t run recipe e h on. changed_without g s d (name g x) x wrote h (run.saw h) run.ended (are.saw t run recipe e h on); wrote = are.wrote }
   are_removed p known d x false must are = are
 
   -- and over steps that end no recipe
   pub are_later : (p q : Runs) (known : List Outcome) (d : Disk) → ((t : ℕ) → q.last t ≡ p.last t) → AreKnown g s b p known d → AreKnown g s b q known d
-  are_later p q known d same are = record { saw = λ t run e. are.saw t run (sym (same t) ∙ e); wrote = λ t run e. are.wrote t run (sym (same t) ∙ e) }
+  are_later p q known d same are = record { saw = λ t run recipe e. are.saw t run recipe (sym (same t) ∙ e); wrote = λ t run recipe e. are.wrote t run recipe (sym (same t) ∙ e) }
 
   -- today's invariant after a step of today's world
   pub next : (epoch : ℕ) (w : World) (p : Runs) (start : ℕ) (step : Step) → IsInvariant g (without_reads s) epoch p start w → Allowed g (without_reads s) w step → IsInvariant g (without_reads s) epoch (runs_after w step p) (start_after w step start) (after g (without_reads s) w step)
@@ -222,14 +205,7 @@ module _ (g : Graph) (s : Setting) (b : Behaviours) (graph : IsGraph g) (sound :
     is = next kept.epoch (Busy m (record d { known = kept.known })) kept.runs kept.start (Put t f c) kept.is may;
     are = are_later kept.runs (runs_after (Busy m (record d { known = kept.known })) (Put t f c) kept.runs) kept.known (written d f c) (λ t. refl) (are_written kept.runs kept.known d f c kept.is.fits.ended (inr (sound.not_given t f may.1)) kept.are);
   }
-  keep (Busy m d) (End t) kept may still = record {
-    epoch = kept.epoch;
-    runs = runs_then m d kept t may;
-    start = kept.start;
-    known = (noted (before_end m d kept t may) (own m d kept t may)).known;
-    is = next kept.epoch (Busy m (before_end m d kept t may)) kept.runs kept.start (End t) (holds_before m d kept t may) (may_end m d kept t may);
-    are = known_then m d kept t may still;
-  }
+  keep (Busy m d) (End t) kept may still = keeps_end m d kept t may.runs may.put b (λ k recipe differ. refl) may.agrees still
   keep (Busy m d) (Break t removed) kept may still = record {
     epoch = kept.epoch;
     runs = runs_after (Busy m (record d { known = kept.known })) (Break t removed) kept.runs;

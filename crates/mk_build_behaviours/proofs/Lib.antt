@@ -6,6 +6,7 @@ pub mod Known
 pub mod Seeing
 pub mod Following
 pub mod Present
+pub mod OtherOutcomes
 pub mod Keeping
 pub mod Coherence
 pub mod Traces
@@ -13,3 +14,7 @@ pub mod OtherReads
 pub mod OneJob
 pub mod Serial
 pub mod Straight
+pub mod Trusted
+pub mod TrustedClean
+pub mod TrustedMakes
+pub mod TrustedTraces

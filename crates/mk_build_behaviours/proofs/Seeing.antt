@@ -56,7 +56,7 @@ module _ (g : Graph) (s : Setting) (b : Behaviours) (counts : ℕ → FileName �
         let left = Has-without x t m.running runs in
         (left.0, sym (ap (λ (at : FileName → Option (Option ℕ)). at f) (changed_at_there m.seen x t (λ h. None) left.1)) ∙ e)
 
-    ends : (x : ℕ) → Sees (finished m x) d
+    pub ends : (x : ℕ) → Sees (finished m x) d
     ends x t f c runs count e = let before = saw_before x t f c runs e in sees t f c before.0 count before.1
 
     -- where a target is removed

@@ -1,10 +1,10 @@
 -- Makes with one job keep the last runs of recipes apart.
-use Rattle.std.proofs.Common.{◌≡◌, ℕ, ◌≤◌, List, [], ◌∷◌, true, false, Option, Some, None, map, ◌⊎◌, inl, inr, ⊎_elim, refl, sym, ◌∙◌, subst, arith}
+use Rattle.std.proofs.Common.{◌≡◌, ℕ, ◌≤◌, List, [], ◌∷◌, Some, None, map, ◌⊎◌, inl, inr, ⊎_elim, refl, sym, ◌∙◌, subst, arith}
 use Rattle.std.proofs.lemmas.Bool.{cases_eq}
 use Rattle.mk_graph.specs.Membership.{Has}
 use Rattle.mk_graph.specs.Graph.{Graph, IsGraph}
-use Rattle.mk_build.specs.Setting.{FileName, Setting, reads}
-use Rattle.mk_build.specs.World.{Disk, Making, World, Idle, Busy, IsStartDisk}
+use Rattle.mk_build.specs.Setting.{Setting, reads}
+use Rattle.mk_build.specs.World.{Disk, World, Idle, Busy, IsStartDisk}
 use Rattle.mk_build.specs.Steps.{Step, Edit, Make, Begin, Look, Put, End, Break, Pass, Stop, EndMake, finished}
 use Rattle.mk_build.specs.Runs.{WholeRun, Runs}
 use Rattle.mk_build.specs.Right.{AreSound}
@@ -15,10 +15,10 @@ use Rattle.mk_build_behaviours.specs.Behaviours.{Behaviours}
 use Rattle.mk_build_behaviours.specs.CoherentBy.{without_reads, IsCoherentBy}
 use Rattle.mk_build_behaviours.specs.Serial.{IsSerialBy}
 use Rattle.mk_build_behaviours.specs.StepsBy.{AllowedBy, after_by, IsLegalBy, after_all_by, IsUndisturbed, AreUndisturbed}
-use Rattle.mk_build_behaviours.specs.Undisturbed.{HasOneJob, HaveOneJob}
+use Rattle.mk_build_behaviours.specs.Undisturbed.{HaveOneJob}
 use Rattle.mk_build_behaviours.proofs.Keeping.{IsKept, keep}
 use Rattle.mk_build_behaviours.proofs.Coherence.{other_reads, coherent_is_kept, In, place, began_in, last_in, run_at, Status, status, last_of, came_of, left_of, apart_of, unknown}
-use Rattle.mk_build_behaviours.proofs.OneJob.{OneRuns, OneRunsIn, one_after, none_in}
+use Rattle.mk_build_behaviours.proofs.OneJob.{OneRunsIn, one_after, none_in}
 
 -- The recipe was through at this clock: it isn't running, and its last whole run ended no later.
 record WasThrough (p : Runs) (running : List ℕ) (t clock : ℕ) : Type 0 where

@@ -17,7 +17,6 @@ use Rattle.mk_build_behaviours.specs.Behaviours.{Behaviour, Behaviours, behaviou
 use Rattle.mk_build_behaviours.specs.CleanBy.{run_by, make_by, ReadWithin, ArePresent}
 use Rattle.mk_build_behaviours.specs.StepsBy.{saw_in, MayEndBy, AllowedBy, after_by, IsLegalBy, after_all_by}
 use Rattle.mk_build_behaviours.specs.Straight.{straight, AreStraight, AgreeWith, AreOutcomesOf, LooksWithin, AllLookWithin, with_outcomes}
-use Rattle.mk_build_behaviours.proofs.Paths.{if_some_from}
 use Rattle.mk_build_behaviours.proofs.Known.{outcome_cases}
 
 -- a straight behaviour reads its files

@@ -7,3 +7,4 @@ pub mod BehaviourLaws
 pub mod Undisturbed
 pub mod Serial
 pub mod StraightLaws
+pub mod Trusting

@@ -3,6 +3,7 @@
 
 ghost use Rattle.mk_build_behaviours.specs.BehaviourLaws.{StartIsCoherentBy, CoherenceIsKeptBy, PresentFootprintsSuffice, PresentMakesAreUndisturbed, PresentTracesAreRight, PresentTracesAreUndisturbed, EachMakeIsRight, ReadsDecideNothing};
 ghost use Rattle.mk_build_behaviours.specs.Serial.{StartIsSerialBy, OneJobStaysSerialBy};
+ghost use Rattle.mk_build_behaviours.specs.Trusting.{CoherentIsTrusting, AllMayBeTrusted, TrustedFilesAreRight, TrustedTracesStayCoherent};
 ghost use Rattle.mk_build_behaviours.specs.Undisturbed.{OneJobIsUndisturbed, ApartIsUndisturbed};
 ghost use Rattle.mk_build_behaviours.specs.StraightLaws.{StraightTracesAreTodays, TodaysTracesAreTraces, StraightOutcomesAreThese, StraightFootprintsArePresent};
 
@@ -97,4 +98,27 @@ pub fn straight_footprints_are_present()
 /// same world, and disturbs no recipe if it didn't.
 pub fn reads_decide_nothing()
     ensures { ReadsDecideNothing }
+{}
+
+/// A coherent disk is coherent as far as any recipes are trusted.
+pub fn coherent_is_trusting()
+    ensures { CoherentIsTrusting }
+{}
+
+/// All recipes may be trusted where there is no race and each read of a file that can change has a
+/// way, and only there.
+pub fn all_may_be_trusted()
+    ensures { AllMayBeTrusted }
+{}
+
+/// What trusted recipes write is right after a finished make, whatever races and stale reads the
+/// others have.
+pub fn trusted_files_are_right()
+    ensures { TrustedFilesAreRight }
+{}
+
+/// Traces keep a disk coherent as far as recipes are trusted, whatever races and stale reads the
+/// others have.
+pub fn trusted_traces_stay_coherent()
+    ensures { TrustedTracesStayCoherent }
 {}

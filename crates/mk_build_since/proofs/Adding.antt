@@ -1,12 +1,11 @@
 -- A disk on which no last runs overlap is coherent where prerequisites are added.
-use Rattle.std.proofs.Common.{◌≡◌, ℕ, ◌≤◌, List, [], true, Option, None, Some, map, ◌⊎◌, inl, inr, ⊎_elim, refl, sym, ◌∙◌, ap, subst, arith}
+use Rattle.std.proofs.Common.{◌≡◌, ℕ, ◌≤◌, List, [], true, Option, None, Some, map, ◌⊎◌, inl, inr, ⊎_elim, sym, ◌∙◌, ap, subst, arith}
 use Rattle.std.proofs.lemmas.Bool.{cases_Bool, cases_eq, cond-true, true≢false}
 use Rattle.mk_graph.specs.Membership.{Has}
 use Rattle.mk_graph.specs.Graph.{Graph, node, IsGraph}
 use Rattle.mk_build.specs.Setting.{FileName, Setting, name, writes, IsAlwaysMade}
 use Rattle.mk_build.specs.World.{Disk, Idle, IsStartDisk, content, HasStamp}
 use Rattle.mk_build.specs.Steps.{Step, MustRun}
-use Rattle.mk_build.specs.Ways.{Carries}
 use Rattle.mk_build.specs.Right.{AreSound, HaveNoRace, HaveWays}
 use Rattle.mk_build.specs.Coherent.{LastRun, IsMissing, IsBoundToRun, ContainsOrChanged}
 use Rattle.mk_build.proofs.Sound.{writer_has_recipe}

@@ -17,9 +17,11 @@ use Rattle.mk_build.proofs.ChainWays.{one_number}
 use Rattle.mk_build_behaviours.specs.Behaviours.{behaviour, path, result}
 use Rattle.mk_build_behaviours.specs.CleanBy.{ArePresent}
 use Rattle.mk_build_behaviours.specs.CoherentBy.{IsAsLeftBy, IsCoherentBy}
-use Rattle.mk_build_since.specs.Named.{Build, IsWritten, HasFile, WasRecipe, AreSameFiles, Rule, NewRecipe, OtherCommands, OtherWrites, OtherReads, ReadText, all_rules, HoldsOf, CantStay, IsNamed}
+use Rattle.mk_build_behaviours.specs.Trusting.{Trust, IsCoherentTrusting}
+use Rattle.mk_build_behaviours.proofs.TrustedTraces.{coherent_is_trusting, all_may}
+use Rattle.mk_build_since.specs.Named.{Build, IsWritten, HasFile, WasRecipe, AreSameFiles, Rule, NewRecipe, OtherCommands, OtherWrites, OtherReads, ReadText, all_rules, HoldsOf, CantStayTrusting, IsNamed, IsNamedTrusting}
 use Rattle.mk_build_since.specs.Alike.{HoldAlike, BehaveAlike}
-use Rattle.mk_build_since.specs.Next.{IsAccepted, IsFinished, MayBecome, IsNext}
+use Rattle.mk_build_since.specs.Next.{IsAccepted, IsAcceptedTrusting, IsFinished, MayBecome, IsNext, IsNextTrusting}
 use Rattle.mk_build_since.proofs.Deciding.{cases_always, cases_owned, Stays, stay_cases}
 use Rattle.mk_build_since.proofs.Walking.{alike_walk}
 use Rattle.mk_build_since.proofs.Made.{IsMade, finished_is_made}
@@ -28,7 +30,7 @@ use Rattle.mk_build_since.proofs.Made.{IsMade, finished_is_made}
 text_is_given : (s : Setting) (f : FileName) → Has s.texts f → is_given s f ≡ true
 text_is_given s f among = or_right (has_name s.sources f) _ (or_right (begins_with_any s.fixed f) (has_name s.texts f) (has_name-from_Has s.texts f among))
 
-module _ (old new : Build) (alike : BehaveAlike old new) (accepted : IsAccepted old) (graph : IsGraph new.graph) (sound : AreSound new.graph new.setting) (before now : Disk) (made : IsMade old.graph old.setting old.behaviours before) (next : IsNext all_rules old new before now) where
+module _ (old new : Build) (trusted : Trust) (alike : BehaveAlike old new) (accepted : IsAcceptedTrusting old trusted) (graph : IsGraph new.graph) (sound : AreSound new.graph new.setting) (before now : Disk) (made : IsMade old.graph old.setting old.behaviours trusted before) (next : IsNextTrusting trusted old new before now) where
   -- no given file is written
   not_both : (x : Build) → AreSound x.graph x.setting → (t : ℕ) (f : FileName) → Has (writes x.graph x.setting t) f → ¬ (is_given x.setting f ≡ true)
   not_both x is t f wrote given = true≢false (sym given ∙ is.not_given t f wrote)
@@ -38,11 +40,22 @@ module _ (old new : Build) (alike : BehaveAlike old new) (accepted : IsAccepted 
   writes_target t recipe sometimes = ⊎_elim (λ phony. absurd (sometimes (inl phony))) (λ not_phony. sound.target t recipe not_phony) (cases_Bool (node new.graph t).phony)
 
   -- a file of a recipe that isn't always made and can't stay isn't there
-  anew_is_gone : (t : ℕ) (f : FileName) → Has (writes new.graph new.setting t) f → ¬ (IsAlwaysMade new.graph t) → CantStay all_rules old new t → now.files f ≡ None
+  anew_is_gone : (t : ℕ) (f : FileName) → Has (writes new.graph new.setting t) f → ¬ (IsAlwaysMade new.graph t) → CantStayTrusting trusted old new t → now.files f ≡ None
   anew_is_gone t f wrote sometimes anew =
       ⊎_elim (λ has. next.removed f (has, inr (t, wrote, sometimes, anew))) (λ not. next.lacking t f wrote not) (cases_owned old f)
 
-  module _ (t : ℕ) (sometimes : ¬ (IsAlwaysMade new.graph t)) (stays : Stays old new t) where
+  -- a trusted recipe stays, or what it wrote can't
+  abbrev Remains : ℕ → Type 0
+  Remains t = (trusted (name new.graph t) ≡ true) × Stays old new t
+
+  remain_cases : (t : ℕ) → Remains t ⊎ CantStayTrusting trusted old new t
+  remain_cases t =
+      ⊎_elim (λ is. ⊎_elim (λ stays. inl (is, stays)) (λ anew. inr (inl anew)) (stay_cases old new t)) (λ other. inr (inr other)) (cases_Bool (trusted (name new.graph t)))
+
+  module _ (t : ℕ) (sometimes : ¬ (IsAlwaysMade new.graph t)) (remains : Remains t) where
+    abbrev stays : Stays old new t
+    stays = remains.1
+
     -- two recipes of the old build with the target are one
     same_recipe : (o : ℕ) → WasRecipe old new o t → o ≡ stays.was
     same_recipe o was =
@@ -56,14 +69,14 @@ module _ (old new : Build) (alike : BehaveAlike old new) (accepted : IsAccepted 
     no_rule OtherReads other = other.2 (subst (λ (k : ℕ). AreSameFiles (reads old.graph old.setting k) (reads new.graph new.setting t)) (sym (same_recipe other.0 other.1)) stays.same_reads)
     no_rule ReadText text = stays.no_text text.2.0 (subst (λ (k : ℕ). Has (reads old.graph old.setting k) text.2.0) (same_recipe text.0 text.1) text.2.1) text.2.2
 
-    can_stay : ¬ (CantStay all_rules old new t)
-    can_stay anew = no_rule anew.0 anew.2
+    can_stay : ¬ (CantStayTrusting trusted old new t)
+    can_stay cant = ⊎_elim (λ anew. no_rule anew.0 anew.2) (λ other. true≢false (sym remains.0 ∙ other)) cant
 
     -- so its files aren't named
-    not_named : (f : FileName) → Has (writes new.graph new.setting t) f → ¬ (IsNamed all_rules old new f)
+    not_named : (f : FileName) → Has (writes new.graph new.setting t) f → ¬ (IsNamedTrusting trusted old new f)
     not_named f wrote named =
         ⊎_elim (λ left. left.1 (inr (t, wrote)))
-        (λ anew. can_stay (subst (λ (k : ℕ). CantStay all_rules old new k) (sound.one_writer anew.0 t f anew.1 wrote) anew.3))
+        (λ anew. can_stay (subst (λ (k : ℕ). CantStayTrusting trusted old new k) (sound.one_writer anew.0 t f anew.1 wrote) anew.3))
         named.1
 
   -- what a given file may become
@@ -87,20 +100,27 @@ module _ (old new : Build) (alike : BehaveAlike old new) (accepted : IsAccepted 
       become
 
   -- no given file is named
-  given_is_not_named : (f : FileName) → is_given new.setting f ≡ true → ¬ (IsNamed all_rules old new f)
+  given_is_not_named : (f : FileName) → is_given new.setting f ≡ true → ¬ (IsNamedTrusting trusted old new f)
   given_is_not_named f given named = ⊎_elim (λ left. left.1 (inl given)) (λ anew. not_both new sound anew.0 f anew.1 given) named.1
 
   -- what a recipe writes and another one has read is named and gone, or not named
-  written_cases : (f : FileName) → HasFile old f → (o : ℕ) → Has (writes new.graph new.setting o) f → (now.files f ≡ None) ⊎ (¬ (IsNamed all_rules old new f))
+  written_cases : (f : FileName) → HasFile old f → (o : ℕ) → Has (writes new.graph new.setting o) f → (now.files f ≡ None) ⊎ (¬ (IsNamedTrusting trusted old new f))
   written_cases f has o wrote =
       ⊎_elim (λ always. inr (λ named. ⊎_elim (λ left. left.1 (inr (o, wrote))) (λ anew. anew.2 (subst (λ (k : ℕ). IsAlwaysMade new.graph k) (sound.one_writer o anew.0 f wrote anew.1) always)) named.1))
-      (λ not_always. ⊎_elim (λ others. inr (not_named o not_always others f wrote)) (λ anew. inl (anew_is_gone o f wrote not_always anew)) (stay_cases old new o))
+      (λ not_always. ⊎_elim (λ others. inr (not_named o not_always others f wrote)) (λ anew. inl (anew_is_gone o f wrote not_always anew)) (remain_cases o))
       (cases_always new.graph o)
 
-  module _ (t : ℕ) (sometimes : ¬ (IsAlwaysMade new.graph t)) (stays : Stays old new t) where
-    -- the old recipe wrote them
-    was_written : (f : FileName) → Has (writes new.graph new.setting t) f → Has (writes old.graph old.setting stays.was) f
-    was_written f wrote = (stays.files f).1 wrote
+  module _ (t : ℕ) (sometimes : ¬ (IsAlwaysMade new.graph t)) (remains : Remains t) where
+    abbrev stayed : Stays old new t
+    stayed = remains.1
+
+    -- the old recipe is trusted
+    is_trusted : trusted (name old.graph stayed.was) ≡ true
+    is_trusted = ap trusted stayed.is.1 ∙ remains.0
+
+    -- it wrote them
+    was_written : (f : FileName) → Has (writes new.graph new.setting t) f → Has (writes old.graph old.setting stayed.was) f
+    was_written f wrote = (stayed.files f).1 wrote
 
     -- and they are as they were
     as_before : (f : FileName) → Has (writes new.graph new.setting t) f → now.files f ≡ before.files f
@@ -108,22 +128,22 @@ module _ (old new : Build) (alike : BehaveAlike old new) (accepted : IsAccepted 
         ⊎_elim (λ same. same)
         (λ rest. ⊎_elim (λ edited. absurd (not_both new sound t f wrote (editable_is_given new.setting f edited.0)))
         (λ more. ⊎_elim (λ text. absurd (not_both new sound t f wrote (text_is_given new.setting f text)))
-        (λ dropped. absurd (not_both old accepted.sound stays.was f (was_written f wrote) dropped.0))
+        (λ dropped. absurd (not_both old accepted.sound stayed.was f (was_written f wrote) dropped.0))
         more) rest)
-        (next.others f (inr (stays.was, was_written f wrote)) (not_named t sometimes stays f wrote))
+        (next.others f (inr (stayed.was, was_written f wrote)) (not_named t sometimes remains f wrote))
 
     -- the new build has what the old recipe read
-    known : (f : FileName) → Has (reads old.graph old.setting stays.was) f → HasFile new f
-    known f read = ⊎_elim (λ given. inl given) (λ wrote. inr wrote) (sound.known t f ((stays.same_reads f).0 read))
+    known : (f : FileName) → Has (reads old.graph old.setting stayed.was) f → HasFile new f
+    known f read = ⊎_elim (λ given. inl given) (λ wrote. inr wrote) (sound.known t f ((stayed.same_reads f).0 read))
 
     -- the old build has what the old recipe read
-    was_there : (f : FileName) → Has (reads old.graph old.setting stays.was) f → HasFile old f
-    was_there f read = ⊎_elim (λ given. inl given) (λ wrote. inr wrote) (accepted.sound.known stays.was f read)
+    was_there : (f : FileName) → Has (reads old.graph old.setting stayed.was) f → HasFile old f
+    was_there f read = ⊎_elim (λ given. inl given) (λ wrote. inr wrote) (accepted.sound.known stayed.was f read)
 
     -- what it read is there or has changed since
-    saw : (f : FileName) → Has (reads old.graph old.setting stays.was) f → ContainsOrChanged new.graph new.setting now f (content before f) before.clock
+    saw : (f : FileName) → Has (reads old.graph old.setting stayed.was) f → ContainsOrChanged new.graph new.setting now f (content before f) before.clock
     saw f read =
-        let no_text = stays.no_text f read in
+        let no_text = stayed.no_text f read in
         let has = was_there f read in
         ⊎_elim (λ given. from_given f given no_text (next.others f has (given_is_not_named f given)))
         (λ wrote. ⊎_elim (λ none. inr (inr (none, wrote)))
@@ -132,15 +152,15 @@ module _ (old new : Build) (alike : BehaveAlike old new) (accepted : IsAccepted 
         (known f read)
 
     -- it walks as the old one did
-    walked : HoldAlike (writes old.graph old.setting stays.was) (result (behaviour old.graph old.behaviours stays.was) (content before)) (writes new.graph new.setting t) (result (behaviour new.graph new.behaviours t) (content before)) × ((f : FileName) → Has (path (behaviour new.graph new.behaviours t) (content before)) f → Has (path (behaviour old.graph old.behaviours stays.was) (content before)) f ⊎ (¬ (HasFile old f)))
-    walked = alike_walk old new (writes old.graph old.setting stays.was) (writes new.graph new.setting t) (alike stays.was t (stays.is, stays.commands, stays.files, stays.same_reads)) (content before)
-        (λ f on. known f (made.within stays.was stays.is.0 f on))
-        (λ f on not. ap (λ (o : Option File). option_map (λ (file : File). file.content) o) (next.coming stays.was t f (stays.is, stays.commands, stays.files, stays.same_reads) on not).0)
+    walked : HoldAlike (writes old.graph old.setting stayed.was) (result (behaviour old.graph old.behaviours stayed.was) (content before)) (writes new.graph new.setting t) (result (behaviour new.graph new.behaviours t) (content before)) × ((f : FileName) → Has (path (behaviour new.graph new.behaviours t) (content before)) f → Has (path (behaviour old.graph old.behaviours stayed.was) (content before)) f ⊎ (¬ (HasFile old f)))
+    walked = alike_walk old new (writes old.graph old.setting stayed.was) (writes new.graph new.setting t) (alike stayed.was t (stayed.is, stayed.commands, stayed.files, stayed.same_reads)) (content before)
+        (λ f on. known f (made.within stayed.was stayed.is.0 is_trusted f on))
+        (λ f on not. ap (λ (o : Option File). option_map (λ (file : File). file.content) o) (next.coming stayed.was t f (stayed.is, stayed.commands, stayed.files, stayed.same_reads) on not).0)
 
     -- what it looked for in vain isn't there or came since
     in_vain : (f : FileName) → Has (path (behaviour new.graph new.behaviours t) (content before)) f → ¬ (HasFile old f) → ContainsOrChanged new.graph new.setting now f (content before f) before.clock
     in_vain f on not =
-        let comes = next.coming stays.was t f (stays.is, stays.commands, stays.files, stays.same_reads) on not in
+        let comes = next.coming stayed.was t f (stayed.is, stayed.commands, stayed.files, stayed.same_reads) on not in
         ⊎_elim (λ none. inl (ap (λ (o : Option File). option_map (λ (file : File). file.content) o) (none ∙ sym comes.0))) (λ new_source. inr (inl (inl new_source.0, new_source.1))) comes.1
 
     -- so it is as its last run left it
@@ -150,20 +170,20 @@ module _ (old new : Build) (alike : BehaveAlike old new) (accepted : IsAccepted 
     is_as_left : IsAsLeftBy new.graph new.setting new.behaviours run now t
     is_as_left = record {
       holds = map_same (content now) (content before) (writes new.graph new.setting t) (λ f wrote. ap (λ (o : Option File). option_map (λ (file : File). file.content) o) (as_before f wrote))
-          ∙ walked.0 (content before) (made.holds stays.was stays.is.0);
+          ∙ walked.0 (content before) (made.holds stayed.was stayed.is.0 is_trusted);
       during = λ f stamp wrote has.
           let was : HasStamp before f stamp = ap (λ (o : Option File). option_map (λ (file : File). file.stamp) o) (sym (as_before f wrote)) ∙ has in
-          (made.late stays.was f stamp (was_written f wrote) was, made.stamped f stamp was);
-      saw = λ f on. ⊎_elim (λ on_old. saw f (made.within stays.was stays.is.0 f on_old)) (λ not. in_vain f on not) (walked.1 f on);
+          (made.late stayed.was f stamp (was_written f wrote) was, made.stamped f stamp was);
+      saw = λ f on. ⊎_elim (λ on_old. saw f (made.within stayed.was stayed.is.0 is_trusted f on_old)) (λ not. in_vain f on not) (walked.1 f on);
     }
 
   -- a recipe is bound to run or as it was left
   left : (t : ℕ) → (node new.graph t).recipe ≡ true → IsBoundToRun new.graph new.setting now t ⊎ IsAsLeftBy new.graph new.setting new.behaviours (record { began = 0; ended = before.clock; saw = content before }) now t
   left t recipe =
       ⊎_elim (λ always. inl (inl (inl always)))
-      (λ sometimes. ⊎_elim (λ stays. inr (is_as_left t sometimes stays))
+      (λ sometimes. ⊎_elim (λ remains. inr (is_as_left t sometimes remains))
       (λ anew. inl (inl (inr (inl (anew_is_gone t (name new.graph t) (writes_target t recipe sometimes) sometimes anew)))))
-      (stay_cases old new t))
+      (remain_cases t))
       (cases_always new.graph t)
 
   -- the disk is coherent for the new build
@@ -176,7 +196,34 @@ module _ (old new : Build) (alike : BehaveAlike old new) (accepted : IsAccepted 
     apart = λ o t is_before. inl (omega arith);
   }
 
--- after a finished make of an accepted build the disk is
+-- after a finished make of a build that is accepted as far as recipes are trusted the disk is
+pub next_is_coherent_trusting : (old new : Build) (trusted : Trust) → BehaveAlike old new → IsAcceptedTrusting old trusted → IsGraph new.graph → AreSound new.graph new.setting → (first before now : Disk) → IsCoherentTrusting old.graph old.setting old.behaviours trusted first → ArePresent old.graph old.setting old.behaviours first → IsFinished old first before → IsNextTrusting trusted old new before now → IsCoherentBy new.graph new.setting new.behaviours now
+next_is_coherent_trusting old new trusted alike accepted graph sound first before now coherent present finished next =
+    carried old new trusted alike accepted graph sound before now (finished_is_made old trusted accepted first before coherent present finished) next
+
+-- all recipes of an accepted build may be trusted
+pub all_trusted : (x : Build) → IsAccepted x → IsAcceptedTrusting x (λ target. true)
+all_trusted x accepted = record { graph = accepted.graph; sound = accepted.sound; may = all_may x.graph x.setting accepted.no_race accepted.ways }
+
+-- and then the rules name all
+pub rules_name : (old new : Build) (f : FileName) → IsNamedTrusting (λ target. true) old new f → IsNamed all_rules old new f
+rules_name old new f named =
+    (named.0, ⊎_elim (λ left. inl left) (λ anew. inr (anew.0, anew.1, anew.2, ⊎_elim (λ rule. rule) (λ other. absurd (true≢false other)) anew.3)) named.1)
+
+pub named_too : (old new : Build) (f : FileName) → IsNamed all_rules old new f → IsNamedTrusting (λ target. true) old new f
+named_too old new f named = (named.0, ⊎_elim (λ left. inl left) (λ anew. inr (anew.0, anew.1, anew.2, inl anew.3)) named.1)
+
+next_too : (old new : Build) (before now : Disk) → IsNext all_rules old new before now → IsNextTrusting (λ target. true) old new before now
+next_too old new before now next = record {
+  came = next.came;
+  stamped = next.stamped;
+  removed = λ f named. next.removed f (rules_name old new f named);
+  others = λ f has unnamed. next.others f has (λ named. unnamed (named_too old new f named));
+  lacking = next.lacking;
+  coming = next.coming;
+}
+
+-- so after a finished make of an accepted build the disk is
 pub next_is_coherent : (old new : Build) → BehaveAlike old new → IsAccepted old → IsGraph new.graph → AreSound new.graph new.setting → (first before now : Disk) → IsCoherentBy old.graph old.setting old.behaviours first → ArePresent old.graph old.setting old.behaviours first → IsFinished old first before → IsNext all_rules old new before now → IsCoherentBy new.graph new.setting new.behaviours now
 next_is_coherent old new alike accepted graph sound first before now coherent present finished next =
-    carried old new alike accepted graph sound before now (finished_is_made old accepted first before coherent present finished) next
+    next_is_coherent_trusting old new (λ target. true) alike (all_trusted old accepted) graph sound first before now (coherent_is_trusting old.graph old.setting old.behaviours (λ target. true) first coherent) present finished (next_too old new before now next)

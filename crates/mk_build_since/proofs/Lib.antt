@@ -1,6 +1,7 @@
 mod Deciding
 mod Made
 mod Walking
+pub mod WayDeciding
 mod Carrying
 mod Unchanged
 mod OneNode

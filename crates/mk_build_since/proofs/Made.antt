@@ -3,7 +3,7 @@ use Rattle.std.proofs.Common.{◌≡◌, ℕ, ◌<◌, ◌≤◌, List, [], ◌�
 use Rattle.mk_graph.specs.Membership.{Has, IsWithin}
 use Rattle.mk_graph.specs.Graph.{Graph, node, IsGraph, Reached, goal, onward}
 use Rattle.mk_graph.proofs.Nodes.{recipe_is_node}
-use Rattle.mk_build.specs.Setting.{FileName, Setting, reads, writes}
+use Rattle.mk_build.specs.Setting.{FileName, Setting, name, reads, writes}
 use Rattle.mk_build.specs.World.{Disk, Making, World, Idle, Busy, content, HasStamp, outcome}
 use Rattle.mk_build.specs.Steps.{Step, Edit, Make, Begin, Look, Put, End, Break, Pass, Stop, EndMake, Allowed, make_of}
 use Rattle.mk_build.specs.BuildLaws.{IsInside, AreInside}
@@ -11,23 +11,25 @@ use Rattle.mk_build.specs.Clean.{Contents, given_contents, ReachedFrom}
 use Rattle.mk_build.specs.Right.{AreSound, HaveNoRace, HaveWays}
 use Rattle.mk_build.proofs.Sound.{writer_has_recipe}
 use Rattle.mk_build.proofs.Writing.{map_same}
-use Rattle.mk_build_behaviours.specs.Behaviours.{Behaviours, behaviour, path, result}
+use Rattle.mk_build_behaviours.specs.Behaviours.{Behaviour, Behaviours, behaviour, path, result}
 use Rattle.mk_build_behaviours.specs.CleanBy.{ArePresent}
 use Rattle.mk_build_behaviours.specs.StepsBy.{AllowedBy, after_by, IsLegalBy, after_all_by}
-use Rattle.mk_build_behaviours.specs.CoherentBy.{IsCoherentBy}
+use Rattle.mk_build_behaviours.specs.Trusting.{Trust, with_left, IsCoherentTrusting}
 use Rattle.mk_build_behaviours.proofs.Paths.{same_walk}
 use Rattle.mk_build_behaviours.proofs.CleanContents.{IsClean}
-use Rattle.mk_build_behaviours.proofs.Following.{Follows, FollowsIn, done_is_clean, follow_all}
-use Rattle.mk_build_behaviours.proofs.Present.{all_nodes, all_recipes, reached_is_done, build, is_clean, begins}
+use Rattle.mk_build_behaviours.proofs.Following.{Follows, done_is_clean}
+use Rattle.mk_build_behaviours.proofs.Present.{all_nodes, all_recipes, reached_is_done}
+use Rattle.mk_build_behaviours.proofs.Trusted.{trusting, trusted_reads, trusting_sound, trusting_no_race, trusting_ways, trusted_behaves}
+use Rattle.mk_build_behaviours.proofs.TrustedMakes.{TrustingIn, trusting_steps, wanted, trusting_begins}
 use Rattle.mk_build_since.specs.Named.{Build}
-use Rattle.mk_build_since.specs.Next.{IsAccepted, IsFinished}
+use Rattle.mk_build_since.specs.Next.{IsAcceptedTrusting, IsFinished}
 
--- Each recipe wrote the result of what is there now, later than nothing, and reads only its footprint.
-pub record IsMade (g : Graph) (s : Setting) (b : Behaviours) (d : Disk) : Type 0 where
+-- Each trusted recipe wrote the result of what is there now and reads only its footprint; and all files were written later than nothing.
+pub record IsMade (g : Graph) (s : Setting) (b : Behaviours) (trusted : Trust) (d : Disk) : Type 0 where
   pub stamped : (f : FileName) (stamp : ℕ) → HasStamp d f stamp → stamp ≤ d.clock
-  pub holds : (t : ℕ) → (node g t).recipe ≡ true → map (content d) (writes g s t) ≡ map (λ c. Some c) (result (behaviour g b t) (content d))
+  pub holds : (t : ℕ) → (node g t).recipe ≡ true → trusted (name g t) ≡ true → map (content d) (writes g s t) ≡ map (λ c. Some c) (result (behaviour g b t) (content d))
   pub late : (t : ℕ) (f : FileName) (stamp : ℕ) → Has (writes g s t) f → HasStamp d f stamp → 0 < stamp
-  pub within : (t : ℕ) → (node g t).recipe ≡ true → IsWithin (path (behaviour g b t) (content d)) (reads g s t)
+  pub within : (t : ℕ) → (node g t).recipe ≡ true → trusted (name g t) ≡ true → IsWithin (path (behaviour g b t) (content d)) (reads g s t)
 
 -- the goals of the make in progress
 abbrev HasGoals : List ℕ → World → Type 0
@@ -103,39 +105,52 @@ module _ (g : Graph) (s : Setting) (b : Behaviours) (graph : IsGraph g) (sound :
         subst (λ (l : List ℕ). map (content d) (writes g s t) ≡ map (λ c. Some c) l) wrote whole.holds
 
   -- what the make leaves
-  pub is_made : IsMade g s b d
+  pub is_made : IsMade g s b (λ target. true) d
   is_made = record {
     stamped = follows.whole.0.fits.stamped;
-    holds = λ t recipe. wrote_clean t recipe ∙ ap (λ (l : List ℕ). map (λ c. Some c) l) (walks t recipe).1;
+    holds = λ t recipe is_trusted. wrote_clean t recipe ∙ ap (λ (l : List ℕ). map (λ c. Some c) l) (walks t recipe).1;
     late = λ t f stamp wrote has.
         let recipe = writer_has_recipe g s t f wrote in
         let after = (follows.whole.1 t (is_done t recipe) recipe).ran.after_begin f stamp wrote has in
         omega arith;
-    within = λ t recipe. subst (λ (l : List FileName). IsWithin l (reads g s t)) (walks t recipe).0 (is.within t (all_recipes g graph s sound t recipe) recipe);
+    within = λ t recipe is_trusted. subst (λ (l : List FileName). IsWithin l (reads g s t)) (walks t recipe).0 (is.within t (all_recipes g graph s sound t recipe) recipe);
   }
 
-module _ (x : Build) (accepted : IsAccepted x) (first left : Disk) (coherent : IsCoherentBy x.graph x.setting x.behaviours first) (present : ArePresent x.graph x.setting x.behaviours first) (finished : IsFinished x first left) where
-  -- the contents after the clean build
+module _ (x : Build) (trusted : Trust) (accepted : IsAcceptedTrusting x trusted) (first left : Disk) (coherent : IsCoherentTrusting x.graph x.setting x.behaviours trusted first) (present : ArePresent x.graph x.setting x.behaviours first) (finished : IsFinished x first left) where
+  -- the contents that trusted recipes write in the clean build
   abbrev clean : Contents
-  clean = (build x.graph x.setting x.behaviours accepted.graph accepted.sound accepted.no_race accepted.ways first coherent present finished.jobs x.graph.goals finished.legal.0.1).0
+  clean = wanted x.graph x.setting x.behaviours trusted accepted.graph accepted.sound accepted.may first coherent.0 coherent.1 present finished.jobs x.graph.goals finished.legal.0.1
 
-  -- they are clean
-  abbrev is : IsClean x.graph x.setting x.behaviours (given_contents x.setting first) clean (all_nodes x.graph accepted.graph)
-  is = is_clean x.graph x.setting x.behaviours accepted.graph accepted.sound accepted.no_race accepted.ways first coherent present finished.jobs x.graph.goals finished.legal.0.1
-
-  -- the make follows one of today's world
+  -- the make follows one in which other recipes write what they leave
   abbrev Goes : World → Type 0
-  Goes = FollowsIn x.graph x.setting x.behaviours accepted.graph accepted.sound accepted.no_race accepted.ways (given_contents x.setting first) clean (all_nodes x.graph accepted.graph) is (all_recipes x.graph accepted.graph x.setting accepted.sound)
+  Goes = TrustingIn x.graph x.setting x.behaviours trusted accepted.graph accepted.sound accepted.may (given_contents x.setting first) clean
 
   goes : Goes (Busy finished.making left)
   goes = subst Goes finished.leaves
-      (follow_all x.graph x.setting x.behaviours accepted.graph accepted.sound accepted.no_race accepted.ways (given_contents x.setting first) clean (all_nodes x.graph accepted.graph) is (all_recipes x.graph accepted.graph x.setting accepted.sound) (Busy (make_of finished.jobs x.graph.goals) first) finished.steps
-      (begins x.graph x.setting x.behaviours accepted.graph accepted.sound accepted.no_race accepted.ways first coherent present finished.jobs x.graph.goals finished.legal.0.1) finished.inside finished.legal.1)
+      (trusting_steps x.graph x.setting x.behaviours trusted accepted.graph accepted.sound accepted.may (given_contents x.setting first) clean (Busy (make_of finished.jobs x.graph.goals) first) finished.steps
+      (trusting_begins x.graph x.setting x.behaviours trusted accepted.graph accepted.sound accepted.may first coherent.0 coherent.1 present finished.jobs x.graph.goals finished.legal.0.1) finished.inside finished.legal.1)
 
   -- and has all goals
   has_goals : finished.making.goals ≡ x.graph.goals
   has_goals = subst (HasGoals x.graph.goals) finished.leaves (all_goals x.graph x.setting x.behaviours x.graph.goals (Busy (make_of finished.jobs x.graph.goals) first) finished.steps finished.inside refl finished.legal.1)
 
-  -- so a finished make of an accepted build leaves each recipe as if it had run on what is there
-  pub finished_is_made : IsMade x.graph x.setting x.behaviours left
-  finished_is_made = is_made x.graph x.setting x.behaviours accepted.graph accepted.sound accepted.no_race accepted.ways (given_contents x.setting first) clean is finished.making left goes has_goals finished.ends
+  -- so all recipes are as if they had run, where others write what they left
+  abbrev less : Setting
+  less = trusting x.setting trusted
+
+  abbrev others : Behaviours
+  others = with_left x.setting x.behaviours trusted goes.left
+
+  all_made : IsMade x.graph less others (λ target. true) left
+  all_made = is_made x.graph less others accepted.graph (trusting_sound x.graph x.setting trusted accepted.sound accepted.may) (trusting_no_race x.graph x.setting trusted accepted.sound accepted.may) (trusting_ways x.graph x.setting trusted accepted.sound accepted.may)
+      (given_contents x.setting first) goes.clean goes.is finished.making left goes.follows has_goals finished.ends
+
+  -- and each trusted one is as if it had run on what is there
+  pub finished_is_made : IsMade x.graph x.setting x.behaviours trusted left
+  finished_is_made = record {
+    stamped = all_made.stamped;
+    holds = λ t recipe is. subst (λ (k : Behaviour). map (content left) (writes x.graph x.setting t) ≡ map (λ c. Some c) (result k (content left))) (trusted_behaves x.graph x.setting trusted x.behaviours goes.left t is) (all_made.holds t recipe refl);
+    late = all_made.late;
+    within = λ t recipe is. subst (λ (l : List FileName). IsWithin (path (behaviour x.graph x.behaviours t) (content left)) l) (trusted_reads x.graph x.setting trusted t is)
+        (subst (λ (k : Behaviour). IsWithin (path k (content left)) (reads x.graph less t)) (trusted_behaves x.graph x.setting trusted x.behaviours goes.left t is) (all_made.within t recipe refl));
+  }

@@ -3,7 +3,7 @@ use Rattle.std.proofs.Common.{◌≡◌, ℕ, List, [], ◌∷◌, true, false, 
 use Rattle.std.proofs.lemmas.Bool.{true≢false, false≢true}
 use Rattle.std.proofs.lemmas.Slice.Eq.{bytes_eq-Decides}
 use Rattle.mk_graph.specs.Membership.{Has}
-use Rattle.mk_build.specs.Setting.{FileName, Setting, is_given, is_editable, name, reads, writes}
+use Rattle.mk_build.specs.Setting.{FileName, Setting, is_given, is_editable, name, writes}
 use Rattle.mk_build.specs.World.{File, Disk, Making, Idle, IsStartDisk, changed, written, without}
 use Rattle.mk_build.specs.Steps.{Step, Make, Begin, Look, Put, End, Pass}
 use Rattle.mk_build.specs.Clean.{given_contents}

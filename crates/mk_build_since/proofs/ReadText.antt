@@ -17,7 +17,7 @@ use Rattle.mk_build_since.specs.Named.{Build, AreSameFiles, Rule, NewRecipe, Oth
 use Rattle.mk_build_since.specs.Alike.{both, ends}
 use Rattle.mk_build_since.specs.Next.{IsAccepted, MayBecome, IsNext}
 use Rattle.mk_build_since.specs.Needed.{FallShort}
-use Rattle.mk_build_since.proofs.OneNode.{target, one, only_recipe, only_named, hold_at, only_writes, only_reads, accepted, present, can_start, is_part, passes, not_built, making_in, in_one, not_none, empty, empty_stamped, written_stamped}
+use Rattle.mk_build_since.proofs.OneNode.{target, one, only_recipe, only_named, hold_at, only_writes, accepted, present, can_start, is_part, passes, not_built, making_in, in_one, not_none, empty, empty_stamped, written_stamped}
 
 -- the makefile
 abbrev makefile : FileName

@@ -1,9 +1,10 @@
 -- Which files of an old build are to be removed before makes of a new one.
-use Rattle.std.specs.Prelude.{◌≡◌, ℕ, List, [], ◌∷◌, true, ◌⊎◌, ◌↔◌}
+use Rattle.std.specs.Prelude.{◌≡◌, ℕ, List, [], ◌∷◌, true, false, ◌⊎◌, ◌↔◌}
 use Rattle.mk_graph.specs.Membership.{Has}
 use Rattle.mk_graph.specs.Graph.{Graph, node}
 use Rattle.mk_build.specs.Setting.{FileName, Setting, is_given, name, reads, writes, IsAlwaysMade}
 use Rattle.mk_build_behaviours.specs.Behaviours.{Behaviours}
+use Rattle.mk_build_behaviours.specs.Trusting.{Trust}
 
 -- The commands of a recipe, each as its bytes.
 abbrev pub Commands : Type 0
@@ -86,3 +87,21 @@ IsMadeAnew rules old new f =
 -- These rules name the file: the old build has it itself, and it is left over or made anew.
 abbrev pub IsNamed : List Rule → (old new : Build) → FileName → Type 0
 IsNamed rules old new f = OwnsFile old f × (IsLeftOver old new f ⊎ IsMadeAnew rules old new f)
+
+-- What the recipe t of the new build wrote before can't stay where only these recipes of the old
+-- build are trusted: one of the rules holds of it, or the old recipe isn't trusted.
+abbrev pub CantStayTrusting : Trust → (old new : Build) → ℕ → Type 0
+CantStayTrusting trusted old new t =
+    CantStay all_rules old new t ⊎ (trusted (name new.graph t) ≡ false)
+
+-- The file is made anew where only these are trusted.
+abbrev pub IsMadeAnewTrusting : Trust → (old new : Build) → FileName → Type 0
+IsMadeAnewTrusting trusted old new f =
+    (t : ℕ) × Has (writes new.graph new.setting t) f × (¬ (IsAlwaysMade new.graph t)) ×
+    CantStayTrusting trusted old new t
+
+-- The file is named where only these are trusted: the old build has it itself, and it is left over
+-- or made anew.
+abbrev pub IsNamedTrusting : Trust → (old new : Build) → FileName → Type 0
+IsNamedTrusting trusted old new f =
+    OwnsFile old f × (IsLeftOver old new f ⊎ IsMadeAnewTrusting trusted old new f)

@@ -9,8 +9,9 @@ use Rattle.mk_build.specs.BuildLaws.{AreInside}
 use Rattle.mk_build.specs.Right.{AreSound, HaveNoRace, HaveWays}
 use Rattle.mk_build_behaviours.specs.Behaviours.{behaviour, path}
 use Rattle.mk_build_behaviours.specs.StepsBy.{IsLegalBy, after_all_by}
+use Rattle.mk_build_behaviours.specs.Trusting.{Trust, MayBeTrusted}
 use Rattle.mk_build_since.specs.Alike.{IsSameRecipe}
-use Rattle.mk_build_since.specs.Named.{Build, HasFile, OwnsFile, Rule, IsNamed}
+use Rattle.mk_build_since.specs.Named.{Build, HasFile, OwnsFile, Rule, IsNamed, IsNamedTrusting}
 
 -- The build is accepted: its footprints are sound, there is no race, and each read of a file that
 -- can change has a way.
@@ -19,6 +20,13 @@ pub record IsAccepted (x : Build) : Type 0 where
   pub sound : AreSound x.graph x.setting
   pub no_race : HaveNoRace x.graph x.setting
   pub ways : HaveWays x.graph x.setting
+
+-- The build is accepted as far as these recipes are trusted: its footprints are sound, and the
+-- recipes may be trusted.
+pub record IsAcceptedTrusting (x : Build) (trusted : Trust) : Type 0 where
+  pub graph : IsGraph x.graph
+  pub sound : AreSound x.graph x.setting
+  pub may : MayBeTrusted x.graph x.setting trusted
 
 -- A make of all goals of the build, from the first disk, is finished and leaves the second disk.
 pub record IsFinished (x : Build) (first left : Disk) : Type 0 where
@@ -44,16 +52,16 @@ MayBecome old new before now f =
     ((now.files f ≡ None) ⊎ WasWrittenAfter now f before.clock))
 
 -- The disk after the change: the clock didn't go back and no stamp is later than it; the files that
--- these rules name are removed; each other file of the old build has become what it may; and what a
--- recipe of the new build writes and the old build doesn't have itself isn't there. A file that the
--- old build doesn't have and that the same recipe would look for in the new build wasn't there, and
+-- are named are removed; each other file of the old build has become what it may; and what a recipe
+-- of the new build writes and the old build doesn't have itself isn't there. A file that the old
+-- build doesn't have and that the same recipe would look for in the new build wasn't there, and
 -- isn't there now or is a source that was written since.
-pub record IsNext (rules : List Rule) (old new : Build) (before now : Disk) : Type 0 where
+pub record IsNextBy (named : FileName → Type 0) (old new : Build) (before now : Disk) :
+    Type 0 where
   pub came : before.clock ≤ now.clock
   pub stamped : (f : FileName) (stamp : ℕ) → HasStamp now f stamp → stamp ≤ now.clock
-  pub removed : (f : FileName) → IsNamed rules old new f → now.files f ≡ None
-  pub others : (f : FileName) → HasFile old f → ¬ (IsNamed rules old new f) → MayBecome old new
-      before now f
+  pub removed : (f : FileName) → named f → now.files f ≡ None
+  pub others : (f : FileName) → HasFile old f → ¬ (named f) → MayBecome old new before now f
   pub lacking : (t : ℕ) (f : FileName) → Has (writes new.graph new.setting t) f →
       ¬ (OwnsFile old f) → now.files f ≡ None
   pub coming : (o t : ℕ) (f : FileName) → IsSameRecipe old new o t →
@@ -61,3 +69,12 @@ pub record IsNext (rules : List Rule) (old new : Build) (before now : Disk) : Ty
       (before.files f ≡ None) ×
       ((now.files f ≡ None) ⊎
       ((is_editable new.setting f ≡ true) × WasWrittenAfter now f before.clock))
+
+-- The disk after the change, with the files removed that these rules name.
+abbrev pub IsNext : List Rule → (old new : Build) → (before now : Disk) → Type 0
+IsNext rules old new = IsNextBy (IsNamed rules old new) old new
+
+-- The disk after the change, with the files removed that are named where only these recipes of the
+-- old build are trusted.
+abbrev pub IsNextTrusting : Trust → (old new : Build) → (before now : Disk) → Type 0
+IsNextTrusting trusted old new = IsNextBy (IsNamedTrusting trusted old new) old new

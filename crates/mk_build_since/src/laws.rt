@@ -3,7 +3,7 @@
 
 ghost use Rattle.mk_build_since.specs.Adding.{AddedPrerequisitesKeepCoherence, PrerequisitesMayBeAdded};
 ghost use Rattle.mk_build_since.specs.Needed.{RulesAreNeeded};
-ghost use Rattle.mk_build_since.specs.SinceLaws.{NextIsCoherent, NextBuildsAreRight, PrerequisitesNameNothing};
+ghost use Rattle.mk_build_since.specs.SinceLaws.{NextIsCoherent, NextBuildsAreRight, NextIsCoherentTrusting, NextBuildsAreRightTrusting, TrustNamesNoMore, PrerequisitesNameNothing, WaysAreDecided};
 
 /// After a finished make of all goals of an accepted build, any edits, new and deleted sources, and
 /// the removal of the named files, the disk is coherent for the new build.
@@ -14,6 +14,24 @@ pub fn next_is_coherent()
 /// So if the new build is accepted whenever a make of it begins, then each of its makes is right.
 pub fn next_builds_are_right()
     ensures { NextBuildsAreRight }
+{}
+
+/// After a finished make of a build with races and stale reads, any edits, new and deleted sources,
+/// and the removal of the named files, the disk is coherent for the new build. What a recipe of
+/// that writes is named too if the old one of its target isn't trusted, unless every make makes it.
+pub fn next_is_coherent_trusting()
+    ensures { NextIsCoherentTrusting }
+{}
+
+/// So if the new build is accepted, and its footprints are present whenever a make of it begins,
+/// then each of its makes is right.
+pub fn next_builds_are_right_trusting()
+    ensures { NextBuildsAreRightTrusting }
+{}
+
+/// Of an accepted build all recipes may be trusted, and no more files are named then.
+pub fn trust_names_no_more()
+    ensures { TrustNamesNoMore }
 {}
 
 /// If only prerequisites, phony names and goals differ, and no recipe reads a makefile text, then
@@ -38,4 +56,9 @@ pub fn prerequisites_may_be_added()
 /// make may end without having built its goal.
 pub fn rules_are_needed()
     ensures { RulesAreNeeded }
+{}
+
+/// Where footprints are sound, a recipe has a way for a file or has none.
+pub fn ways_are_decided()
+    ensures { WaysAreDecided }
 {}

@@ -20,7 +20,7 @@ macro_rules! with_statuses {
 
 /// What `--version` prints behind the program's name. `tools/quick.py`, which builds the program
 /// without proving it, compiles another text in its place.
-const VERSION: &str = "0.2.0 (proved with rattle-kit-13b logic dac8208d650f15bf)";
+const VERSION: &str = "0.2.0 (proved with rattle-kit-13f logic dac8208d650f15bf)";
 
 const BEHIND_ALL: &str = with_statuses!("Example: mkcheck check -b footprints.json prog\n\n");
 

@@ -2,3 +2,4 @@ mod Right
 mod Promised
 mod BothBuilds
 mod Lines
+mod StaticFound

@@ -5,6 +5,8 @@ use Rattle.mk_cert_text.specs.Certificate.{Certificate}
 use Rattle.mk_find.specs.Certifying.{IsCertificate}
 use Rattle.mk_find.specs.Findings.{AreFindings}
 use Rattle.mk_subject.specs.Subject.{Subject}
+use Rattle.mk_build.specs.Setting.{FileName}
+use Rattle.mk_since.specs.Doubts.{AreDoubted, HasNoStatic}
 use Rattle.mk_since.specs.Past.{past_of}
 use Rattle.mk_core_text.specs.declared.fault.Fault.{Fault}
 use Rattle.mk_core_text.specs.declared.fault.Fault.TheVariants.{FileReadFailed, Memory}
@@ -21,10 +23,12 @@ use Rattle.mk_core_since.specs.Words.{words_name}
 abbrev pub HasYes : Subject → Type 0
 HasYes x = AreFindings x [] × (certificate : Certificate) × IsCertificate x certificate
 
--- What is kept of the old build if `check` says yes of it, else its findings.
+-- What is kept of the old build, with the targets of its doubted recipes, if there is no static
+-- finding; else its findings.
 abbrev pub IsOld : Subject → OldBuild → Type 0
-IsOld x (Kept past) = HasYes x × (past ≡ past_of x)
-IsOld x (Unsure found) = (¬ (found ≡ [])) × AreFindings x found
+IsOld x (Kept past) =
+    HasNoStatic x × (doubted : List FileName) × AreDoubted x doubted × (past ≡ past_of doubted x)
+IsOld x (Unsure found) = (¬ (found ≡ [])) × (¬ (HasNoStatic x)) × AreFindings x found
 
 -- The answer is what is known of the old build, without a fault.
 abbrev pub GivesOld : Subject → Result OldBuild Fault → Type 0

@@ -61,8 +61,9 @@ fn after_old<F: Files>(
 /// with their sentences where `words` asks for them; or the refusal or the findings of the old one.
 /// `old` reads the files of the folder by their names in it, `files` those of the new build.
 ///
-/// Files are named, or none, only if `check` says yes of both builds. After the removal of the named
-/// ones makes of the new build are right, as `IsNextFor` says.
+/// Files are named, or none, only if `check` says yes of the new build, and finds nothing of the old
+/// one but races and stale reads. After the removal of the named ones makes of the new build are
+/// right, as `IsNextFor` says.
 ///
 /// The errors are those of `check` for the new build, in their order. The old build is read and
 /// judged first. Out of memory can come in place of any result.

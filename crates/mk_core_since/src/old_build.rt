@@ -1,15 +1,19 @@
 //! The old build.
 
-ghost use Rattle.std.specs.Prelude.{◌≡◌, true, IfErr, IfOk};
+ghost use Rattle.std.specs.Prelude.{◌≡◌, [], true, IfErr, IfOk};
 ghost use Rattle.mk_read.specs.Files.{IfFits, Keeps};
 ghost use Rattle.mk_core.specs.Answer.{NotesFailure};
 ghost use Rattle.mk_core.specs.Steps.{is_out_of_memory};
 ghost use Rattle.mk_core_text.specs.declared.fault.Fault.TheVariants.{Memory};
+ghost use Rattle.mk_find.specs.Findings.{AreFindings};
+ghost use Rattle.mk_since.specs.Doubts.{HasNoStatic};
 ghost use Rattle.mk_core_since.specs.OldAnswer.{AnswersOld, GivesOld, IsOld};
 ghost use Rattle.mk_core_since.specs.NotRead.{old_not_read};
 
 use crate::old_request::before;
 use mk_core::{Fault, Files, Findings, Judge, Request, Verdict, answer_judged, verdict_of};
+use mk_find::finding_laws::no_findings;
+use mk_find::{Finding, first_static};
 use mk_since::{Past, past_of};
 use mk_subject::Subject;
 use std::alloc::{AllocError, Global};
@@ -17,19 +21,47 @@ use std::alloc::{AllocError, Global};
 /// What is known of an old build.
 #[derive(Drop)]
 pub enum OldBuild {
-    /// What the rules need of it, where `check` says yes of it.
+    /// What the rules need of it, where all its findings are races and stale reads.
     Kept(Past),
-    /// Its findings, where `check` says no of it.
+    /// Its findings, where others are among them.
     Unsure(Findings),
 }
 
-/// What is kept of the old build with this subject if `check` says yes of it, else its findings.
+/// What is kept of a build with these findings, all of them races and stale reads.
+fn kept(alloc: Global, subject: &Subject<'_>, found: &[Finding]) -> Result<OldBuild, AllocError>
+    requires late { HasNoStatic subject.now }
+    requires found { AreFindings subject.now found.now }
+    ensures { IfOk result (λ old. IsOld subject.now old) }
+{
+    let past = past_of(alloc, subject, found)?;
+    Ok(OldBuild::Kept(past))
+}
+
+/// What is kept of a build with these findings if all of them are races and stale reads, else the
+/// findings.
+fn kept_or_unsure(
+    alloc: Global,
+    subject: &Subject<'_>,
+    found: Findings,
+) -> Result<OldBuild, AllocError>
+    requires some { ¬ (found ≡ []) }
+    requires found { AreFindings subject.now found }
+    ensures { IfOk result (λ old. IsOld subject.now old) }
+{
+    match first_static(alloc, subject)? {
+        Some(_) => Ok(OldBuild::Unsure(found)),
+        None => kept(alloc, subject, found.as_slice()),
+    }
+}
+
+/// What is known of the old build with this subject.
 fn old_of(alloc: Global, subject: &Subject<'_>) -> Result<OldBuild, AllocError>
     ensures { IfOk result (λ old. IsOld subject.now old) }
 {
+    no_findings();
     match verdict_of(alloc, subject)? {
-        Verdict::Yes { .. } => Ok(OldBuild::Kept(past_of(alloc, subject)?)),
-        Verdict::No(found) => Ok(OldBuild::Unsure(found)),
+        Verdict::Yes { .. } => kept(alloc, subject, &[]),
+        Verdict::No(found) => kept_or_unsure(alloc, subject, found),
     }
 }
 

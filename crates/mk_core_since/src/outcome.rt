@@ -17,7 +17,7 @@ pub enum Since {
     Named(Names),
     /// The findings of the new build, and their sentences, where these are asked for.
     No(Findings, Vec<u8>),
-    /// Findings of the old build, by one of which what a recipe did is unknown.
+    /// Findings of the old build, none of them a race or a stale read.
     Unsure(Findings),
     /// Why the old build is refused.
     Refused(Fault),

@@ -58,16 +58,18 @@ since: the files of an old build to remove before the new one
 
 After a change of the makefile a file may be newer than all that it is made
 from, and yet be made by other commands. `mkcheck since DIR -b BOOK` prints
-the files to remove: what dropped recipes wrote, and what a recipe writes that
-is new, has other commands, writes or reads other files than it did, or read
-the makefile. DIR holds what the build in this folder was made from, as
-`mkcheck-record --keep DIR` writes it.
+the files to remove: what dropped recipes wrote, and what a recipe writes whose
+files can't stay, such as one that is new, has other commands, writes or reads
+other files than it did, or read the makefile. DIR holds what the build in this
+folder was made from, as `mkcheck-record --keep DIR` writes it.
 
     mkcheck since DIR -b BOOK > old && xargs -d '\\n' rm -f -- < old && make
 
-Where a build has findings or is refused, that is said on standard error, and
-nothing is named. Makes are right after the removal if the last make of the
-old build made all its goals, and nobody changed what recipes wrote.
+Where a build has findings that stand in the way, or is refused, that is said
+on standard error, and nothing is named. Makes are right after the removal if
+all that recipes wrote is the old build's, from a clean start or after such a
+removal before, its last make made all its goals, and nobody changed what
+recipes wrote.
 ";
 
 /// The text of the word, if it is one of these.

@@ -17,13 +17,14 @@ use Rattle.mk_graph.specs.Membership.{Has}
 use Rattle.mk_graph.specs.Serial.{serial_order}
 use Rattle.mk_build.specs.BuildLaws.{NamesHaveOneNumber}
 use Rattle.mk_build_behaviours.specs.Behaviours.{Behaviours}
-use Rattle.mk_build_since.specs.Named.{AreSameFiles, CantStay, HasFile, HoldsOf, IsWritten, NewRecipe, OtherCommands, OtherWrites, OwnsFile, OtherReads, ReadText, Rule, WasRecipe, all_rules}
+use Rattle.mk_build_since.specs.Named.{AreSameFiles, CantStay, CantStayTrusting, HasFile, HoldsOf, IsWritten, NewRecipe, OtherCommands, OtherWrites, OwnsFile, OtherReads, ReadText, Rule, WasRecipe, all_rules}
 use Rattle.mk_subject.specs.Laws.{AllWritesExactly}
 use Rattle.mk_subject.specs.NodeRow.{NodeRow, IsRow, row_reads, row_writes, lines_eq, writers_of}
 use Rattle.mk_subject.specs.Subject.{Subject, IsRecipe, all_writes, commands_of, name_of, reads_of, writes_of}
 use Rattle.mk_subject.proofs.Decided.{lines_same}
 use Rattle.mk_subject.proofs.Entries.{same_reads, same_writes}
 use Rattle.mk_subject.proofs.InOrder.{in_order, recipe_is_node}
+use Rattle.mk_since.specs.Doubts.{trust_without}
 use Rattle.mk_since.specs.Named.{build_of}
 use Rattle.mk_since.specs.Past.{PastRecipe, lines_in, past_of, recipe_of}
 use Rattle.mk_since.specs.Parts.{are_among, are_others, cant_stay, cant_stay_by, has_file, is_other, read_text, recipe_for}
@@ -32,6 +33,10 @@ use Rattle.mk_since.specs.Parts.{are_among, are_others, cant_stay, cant_stay_by,
 pub not_from : (v : Bool) → not v ≡ true → v ≡ true → ⊥
 not_from true n e = false≢true n
 not_from false n e = false≢true e
+
+true_from_not : (v : Bool) → not v ≡ false → v ≡ true
+true_from_not true e = refl
+true_from_not false e = absurd (true≢false e)
 
 pub not_true : (v : Bool) → (v ≡ true → ⊥) → not v ≡ true
 not_true true h = absurd (h refl)
@@ -65,12 +70,12 @@ none_found test (z ∷ xs) none x h = by (test z) refl none h (λ e k. none_foun
     by false t e (inr there) rest = rest e there
 
 -- what passes stands in the list
-any_from : {A : Type 0} (test : A → Bool) (xs : List A) → list_any test xs ≡ true → (x : A) × Has xs x × (test x ≡ true)
+pub any_from : {A : Type 0} (test : A → Bool) (xs : List A) → list_any test xs ≡ true → (x : A) × Has xs x × (test x ≡ true)
 any_from test [] e = absurd (false≢true e)
 any_from test (x ∷ xs) e =
     ⊎_elim (λ here. (x, inl refl, here)) (λ there. let rest = any_from test xs there in (rest.0, inr rest.1, rest.2)) (or_cases (test x) (list_any test xs) e)
 
-any_for : {A : Type 0} (test : A → Bool) (xs : List A) (x : A) → Has xs x → test x ≡ true → list_any test xs ≡ true
+pub any_for : {A : Type 0} (test : A → Bool) (xs : List A) (x : A) → Has xs x → test x ≡ true → list_any test xs ≡ true
 any_for test [] x h e = absurd h
 any_for test (z ∷ xs) x (inl here) e = or_left (test z) (list_any test xs) (ap test here ∙ e)
 any_for test (z ∷ xs) x (inr there) e = or_right (test z) (list_any test xs) (any_for test xs x there e)
@@ -106,7 +111,7 @@ equal_are_same xs ys e =
     ap (λ b. not b) ((same_decides xs ys).1 (subst (λ (l : List (List ℕ)). AreSameFiles xs l) (lines_same xs ys e) (λ f. (λ h. h, λ h. h))))
 
 -- which files a build has
-module _ (x : Subject) (is : IsGraph x.graph) (exact : AllWritesExactly) (b : Behaviours) (f : List ℕ) where
+module _ (doubted : List (List ℕ)) (x : Subject) (is : IsGraph x.graph) (exact : AllWritesExactly) (b : Behaviours) (f : List ℕ) where
   pub written_is : (has_name (all_writes x) f ≡ true) ↔ IsWritten (build_of x b) f
   written_is = (λ e. (exact x is f).0 (Has-from_has_name (all_writes x) f e), λ w. has_name-from_Has (all_writes x) f ((exact x is f).1 w))
 
@@ -116,10 +121,10 @@ module _ (x : Subject) (is : IsGraph x.graph) (exact : AllWritesExactly) (b : Be
     λ h. ⊎_elim (λ g. or_left (is_given x.setting f) (has_name (all_writes x) f) g) (λ w. or_right (is_given x.setting f) (has_name (all_writes x) f) (written_is.1 w)) h,
   )
 
-  pub owns_is : (has_name (past_of x).own f ≡ true) ↔ OwnsFile (build_of x b) f
+  pub owns_is : (has_name (past_of doubted x).own f ≡ true) ↔ OwnsFile (build_of x b) f
   owns_is = (
-    λ e. there (Has-cases x.setting.sources (x.setting.texts ++ all_writes x) f (Has-from_has_name (past_of x).own f e)),
-    λ h. has_name-from_Has (past_of x).own f (⊎_elim (Has-left x.setting.sources (x.setting.texts ++ all_writes x) f) (λ r. Has-right x.setting.sources (x.setting.texts ++ all_writes x) f (⊎_elim (Has-left x.setting.texts (all_writes x) f) (λ w. Has-right x.setting.texts (all_writes x) f ((exact x is f).1 w)) r)) h),
+    λ e. there (Has-cases x.setting.sources (x.setting.texts ++ all_writes x) f (Has-from_has_name (past_of doubted x).own f e)),
+    λ h. has_name-from_Has (past_of doubted x).own f (⊎_elim (Has-left x.setting.sources (x.setting.texts ++ all_writes x) f) (λ r. Has-right x.setting.sources (x.setting.texts ++ all_writes x) f (⊎_elim (Has-left x.setting.texts (all_writes x) f) (λ w. Has-right x.setting.texts (all_writes x) f ((exact x is f).1 w)) r)) h),
   )
     where
       there : Has x.setting.sources f ⊎ Has (x.setting.texts ++ all_writes x) f → OwnsFile (build_of x b) f
@@ -218,8 +223,8 @@ module _ (x y : Subject) (b c : Behaviours) (is_x : IsGraph x.graph) (is_y : IsG
   kept = filter is_recipe (serial_order x.graph)
 
   -- the old recipe with a target decides
-  pub stay_decides : (e : NodeRow) → IsRow y e → (cant_stay (past_of x) y e ≡ true) ↔ CantStay all_rules (build_of x b) (build_of y c) e.number
-  stay_decides e is_e = by (recipe_for (past_of x) e.node.name) refl
+  old_decides : (doubted : List (List ℕ)) (e : NodeRow) → IsRow y e → (cant_stay_by (recipe_for (past_of doubted x) e.node.name) y e ≡ true) ↔ CantStay all_rules (build_of x b) (build_of y c) e.number
+  old_decides doubted e is_e = by (recipe_for (past_of doubted x) e.node.name) refl
     where
       named : e.node.name ≡ name_of y e.number
       named = ap (λ (n : Node). n.name) is_e.same_node
@@ -227,7 +232,7 @@ module _ (x y : Subject) (b c : Behaviours) (is_x : IsGraph x.graph) (is_y : IsG
       test : PastRecipe → Bool
       test r = bytes_eq e.node.name r.target
 
-      by : (found : Option PastRecipe) → recipe_for (past_of x) e.node.name ≡ found → (cant_stay_by found y e ≡ true) ↔ CantStay all_rules (build_of x b) (build_of y c) e.number
+      by : (found : Option PastRecipe) → recipe_for (past_of doubted x) e.node.name ≡ found → (cant_stay_by found y e ≡ true) ↔ CantStay all_rules (build_of x b) (build_of y c) e.number
       by None lacks =
           none_decides e (λ o recipe same. true≢false (sym ((bytes_eq-Decides e.node.name (name_of x o)).1 (named ∙ sym same)) ∙ none_found test (map (recipe_of x) kept) lacks (recipe_of x o) (Has-map (recipe_of x) kept o (Has-filter is_recipe (serial_order x.graph) o (in_order x is_x reaches o (recipe_is_node x is_x reaches o recipe)) recipe))))
       by (Some r) found =
@@ -237,3 +242,12 @@ module _ (x y : Subject) (b c : Behaviours) (is_x : IsGraph x.graph) (is_y : IsG
           let target : e.node.name ≡ r.target = (bytes_eq-Decides e.node.name r.target).0 stands.1 in
           let same : name_of x o ≡ name_of y e.number = ap (λ (k : PastRecipe). k.target) is ∙ (sym target ∙ named) in
           subst (λ (k : PastRecipe). (is_other y k e ≡ true) ↔ CantStay all_rules (build_of x b) (build_of y c) e.number) is (other_decides o e is_e recipe same)
+
+  -- and whether that is doubted
+  pub stay_decides : (doubted : List (List ℕ)) (e : NodeRow) → IsRow y e → (cant_stay (past_of doubted x) y e ≡ true) ↔ CantStayTrusting (trust_without doubted) (build_of x b) (build_of y c) e.number
+  stay_decides doubted e is_e =
+      let named : e.node.name ≡ name_of y e.number = ap (λ (n : Node). n.name) is_e.same_node in
+      let old = cant_stay_by (recipe_for (past_of doubted x) e.node.name) y e in (
+        λ h. ⊎_elim (λ d. inr (ap (λ b. not b) (sym (ap (has_name doubted) named) ∙ d))) (λ o. inl ((old_decides doubted e is_e).0 o)) (or_cases (has_name doubted e.node.name) old h),
+        λ h. ⊎_elim (λ cant. or_right (has_name doubted e.node.name) old ((old_decides doubted e is_e).1 cant)) (λ d. or_left (has_name doubted e.node.name) old (ap (has_name doubted) named ∙ true_from_not (has_name doubted (name_of y e.number)) d)) h,
+      )

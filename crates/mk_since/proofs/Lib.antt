@@ -1,3 +1,4 @@
 pub mod Deciding
 pub mod Naming
 pub mod Targets
+pub mod Doubting

@@ -22,13 +22,14 @@ use Rattle.mk_graph.specs.Serial.{serial_order}
 use Rattle.mk_build.specs.BuildLaws.{NamesHaveOneNumber}
 use Rattle.mk_build.specs.Setting.{IsAlwaysMade}
 use Rattle.mk_build_behaviours.specs.Behaviours.{Behaviours}
-use Rattle.mk_build_since.specs.Named.{CantStay, IsLeftOver, IsMadeAnew, IsNamed, OwnsFile, all_rules}
+use Rattle.mk_build_since.specs.Named.{CantStayTrusting, IsLeftOver, IsMadeAnewTrusting, IsNamedTrusting, OwnsFile}
 use Rattle.mk_subject.specs.Laws.{AllWritesExactly}
 use Rattle.mk_subject.specs.NodeRow.{NodeRow, AreRows, IsRow, row_reads, row_writes}
 use Rattle.mk_subject.specs.Subject.{Subject, all_writes, commands_of, name_of, reads_of, writes_of}
 use Rattle.mk_subject.proofs.Entries.{same_reads, same_writes}
 use Rattle.mk_subject.proofs.InOrder.{writer_has_recipe, writer_in_order}
 use Rattle.mk_subject.proofs.Rows.{in_take_more}
+use Rattle.mk_since.specs.Doubts.{trust_without}
 use Rattle.mk_since.specs.Laws.{NamedAreNamed}
 use Rattle.mk_since.specs.Named.{AreNamedBy, build_of}
 use Rattle.mk_since.specs.Past.{Past, PastRecipe, lines_in, past_of, recipe_of}
@@ -36,7 +37,7 @@ use Rattle.mk_since.specs.Parts.{Among, Leaves, Renews, cant_stay, has_file, is_
 use Rattle.mk_since.proofs.Deciding.{has_is, not_from, not_true, owns_is, stay_decides}
 
 -- what stands among names to which one was added,
-one_has : (names : List (List ℕ)) (name f : List ℕ) → Has (with_name names name) f ↔ (Has names f ⊎ (name ≡ f))
+pub one_has : (names : List (List ℕ)) (name f : List ℕ) → Has (with_name names name) f ↔ (Has names f ⊎ (name ≡ f))
 one_has names name f = at (has_name names name) refl
   where
     at : (b : Bool) → has_name names name ≡ b → Has (cond b names (names ++ name ∷ [])) f ↔ (Has names f ⊎ (name ≡ f))
@@ -47,7 +48,7 @@ one_has names name f = at (has_name names name) refl
     )
 
 -- to which others were,
-all_has : (more names : List (List ℕ)) (f : List ℕ) → Has (fold with_name names more) f ↔ (Has names f ⊎ Has more f)
+pub all_has : (more names : List (List ℕ)) (f : List ℕ) → Has (fold with_name names more) f ↔ (Has names f ⊎ Has more f)
 all_has [] names f = (λ h. inl h, λ h. elim h [ inl there ↦ there | inr none ↦ absurd none ])
 all_has (name ∷ more) names f =
     let rest = all_has more (with_name names name) f in
@@ -128,7 +129,7 @@ renews_noted past y always e names new files same added anew f =
       λ h. ⊎_elim (λ k. those.1 (inl k)) (λ k. those.1 (inr (subst (λ (l : List (List ℕ)). Has l f) (sym same) k.0, k.1))) h,
     )
 
-module _ (x y : Subject) (b c : Behaviours) (is_x : IsGraph x.graph) (is_y : IsGraph y.graph) (reaches : SerialReachesEachOnce) (exact : AllWritesExactly) (one : NamesHaveOneNumber) where
+module _ (doubted : List (List ℕ)) (x y : Subject) (b c : Behaviours) (is_x : IsGraph x.graph) (is_y : IsGraph y.graph) (reaches : SerialReachesEachOnce) (exact : AllWritesExactly) (one : NamesHaveOneNumber) where
   abbrev is_recipe : ℕ → Bool
   is_recipe n = (node x.graph n).recipe
 
@@ -136,45 +137,45 @@ module _ (x y : Subject) (b c : Behaviours) (is_x : IsGraph x.graph) (is_y : IsG
   kept = filter is_recipe (serial_order x.graph)
 
   -- old recipes lead to what is left over
-  left_from : (f : List ℕ) → Among (Leaves y) (past_of x).recipes f → IsLeftOver (build_of x b) (build_of y c) f
+  left_from : (f : List ℕ) → Among (Leaves y) (past_of doubted x).recipes f → IsLeftOver (build_of x b) (build_of y c) f
   left_from f (r, among, (wrote, lacks)) =
       let (o, stands, is) = Has-from_map (recipe_of x) kept r among in
-      ((o, subst (λ (k : PastRecipe). Has k.writes f) (sym is) wrote), λ has. not_from (has_file y f) lacks ((has_is y is_y exact c f).1 has))
+      ((o, subst (λ (k : PastRecipe). Has k.writes f) (sym is) wrote), λ has. not_from (has_file y f) lacks ((has_is doubted y is_y exact c f).1 has))
 
-  left_for : (f : List ℕ) → IsLeftOver (build_of x b) (build_of y c) f → Among (Leaves y) (past_of x).recipes f
+  left_for : (f : List ℕ) → IsLeftOver (build_of x b) (build_of y c) f → Among (Leaves y) (past_of doubted x).recipes f
   left_for f ((o, wrote), lacks) =
       let recipe = writer_has_recipe x is_x reaches o f wrote in
-      (recipe_of x o, Has-map (recipe_of x) kept o (Has-filter is_recipe (serial_order x.graph) o (writer_in_order x is_x reaches o f wrote) recipe), (wrote, not_true (has_file y f) (λ has. lacks ((has_is y is_y exact c f).0 has))))
+      (recipe_of x o, Has-map (recipe_of x) kept o (Has-filter is_recipe (serial_order x.graph) o (writer_in_order x is_x reaches o f wrote) recipe), (wrote, not_true (has_file y f) (λ has. lacks ((has_is doubted y is_y exact c f).0 has))))
 
   module _ (always : List Bool) (made : (t : ℕ) → (get_or always t false ≡ true) ↔ IsAlwaysMade y.graph t) (rows : List NodeRow) (entries : AreRows y rows) where
     -- rows of the new build lead to what is made anew
-    anew_from : (f : List ℕ) → Among (Renews (past_of x) y always) rows f → OwnsFile (build_of x b) f × IsMadeAnew all_rules (build_of x b) (build_of y c) f
+    anew_from : (f : List ℕ) → Among (Renews (past_of doubted x) y always) rows f → OwnsFile (build_of x b) f × IsMadeAnewTrusting (trust_without doubted) (build_of x b) (build_of y c) f
     anew_from f (e, among, (wrote, own, anew)) =
-        let both = and_parts (not (get_or always e.number false)) (cant_stay (past_of x) y e) anew in (
-          (owns_is x is_x exact b f).0 own,
-          (e.number, row_wrote y is_y reaches rows entries e f among wrote, (λ m. not_from (get_or always e.number false) both.0 ((made e.number).1 m)), (stay_decides x y b c is_x is_y reaches exact one e (is_entry y is_y reaches rows entries e among)).0 both.1),
+        let both = and_parts (not (get_or always e.number false)) (cant_stay (past_of doubted x) y e) anew in (
+          (owns_is doubted x is_x exact b f).0 own,
+          (e.number, row_wrote y is_y reaches rows entries e f among wrote, (λ m. not_from (get_or always e.number false) both.0 ((made e.number).1 m)), (stay_decides x y b c is_x is_y reaches exact one doubted e (is_entry y is_y reaches rows entries e among)).0 both.1),
         )
 
-    anew_for : (f : List ℕ) → OwnsFile (build_of x b) f → IsMadeAnew all_rules (build_of x b) (build_of y c) f → Among (Renews (past_of x) y always) rows f
+    anew_for : (f : List ℕ) → OwnsFile (build_of x b) f → IsMadeAnewTrusting (trust_without doubted) (build_of x b) (build_of y c) f → Among (Renews (past_of doubted x) y always) rows f
     anew_for f own (t, wrote, once, cant) =
         let row = writer_row y is_y reaches rows entries t f wrote in
         let e = row.0 in
         let is : e.number ≡ t = row.2 in
-        let cant_here = subst (λ (n : ℕ). CantStay all_rules (build_of x b) (build_of y c) n) (sym is) cant in
+        let cant_here = subst (λ (n : ℕ). CantStayTrusting (trust_without doubted) (build_of x b) (build_of y c) n) (sym is) cant in
         let once_here = subst (λ (n : ℕ). ¬ (IsAlwaysMade y.graph n)) (sym is) once in
-        (e, row.1, (row.3, (owns_is x is_x exact b f).1 own, and_from (not (get_or always e.number false)) (cant_stay (past_of x) y e) (not_true (get_or always e.number false) (λ m. once_here ((made e.number).0 m))) ((stay_decides x y b c is_x is_y reaches exact one e (is_entry y is_y reaches rows entries e row.1)).1 cant_here)))
+        (e, row.1, (row.3, (owns_is doubted x is_x exact b f).1 own, and_from (not (get_or always e.number false)) (cant_stay (past_of doubted x) y e) (not_true (get_or always e.number false) (λ m. once_here ((made e.number).0 m))) ((stay_decides x y b c is_x is_y reaches exact one doubted e (is_entry y is_y reaches rows entries e row.1)).1 cant_here)))
 
 -- all that is named is to be removed, and the other way round
 pub named_are_named : SerialReachesEachOnce → AllWritesExactly → NamesHaveOneNumber → NamedAreNamed
-named_are_named reaches exact one x y is_x is_y names by b c f = (there, back)
+named_are_named reaches exact one doubted x y is_x is_y names by b c f = (there, back)
   where
-    there : Has names f → IsNamed all_rules (build_of x b) (build_of y c) f
+    there : Has names f → IsNamedTrusting (trust_without doubted) (build_of x b) (build_of y c) f
     there h =
-        ⊎_elim (λ k. let left = left_from x y b c is_x is_y reaches exact one f k in (inr (inr left.0), inl left)) (λ k. let anew = anew_from x y b c is_x is_y reaches exact one by.always by.always_made by.entries by.are_entries f k in (anew.0, inr anew.1)) ((by.all f).0 h)
+        ⊎_elim (λ k. let left = left_from doubted x y b c is_x is_y reaches exact one f k in (inr (inr left.0), inl left)) (λ k. let anew = anew_from doubted x y b c is_x is_y reaches exact one by.always by.always_made by.entries by.are_entries f k in (anew.0, inr anew.1)) ((by.all f).0 h)
 
-    back : IsNamed all_rules (build_of x b) (build_of y c) f → Has names f
+    back : IsNamedTrusting (trust_without doubted) (build_of x b) (build_of y c) f → Has names f
     back (own, h) =
-        (by.all f).1 (⊎_elim (λ k. inl (left_for x y b c is_x is_y reaches exact one f k)) (λ k. inr (anew_for x y b c is_x is_y reaches exact one by.always by.always_made by.entries by.are_entries f own k)) h)
+        (by.all f).1 (⊎_elim (λ k. inl (left_for doubted x y b c is_x is_y reaches exact one f k)) (λ k. inr (anew_for doubted x y b c is_x is_y reaches exact one by.always by.always_made by.entries by.are_entries f own k)) h)
 
 -- names in another order are the same ones
 contains_has : (names : List (List ℕ)) (f : List ℕ) → Contains names f → Has names f
@@ -225,7 +226,7 @@ kept_all x (e ∷ rows) h =
     by true t this rest = front t ∙ (ap (λ (r : PastRecipe). r ∷ map recipe_in (filter (λ (k : NodeRow). k.node.recipe) rows)) this ∙ ap (λ (l : List PastRecipe). recipe_of x e.number ∷ l) rest)
     by false t this rest = front t ∙ rest
 
-pub recipes_kept : (x : Subject) (rows : List NodeRow) → AreRows x rows → map recipe_in (filter (λ (e : NodeRow). e.node.recipe) rows) ≡ (past_of x).recipes
+pub recipes_kept : (x : Subject) (rows : List NodeRow) → AreRows x rows → map recipe_in (filter (λ (e : NodeRow). e.node.recipe) rows) ≡ (past_of [] x).recipes
 recipes_kept x rows entries =
     kept_all x rows entries.right ∙ ap (λ (ns : List ℕ). map (recipe_of x) (filter (λ n. (node x.graph n).recipe) ns)) entries.in_order
 

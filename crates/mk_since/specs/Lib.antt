@@ -1,3 +1,4 @@
+pub mod Doubts
 pub mod Past
 pub mod Named
 pub mod Parts

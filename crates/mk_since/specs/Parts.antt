@@ -1,7 +1,7 @@
 -- The contracts of the functions that compute parts of the answer. Its meaning doesn't depend on
 -- this file.
-use Rattle.std.specs.Prelude.{◌≡◌, Bool, true, false, not, ◌&&◌, ◌||◌, List, filter, find, fold, slice_index_or, Option, None, Some}
-use Rattle.std.specs.List.{list_all, list_any}
+use Rattle.std.specs.Prelude.{◌≡◌, Bool, true, false, not, ◌&&◌, ◌||◌, List, [], ◌∷◌, filter, find, fold, slice_index_or, Option, None, Some, if◌then◌else◌}
+use Rattle.std.specs.List.{flat_map, list_all, list_any}
 use Rattle.std.specs.Str.{bytes_eq}
 use Rattle.mk_lines.specs.Names.{has_name, with_name}
 use Rattle.mk_foot.specs.Setting.{is_given}
@@ -9,6 +9,8 @@ use Rattle.mk_graph.specs.Membership.{Has}
 use Rattle.mk_build.specs.Setting.{FileName}
 use Rattle.mk_subject.specs.NodeRow.{NodeRow, row_reads, row_writes, lines_eq}
 use Rattle.mk_subject.specs.Subject.{Subject, all_writes}
+use Rattle.mk_find.specs.declared.finding.Finding.{Finding}
+use Rattle.mk_find.specs.declared.finding.Finding.TheVariants.{Race, Stale}
 use Rattle.mk_since.specs.Past.{Past, PastRecipe}
 
 -- What is kept of the recipe of a row.
@@ -53,9 +55,11 @@ abbrev pub cant_stay_by : Option PastRecipe → Subject → NodeRow → Bool
 cant_stay_by None y e = true
 cant_stay_by (Some r) y e = is_other y r e
 
--- Whether what the recipe of the row e of the new build y wrote before can't stay.
+-- Whether what the recipe of the row e of the new build y wrote before can't stay: the old recipe
+-- with its target is doubted or is another one, or there is none.
 abbrev pub cant_stay : Past → Subject → NodeRow → Bool
-cant_stay past y e = cant_stay_by (recipe_for past e.node.name) y e
+cant_stay past y e =
+    has_name past.doubted e.node.name || cant_stay_by (recipe_for past e.node.name) y e
 
 -- Whether the row e of the new build y is made anew, by a table of the nodes that every make runs.
 abbrev pub is_made_anew : Past → Subject → List Bool → NodeRow → Bool
@@ -78,3 +82,42 @@ Leaves y r f = Has r.writes f × (not (has_file y f) ≡ true)
 abbrev pub Renews : Past → Subject → List Bool → NodeRow → FileName → Type 0
 Renews past y always e f =
     Has (row_writes e) f × (has_name past.own f ≡ true) × (is_made_anew past y always e ≡ true)
+
+-- The recipe that a race or a stale read is about.
+abbrev pub about : Finding → List FileName
+about (Race recipe writer file) = recipe ∷ []
+about (Stale recipe file) = recipe ∷ []
+about other = []
+
+-- The recipes that races and stale reads are about.
+abbrev pub all_about : List Finding → List FileName
+all_about found = fold with_name [] (flat_map about found)
+
+-- Doubts so far: the targets of recipes, and the files that these write.
+pub record Doubts : Type 0 where
+  pub targets : List FileName
+  pub files : List FileName
+
+-- Whether the recipe of a row is doubted: one of the findings is about it, or it reads one of the
+-- files.
+abbrev pub is_doubted : List FileName → List FileName → NodeRow → Bool
+is_doubted found files e =
+    e.node.recipe && (has_name found e.node.name || list_any (has_name files) (row_reads e))
+
+-- The doubts after a row.
+abbrev pub with_row : List FileName → Doubts → NodeRow → Doubts
+with_row found so_far e =
+    if is_doubted found so_far.files e
+    then record {
+      targets = with_name so_far.targets e.node.name;
+      files = fold with_name so_far.files (row_writes e);
+    }
+    else so_far
+
+-- The doubts about the rows.
+abbrev pub doubts_among : List FileName → List NodeRow → Doubts
+doubts_among found entries = fold (with_row found) (record { targets = []; files = [] }) entries
+
+-- The targets of recipes that are doubted among the rows.
+abbrev pub doubted_among : List Finding → List NodeRow → List FileName
+doubted_among found entries = (doubts_among (all_about found) entries).targets

@@ -15,10 +15,12 @@ pub record PastRecipe : Type 0 where
   pub reads : List FileName
   pub writes : List FileName
 
--- What is kept of a build: its recipes, and the files that it has itself.
+-- What is kept of a build: its recipes, the files that it has itself, and the targets of its doubted
+-- recipes.
 pub record Past : Type 0 where
   pub recipes : List PastRecipe
   pub own : List FileName
+  pub doubted : List FileName
 
 -- The lines of commands that have no fault.
 abbrev pub lines_in : Result Commands InferFault → List (List ℕ)
@@ -34,10 +36,11 @@ recipe_of x n = record {
   writes = writes_of x n;
 }
 
--- What is kept of the subject: its recipes in the serial order; and its sources, its makefile texts
--- and what its recipes write.
-abbrev pub past_of : Subject → Past
-past_of x = record {
+-- What is kept of the subject whose doubted recipes have these targets: its recipes in the serial
+-- order; its sources, its makefile texts and what its recipes write; and these targets.
+abbrev pub past_of : List FileName → Subject → Past
+past_of doubted x = record {
   recipes = map (recipe_of x) (filter (λ n. (node x.graph n).recipe) (serial_order x.graph));
   own = x.setting.sources ++ (x.setting.texts ++ all_writes x);
+  doubted = doubted;
 }

@@ -2,6 +2,7 @@
 //! old build, and the rules that name files.
 #![tactic(auto)]
 
+mod doubts;
 pub mod laws;
 mod named;
 mod past;

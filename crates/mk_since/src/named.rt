@@ -146,8 +146,9 @@ fn noted<'a>(
 /// The files of the old build that have to be removed before makes of the new one, in ascending
 /// order of their bytes: those that an old recipe wrote and that the new build doesn't have, and
 /// those that a recipe of the new build writes, if it isn't made in every make, and the old build
-/// has no recipe with its target, or one with other commands, one that writes other files, one that
-/// reads other files, or one that read a makefile text of it. The only error is out of memory.
+/// has no recipe with its target, or a doubted one, one with other commands, one that writes other
+/// files, one that reads other files, or one that read a makefile text of it. The only error is out
+/// of memory.
 pub fn named_files(alloc: Global, past: &Past, subject: &Subject<'_>) -> Result<Names, AllocError>
     ensures sorted { IfOk result (λ names. IsSorted (slice_cmp nat_cmp) names) }
     ensures named { IfOk result (λ names. AreNamedBy past.now subject.now names) }

@@ -7,22 +7,27 @@ ghost use Rattle.mk_lines.specs.Names.{has_name};
 ghost use Rattle.mk_graph.specs.Graph.{node};
 ghost use Rattle.mk_graph.specs.Serial.{serial_order};
 ghost use Rattle.mk_subject.specs.Subject.{all_writes};
+ghost use Rattle.mk_since.specs.Named.{IsPastOf};
 ghost use Rattle.mk_since.specs.Parts.{recipe_for};
-ghost use Rattle.mk_since.specs.Past.{past_of, recipe_of};
+ghost use Rattle.mk_since.specs.Past.{recipe_of};
 
+use crate::doubts::doubted;
 use crate::past_recipe::{PastRecipe, past_recipe, push_copies};
+use mk_find::Finding;
 use mk_lines::NameTable;
 use mk_subject::Subject;
 use std::alloc::{AllocError, Global};
 use std::marker::Model;
 
-/// What is kept of a build: its recipes in the serial order, with an index of their targets, and the
-/// files that it has itself. Its model is the recipes and these files.
+/// What is kept of a build: its recipes in the serial order, with an index of their targets, the
+/// files that it has itself, and the targets of its doubted recipes. Its model is the recipes, these
+/// files and these targets.
 #[derive(Drop)]
 pub struct Past {
     recipes: Vec<PastRecipe>,
     targets: NameTable,
     own: NameTable,
+    doubted: NameTable,
 }
 
 impl Model for Past {
@@ -31,7 +36,7 @@ impl Model for Past {
 
     ghost Value = { value.Past };
 
-    ghost view = { λ p. record { recipes = p.recipes.items; own = p.own } };
+    ghost view = { λ p. record { recipes = p.recipes.items; own = p.own; doubted = p.doubted } };
 
     ghost invariant = { λ p. p.targets ≡ map (λ r. r.target) p.recipes.items };
 }
@@ -109,11 +114,19 @@ impl Past {
     {
         self.own.contains(file)
     }
+
+    /// Whether the recipe with this target is doubted. Allocates nothing.
+    pub fn doubts(&self, target: &str) -> bool
+        ensures { result ≡ has_name self.now.doubted target.now }
+    {
+        self.doubted.contains(target)
+    }
 }
 
-/// What is kept of the build of this subject. The only error is out of memory.
-pub fn past_of(alloc: Global, subject: &Subject<'_>) -> Result<Past, AllocError>
-    ensures { IfOk result (λ past. past ≡ past_of subject.now) }
+/// What is kept of the build of this subject, with the targets of its doubted recipes, if these are
+/// its findings and all of them are races and stale reads. The only error is out of memory.
+pub fn past_of(alloc: Global, subject: &Subject<'_>, found: &[Finding]) -> Result<Past, AllocError>
+    ensures { IfOk result (λ past. IsPastOf subject.now found.now past) }
 {
     let recipes = recipes_of(alloc, subject)?;
     let targets = targets_of(alloc, recipes.as_slice())?;
@@ -121,5 +134,6 @@ pub fn past_of(alloc: Global, subject: &Subject<'_>) -> Result<Past, AllocError>
         recipes,
         targets,
         own: own_of(alloc, subject)?,
+        doubted: doubted(alloc, subject, found)?,
     })
 }

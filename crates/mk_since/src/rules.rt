@@ -146,8 +146,9 @@ fn is_other(
 }
 
 /// Whether what the recipe of a node of the new build wrote before can't stay: the old build has no
-/// recipe with its target, or one with other commands, one that writes other files, one that reads
-/// other files, or one that read a makefile text of it. The only error is out of memory.
+/// recipe with its target, or a doubted one, one with other commands, one that writes other files,
+/// one that reads other files, or one that read a makefile text of it. The only error is out of
+/// memory.
 pub fn cant_stay(
     alloc: Global,
     past: &Past,
@@ -156,6 +157,9 @@ pub fn cant_stay(
 ) -> Result<bool, AllocError>
     ensures { IfOk result (λ gone. gone ≡ cant_stay past.now subject.now row.now) }
 {
+    if past.doubts(row.name()) {
+        return Ok(true);
+    }
     match past.recipe(row.name()) {
         Some(old) => is_other(alloc, subject, old, row),
         None => Ok(true),

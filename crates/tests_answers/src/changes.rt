@@ -58,9 +58,14 @@ fn names_what_has_other_commands(rt: HostRuntime) -> Result<(), Fail> {
 }
 
 #[test]
-fn tells_of_an_old_build_with_findings(rt: HostRuntime) -> Result<(), Fail> {
-    let want = "no stale a.o h.h\nthis is the old build, in old: begin with a clean build\n";
-    expect(rt.alloc(), STALE, want)
+fn names_what_doubted_recipes_wrote(rt: HostRuntime) -> Result<(), Fail> {
+    expect(rt.alloc(), STALE, "a.o\np\n")
+}
+
+#[test]
+fn tells_of_an_old_build_with_other_findings(rt: HostRuntime) -> Result<(), Fail> {
+    let want = "no commands a.o\nthis is the old build, in old: begin with a clean build\n";
+    expect(rt.alloc(), OTHER_RIGHT, want)
 }
 
 /// What `check -w` says of the program with a header that its makefile doesn't name.

@@ -137,7 +137,8 @@ fn verified(alloc: Global, subject: &Subject<'_>, text: &str) -> Result<String, 
 
 /// Whether the build has this file itself, by what `past_of` keeps.
 fn owned(alloc: Global, subject: &Subject<'_>, file: &str) -> Result<String, Fail> {
-    let past = past_of(alloc, subject)?;
+    let found = findings(alloc, subject)?;
+    let past = past_of(alloc, subject, &found)?;
     let text = if past.owns(file) {
         "owned"
     } else {
@@ -148,7 +149,8 @@ fn owned(alloc: Global, subject: &Subject<'_>, file: &str) -> Result<String, Fai
 
 /// The files to remove between two makes of the same build, each on a line.
 fn named(alloc: Global, subject: &Subject<'_>) -> Result<String, Fail> {
-    let past = past_of(alloc, subject)?;
+    let found = findings(alloc, subject)?;
+    let past = past_of(alloc, subject, &found)?;
     let names = named_files(alloc, &past, subject)?;
     let mut out = String::new(alloc);
     for name in names.as_slice() {

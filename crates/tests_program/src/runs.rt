@@ -168,7 +168,7 @@ fn rejects_other_words(rt: HostRuntime) -> Result<(), Fail> {
 
 #[test]
 fn prints_the_version(rt: HostRuntime) -> Result<(), Fail> {
-    let version = "mkcheck 0.2.0 (proved with rattle-kit-13b logic dac8208d650f15bf)\n";
+    let version = "mkcheck 0.2.0 (proved with rattle-kit-13f logic dac8208d650f15bf)\n";
     expect(rt.alloc(), "--version", 0, 0, version)
 }
 

@@ -1,0 +1,7 @@
+use Rattle.std.proofs.Common.{◌≡◌, map, take}
+use Rattle.std.specs.String.{string_bytes}
+use Rattle.mk_since.proofs.doubts.table_of.Given as goal
+
+-- the names so far
+abbrev pub invariant-loop-name : goal.invariant-loop-name
+invariant-loop-name l = map string_bytes l.copies.items ≡ map (λ name. name.now) (take l.name-index l.names)
