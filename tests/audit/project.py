@@ -7,6 +7,7 @@ import os
 import shutil
 import subprocess
 import sys
+from collections.abc import Mapping
 from dataclasses import dataclass
 from pathlib import Path
 from typing import Any
@@ -91,13 +92,19 @@ class Project:
         """What a file holds."""
         return (self.folder / name).read_bytes().decode()
 
-    def audit(self, *words: str, replay: bool = False, **environment: str) -> Outcome:
+    def audit(
+        self,
+        *words: str,
+        replay: bool = False,
+        environment: Mapping[str, str] | None = None,
+        **more: str,
+    ) -> Outcome:
         """Runs mkcheck-audit. The recorder's replay is left out but where it is asked for."""
         outer = {name: value for name, value in os.environ.items() if name not in UNWANTED}
         done = subprocess.run(
             [sys.executable, str(AUDIT), *([] if replay else ["--no-replay"]), *words],
             cwd=self.folder,
-            env={**outer, "MKCHECK": MKCHECK, **environment},
+            env={**outer, "MKCHECK": MKCHECK, **(environment or {}), **more},
             stdin=subprocess.DEVNULL,
             capture_output=True,
             check=False,
@@ -106,6 +113,10 @@ class Project:
         assert "Traceback" not in outcome.errors, outcome.errors
         assert "mistake of" not in outcome.errors, outcome.errors
         return outcome
+
+    def make(self, goal: str) -> None:
+        """Makes a goal in the folder."""
+        subprocess.run(["make", "-s", goal], cwd=self.folder, check=True, capture_output=True)
 
     def makes_again(self, goal: str, touched: str) -> bool:
         """Whether GNU make makes a goal again, in a copy that is built, when a file is touched."""

@@ -4,6 +4,7 @@ from __future__ import annotations
 
 import re
 import shutil
+from pathlib import Path
 
 import pytest
 
@@ -135,6 +136,22 @@ def test_a_yes(project: Project) -> None:
     assert project.text(".mkcheck/.gitignore") == "*\n"
 
 
+@pytest.mark.parametrize(
+    "reader", [pytest.param("posix", marks=can_record), pytest.param("make", marks=can_import)]
+)
+@pytest.mark.skipif(shutil.which("ccache") is None, reason="no ccache")
+def test_a_build_by_ccache(project: Project, tmp_path: Path, reader: str) -> None:
+    """Its cache is neither read nor written."""
+    makefile = POSIX.replace("\tcc ", "\tccache cc ").replace(".o: ", ".o: part.h ")
+    project.write({"makefile": makefile, **SOURCES})
+    home = tmp_path / "home"
+    home.mkdir()
+    for _ in range(2):
+        outcome = project.audit("--from", reader, replay=True, HOME=str(home))
+        assert outcome.output.startswith("yes (3 of 3 recipes judged)\n"), outcome
+    assert not [*home.rglob("*ccache*")]
+
+
 @can_record
 def test_what_could_not_be_judged_is_no_yes(project: Project) -> None:
     project.write({"makefile": "all: a c\na: b\n\tcp b a\nc: b\n\tfalse\n", "b": "1\n"})
@@ -145,6 +162,27 @@ def test_what_could_not_be_judged_is_no_yes(project: Project) -> None:
     )
     assert outcome.status == 1
     assert project.audit("--allow-unjudged").status == 0
+
+
+@can_record
+def test_what_is_known_is_found_whatever_is_not_judged(project: Project) -> None:
+    project.write(
+        {
+            "makefile": "all: a c\na: b\n\tcat b h > a\nc: b\n\tfalse\n",
+            "b": "1\n",
+            "h": "2\n",
+        }
+    )
+    outcome = project.audit("--allow-unjudged")
+    assert "makefile:2: a reads h, but doesn't depend on it: when it changes, a stays old" in (
+        outcome.output
+    )
+    assert "    add: a: h\n" in outcome.output
+    assert "no: 1 finding, 1 recipe not judged, with 1 doubt" in outcome.output
+    assert outcome.status == 1
+    fixed = project.audit("--fix", "--allow-unjudged")
+    assert fixed.status == 0, fixed.output
+    assert project.makes_again("a", "h")
 
 
 @can_record

@@ -3,6 +3,7 @@
 from __future__ import annotations
 
 import os
+import shutil
 import subprocess
 from pathlib import Path
 
@@ -142,3 +143,39 @@ def test_a_link_to_a_makefile_stays_one(tmp_path: Path) -> None:
     write_all(str(tmp_path), {"Makefile": (before, before + "a: b\n")}, LATER)
     assert (tmp_path / "Makefile").is_symlink()
     assert (tmp_path / "real.mk").read_bytes() == b"# \xff\na:\na: b\n"
+
+
+@can_record
+@pytest.mark.skipif(shutil.which("git") is None, reason="no git")
+def test_no_line_is_added_for_what_git_keeps(project: Project) -> None:
+    project.write({"makefile": "a: b\n\tgit rev-parse HEAD > a; cat b h >> a\n", "b": "", "h": ""})
+    who = ("-c", "user.name=a", "-c", "user.email=a@localhost")
+    for words in (["init", "-q"], ["add", "."], [*who, "commit", "-q", "-m", "one"]):
+        subprocess.run(["git", *words], cwd=project.folder, check=True)
+    outcome = project.audit()
+    assert "    add: a: h\n" in outcome.output
+    assert "a reads" in outcome.output and ".git/HEAD" in outcome.output
+    outcome = project.audit("--fix")
+    assert ".git" not in project.text("makefile")
+    assert "    do: no prerequisite can stand for what git keeps: let a recipe" in outcome.output
+    assert outcome.status == 1
+
+
+def test_no_line_lets_a_folder_need_a_file_in_it(tmp_path: Path) -> None:
+    (tmp_path / "Makefile").write_text("all: d\nd:\n\tmkdir d\nd/e/f: a\n\tcp a d/e/f\n")
+    spot = Spot("Makefile", 2)
+    mend = Mend(spot, ("d",), ("d/e/f",))
+    finding = Finding("race", spot, "too early", ("d",), ("d/e/f",), (mend,))
+    mending = mending_of(Audited("Makefile", "", (finding,)), Sources(str(tmp_path)))
+    assert not mending.additions
+    assert mending.left[0].why.startswith("d/e/f lies in d, which has to be there before it")
+
+
+@can_record
+def test_a_file_that_a_recipe_without_a_record_writes_is_not_fixed(project: Project) -> None:
+    makefile = "all: b c\nb: a\n\tcp a x; cp a b; date +%N >> b\nc: a\n\tcat x a > c\n"
+    project.write({"makefile": makefile, "a": "a\n"})
+    outcome = project.audit(replay=True)
+    assert "c reads x" in outcome.output
+    assert "    do: a recipe that has no record may write it: mend what wasn't" in outcome.output
+    assert "--fixed" not in outcome.output

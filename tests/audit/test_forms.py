@@ -178,4 +178,6 @@ def test_all_forms_of_an_import_name_the_original_makefile(project: Project) -> 
     assert "Makefile:4: main.o and part.o aren&#x27;t made again when part.h changes" in page
     assert '<span class="rule"><i>4</i>%.o: %.c' in page
     assert "<ins>" not in page and ".mkcheck/makefile:" not in page
-    assert "Add these lines to the end of <code>Makefile</code>" in page
+    assert '<span class="answer no">no</span> 2 findings' in page
+    assert "The audit above says what to write, and where." in page
+    assert "the answer is yes" not in page

@@ -4,6 +4,8 @@ from __future__ import annotations
 
 import os
 
+import pytest
+
 from audit.project import GNU, POSIX, SOURCES, Project, can_import, can_record
 
 CHANGED = "recorded before part.h changed"
@@ -46,3 +48,61 @@ def test_an_import_of_other_sources(project: Project) -> None:
     outcome = project.audit("--no-record", "--fresh-only")
     assert CHANGED in outcome.output
     assert outcome.status == 2
+    for words in (["main.o"], ["CFLAGS=-g"]):
+        outcome = project.audit("--no-record", *words)
+        assert "the last import was asked for other goals, macros, or another" in outcome.errors
+        assert outcome.status == 2
+
+
+@can_import
+def test_an_import_of_another_makefile(project: Project) -> None:
+    """Its variables, commands and prerequisites may be other ones, also where it is included."""
+    project.write({"Makefile": f"include own.mk\n{GNU}", "own.mk": "V := 1\n", **SOURCES})
+    recorded = project.audit()
+    assert project.audit("--no-record", "--fresh-only").output == recorded.output
+    for name in ("own.mk", "Makefile"):
+        text = project.text(name)
+        project.write({name: f"{text}# another one\n"})
+        outcome = project.audit("--no-record", "--fresh-only")
+        assert f"recorded before {name} changed" in outcome.output
+        assert outcome.status == 2
+        project.write({name: text})
+    assert project.audit("--no-record", "--fresh-only").output == recorded.output
+
+
+SEARCHED = "main.o: main.c b/part.h\n\tcc -Ia -Ib -c main.c\n"
+
+
+@can_record
+def test_a_file_for_which_a_recipe_looked_is_there_now(project: Project) -> None:
+    main = SOURCES["main.c"].replace('"part.h"', "<part.h>")
+    files = {"makefile": SEARCHED, "main.c": main, "a/other.h": "\n"}
+    project.write({**files, "b/part.h": SOURCES["part.h"]})
+    assert project.audit().status == 0
+    project.make("main.o")
+    assert project.audit("--no-record", "--fresh-only").status == 0
+    project.write({"a/part.h": SOURCES["part.h"]})
+    outcome = project.audit("--no-record")
+    told = "recorded before a/part.h, for which a recipe looks, was there"
+    assert f"    {told}\n" in outcome.output
+    assert project.audit("--no-record", "--fresh-only").status == 2
+    assert project.audit().output.count("a/part.h") > 0
+
+
+@pytest.mark.parametrize(
+    "reader", [pytest.param("posix", marks=can_record), pytest.param("make", marks=can_import)]
+)
+def test_macros_of_another_environment(project: Project, reader: str) -> None:
+    makefile = "OWN = 1\nMORE += 1\na: b\n\techo $(OWN) $(MORE) $(FLAGS) > a; cat b >> a\n"
+    project.write({"makefile": makefile, "b": "1\n"})
+    words = ("--from", reader)
+    none = dict.fromkeys(("OWN", "MORE", "FLAGS", "CFLAGS"), "")
+    for _ in range(2):  # A first recording doesn't keep what an update without a change looks at.
+        assert project.audit(*words, environment=none).status == 0
+    fresh = (*words, "--no-record", "--fresh-only")
+    assert project.audit(*fresh, environment=none).status == 0
+    for name, status in (("OWN", 0), ("MORE", 2), ("FLAGS", 2), ("CFLAGS", 2), ("UNUSED", 0)):
+        outcome = project.audit(*fresh, environment={**none, name: "-g"})
+        assert outcome.status == status, (name, outcome.output)
+        assert status == 0 or f"recorded with another {name} in the environment" in outcome.output
+    assert project.audit(*fresh, "FLAGS=1", environment=none).status != 0

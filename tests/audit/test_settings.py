@@ -7,7 +7,7 @@ from pathlib import Path
 
 import pytest
 
-from audit.project import POSIX, SOURCES, Project, can_record
+from audit.project import POSIX, SOURCES, Project, can_import, can_record
 from mkcheck_tools.audit.accepting import Accepted, fitted
 from mkcheck_tools.audit.asking import words_over
 from mkcheck_tools.audit.baselines import read_baseline, write_baseline
@@ -149,6 +149,54 @@ def test_accepted_findings_are_no_plain_yes(project: Project) -> None:
     assert lines[-2] == (
         "yes, but for 2 findings that you accepted, with 1 doubt (3 of 3 recipes judged)"
     )
+
+
+# Two recipes that write one file, and, beside them, a race and a stale read.
+TWO_WRITERS = """\
+all: a b c d
+a: s
+\tcp s a; cp s log
+b: s
+\tcp s b; cp s log
+c: s
+\tcat s h > c
+d: s
+\tcat s a > d
+"""
+ACCEPT_WRITERS = """\
+[[accept]]
+kind = "writers"
+target = "*"
+file = "log"
+reason = "both write the same"
+"""
+
+
+@pytest.mark.parametrize(
+    "reader", [pytest.param("posix", marks=can_record), pytest.param("make", marks=can_import)]
+)
+def test_two_writers_that_are_accepted_hide_nothing(project: Project, reader: str) -> None:
+    project.write({"makefile": TWO_WRITERS, "s": "1\n", "h": "2\n"})
+    hiding = project.audit("--from", reader, "--format", "json").value
+    assert [one["kind"] for one in hiding["findings"]] == ["writers"]
+    hidden = {(one["kind"], *one["targets"], *one["files"]) for one in hiding["later"]}
+    assert {("race", "d", "a"), ("stale", "c", "h")} <= hidden
+    project.write({"mkcheck.toml": ACCEPT_WRITERS})
+    outcome = project.audit("--from", reader)
+    assert "    add: c: h\n" in outcome.output
+    assert "    add: d: a\n" in outcome.output
+    assert "\nno: 3 findings, 1 accepted" in outcome.output
+    assert outcome.status == 1
+    assert project.audit("--from", reader, "--fix").status == 0
+
+
+@can_record
+def test_a_baseline_has_what_other_findings_hide(project: Project) -> None:
+    project.write({"makefile": TWO_WRITERS, "s": "1\n", "h": "2\n"})
+    written = project.audit("--baseline", "old.toml")
+    assert "old.toml is written: 4 findings, accepted\n" in written.errors
+    assert written.status == 0
+    assert project.audit("--baseline", "old.toml").status == 0
 
 
 @can_record

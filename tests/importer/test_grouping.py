@@ -182,7 +182,7 @@ class GroupedAnswerTest(MakeFolderTest):
         self.write(
             {
                 "Makefile": f"all: {' '.join(names)}\n.PHONY: all clean\n"
-                + "".join(f"{name}: s clean\n\tcp s {name}\n" for name in names)
+                + "".join(f"{name}: s | clean\n\tcp s {name}\n" for name in names)
                 + "clean:\n\trm -f y?\n",
                 "s": "1\n",
             }

@@ -2,7 +2,9 @@
 
 from __future__ import annotations
 
+import shutil
 import subprocess
+import unittest
 
 from importer.make_folder import MKCHECK, MakeFolderTest, can_judge
 
@@ -383,6 +385,38 @@ class SeveralTargetsTest(MakeFolderTest):
         self.assertIn("p.c: p.y\n\tset +e; cp p.y p.c; cp p.y p.h\n", answer.rules())
         self.assertIn("p.h: p.c\n", answer.rules())
         self.try_answer(answer)
+
+    @unittest.skipUnless(shutil.which("ccache"), "no ccache")
+    def test_compilers_behind_ccache(self) -> None:
+        """Its cache lies outside of the project, where nothing may be written."""
+        self.write(
+            {
+                "Makefile": "CC = ccache cc\nprog: a.o\n\tcp a.o prog\na.o: a.c\n\t$(CC) -c a.c\n",
+                "a.c": '#include "h.h"\n',
+                "h.h": "",
+            }
+        )
+        answer = self.imported(replay=True)
+        self.assertEqual(answer.findings, ["no stale a.o h.h"])
+        self.try_answer(answer)
+        self.mend("a.o: h.h\n")
+
+    def test_a_file_that_only_a_recipe_for_others_makes(self) -> None:
+        """The line to add names it, and not the target by which the recipe runs."""
+        self.write(
+            {
+                "Makefile": "all: x main\nx: p.tab.c\n\tcp p.tab.c x\nmain: main.c\n"
+                "\tcat main.c p.tab.h > main\n"
+                "%.tab.c %.tab.h: %.y\n\tcp $< $*.tab.c; cp $< $*.tab.h\n",
+                "p.y": "y\n",
+                "main.c": "c\n",
+            }
+        )
+        answer = self.imported()
+        self.assertEqual(answer.status, 1, answer.output + answer.errors)
+        self.assertIn("Add to Makefile:\n    main: p.tab.h\n", answer.output)
+        self.try_answer(answer)
+        self.mend("main: p.tab.h\n")
 
     def test_pattern_with_several_targets(self) -> None:
         self.write(

@@ -54,6 +54,31 @@ class RefusedTest(MakeFolderTest):
         self.assertEqual((done.returncode, done.stdout), (2, ""))
         self.assertIn("give that folder with -C, and this one with -S build", done.stderr)
 
+    def test_a_build_folder_of_cmake_that_was_moved(self) -> None:
+        """Its makefiles name the folders in which it was configured."""
+        self.write(
+            {
+                "build/CMakeCache.txt": "CMAKE_HOME_DIRECTORY:INTERNAL=/old\n"
+                "CMAKE_CACHEFILE_DIR:INTERNAL=/old/build\n",
+                "build/Makefile": "x:\n\techo > x\n",
+                "CMakeLists.txt": "",
+            }
+        )
+        place = self.folder / "build"
+        self.refused(
+            f"CMake configured {place} as /old/build, and it was moved or copied since, so its"
+            f" build names other folders: remove {place}/CMakeCache.txt, and run `cmake -S"
+            f" {self.folder} -B {place}`"
+        )
+        cache = f"CMAKE_HOME_DIRECTORY:INTERNAL=/old\nCMAKE_CACHEFILE_DIR:INTERNAL={place}\n"
+        self.write({"build/CMakeCache.txt": cache})
+        self.refused(f"CMake configured {place} for the sources in /old, which isn't there any")
+        (self.scratch / "link").symlink_to(self.folder)
+        cache = f"CMAKE_HOME_DIRECTORY:INTERNAL={self.scratch}/link\n"
+        cache += f"CMAKE_CACHEFILE_DIR:INTERNAL={self.scratch}/link/build\n"
+        self.write({"build/CMakeCache.txt": cache})
+        self.assertEqual(self.imported("--look").status, 0)
+
     def test_no_folder(self) -> None:
         words = [sys.executable, str(IMPORTER), "-C", str(self.scratch / "nowhere")]
         done = subprocess.run(words, capture_output=True, text=True, check=False)
@@ -342,3 +367,32 @@ class NamesTest(MakeFolderTest):
             check=False,
         )
         self.assertEqual(done.returncode, 0, done.stdout + done.stderr)
+
+
+@can_judge
+class ExportTest(MakeFolderTest):
+    """Macros that come from a file and are exported to makes below."""
+
+    def test_recipes_that_use_them_and_others(self) -> None:
+        """By their commands, by the environment, by a script, and not at all."""
+        self.write(
+            {
+                "Makefile": "export V := $(shell cat VERSION)\nall:\n\t$(MAKE) -C sub\n",
+                "sub/Makefile": "all: a b c d e\na: in\n\techo $(V) > a\n"
+                'b: in\n\techo "$$V" > b\nc: in script\n\t./script > c\n'
+                "d e: in\n\tcp in $@\n",
+                "sub/script": '#!/bin/sh\necho "<$V>"\n',
+                "sub/in": "in\n",
+                "VERSION": "1\n",
+            }
+        )
+        answer = self.imported()
+        self.assertEqual(answer.status, 1, answer.output + answer.errors)
+        self.assertTrue(answer.output.startswith("no: 3 findings"), answer.output)
+        lines = answer.output.partition("Add to sub/Makefile:\n")[2].partition("\n")[0]
+        self.assertEqual(sorted(lines.replace(":", "").split()), ["../VERSION", "a", "b", "c"])
+        self.assertIn("d finds another value of V when VERSION changes", answer.log)
+        built = self.built()
+        for version in ("2", "3"):
+            (built / "VERSION").write_text(f"{version}\n")
+            self.assertFalse(self.rebuilds(built, ["VERSION"], ["sub/a", "sub/b", "sub/c"]))

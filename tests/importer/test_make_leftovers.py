@@ -408,6 +408,56 @@ class WithoutCleanTest(LeftoversTestCase):
         answer = self.left_out()
         self.assertIn("aren't judged (1 file): p.c", answer.output)
 
+    @has_git
+    def test_dependency_files_that_no_recipe_of_the_goals_makes(self) -> None:
+        """A fresh clone has none, and make doesn't make them there."""
+        rules = "prog: a.o\n\tcp a.o prog\na.o: a.in\n\tcat a.in h > a.o\n"
+        depend = "depend:\n\techo a.o: h > .depend\n-include .depend\n"
+        self.project(rules + depend, **{".gitignore": ".depend\n"})
+        self.track()
+        self.write({".depend": "a.o: h\n"})
+        answer = self.imported()
+        self.stale(answer)
+        self.assertIn("    1 file (.depend) of an earlier build is left out", answer.output)
+        self.track()
+        subprocess.run(["git", "-C", str(self.folder), "add", "-f", ".depend"], check=True)
+        answer = self.imported()
+        self.assertEqual((answer.findings, answer.status), ([], 0), answer.output)
+        self.assertIn("with 1 doubt,", answer.output)  # That no recipe was run again.
+
+    @has_git
+    def test_dependency_files_that_recipes_write(self) -> None:
+        self.project(
+            "prog: a.o\n\tcp a.o prog\n"
+            "a.o: a.in\n\tcat a.in h > a.o; echo a.o: h > a.d\n-include a.d\n",
+            **{".gitignore": "*.[do]\nprog\n"},
+        )
+        self.track()
+        self.build()
+        answer = self.imported()
+        self.assertEqual((answer.findings, answer.status), ([], 0), answer.output)
+        self.assertIn("    3 files (a.d, a.o, prog) of an earlier build are left", answer.output)
+
+    @has_git
+    def test_a_dependency_file_without_which_make_fails(self) -> None:
+        rules = "prog: a.o\n\tcp a.o prog\na.o: a.in\n\tcat a.in h > a.o\n"
+        self.project(f"{rules}-include none\ninclude .depend\n")
+        self.track()
+        self.write({".depend": "a.o: h\n"})
+        answer = self.imported()
+        self.assertEqual((answer.findings, answer.status), ([], 0), answer.output)
+        self.assertIn("    1 file (.depend) that git doesn't track stayed as", answer.output)
+
+    def test_dependency_files_where_nothing_tells_whose_they_are(self) -> None:
+        told = "includes .depend where it is there, and no recipe of these goals makes it"
+        rules = "prog: a.o\n\tcp a.o prog\na.o: a.in\n\tcat a.in h > a.o\n"
+        self.project(f"{rules}-include .depend\n", **{".depend": "a.o: h\n"})
+        for _ in range(2):
+            answer = self.imported()
+            self.assertEqual((answer.findings, answer.status), ([], 0), answer.output)
+            self.assertIn("with 2 doubts,", answer.output)
+            self.assertIn(told, answer.output + answer.errors)
+
     def test_words(self) -> None:
         self.write({"build.ninja": "build x: phony\n"})
         answer = self.imported("--from", "ninja", "--keep")

@@ -417,6 +417,56 @@ class SharedTest(MakeFolderTest):
 
 
 @can_judge
+class JobsTest(MakeFolderTest):
+    """Makes below that are told how many jobs to have."""
+
+    RULES = (
+        "all: gen out\ngen: in\n\tcp in gen\n"
+        "out: out.in\n\tcp out.in out; cat gen >> out || true\n"
+    )
+
+    def judged(self, top: str, sub: str) -> list[str]:
+        """The races and stale reads of makefiles in the folders that are above `deep`."""
+        deep = "sub" if self.RULES in sub else "sub/deep"
+        self.write({f"{deep}/Makefile": self.RULES, f"{deep}/in": "in\n", f"{deep}/out.in": ""})
+        self.write({"Makefile": top, "sub/Makefile": sub})
+        answer = self.imported()
+        self.assertEqual(answer.status, 1, answer.output + answer.errors)
+        self.try_answer(answer)
+        return [finding.split(" ")[1] for finding in answer.findings]
+
+    def test_one_job(self) -> None:
+        """`gen` is always done first, and `out` isn't made again by it."""
+        for option in ("-j1", "-j 1", "--jobs=1", "-kj1"):
+            with self.subTest(option):
+                top = f"all:\n\t$(MAKE) {option} -C sub\n"
+                self.assertEqual(self.judged(top, self.RULES), ["stale"])
+
+    def test_one_job_holds_below(self) -> None:
+        top = "all:\n\t$(MAKE) -j1 -C sub\n"
+        self.assertEqual(self.judged(top, "all:\n\t$(MAKE) -C deep\n"), ["stale"])
+
+    def test_several_jobs_below_one_job(self) -> None:
+        """The build by which the importer learns has one job, and so doesn't fail."""
+        top = "all:\n\t$(MAKE) -j1 -C sub\n"
+        for option in ("-j4", "-j"):
+            with self.subTest(option):
+                found = self.judged(top, f"all:\n\t$(MAKE) {option} -C deep\n")
+                self.assertEqual(found, ["race", "stale"])
+
+    def test_several_jobs_below_a_serial_make(self) -> None:
+        """`.NOTPARALLEL` is of one makefile."""
+        top = "all:\n\t$(MAKE) -j4 -C sub\n.NOTPARALLEL:\n"
+        self.assertEqual(self.judged(top, self.RULES), ["race", "stale"])
+
+    def test_a_serial_make_below(self) -> None:
+        top = "all:\n\t$(MAKE) -C sub\n"
+        self.write({"sub/more.mk": ".NOTPARALLEL:\n"})
+        sub = f"{self.RULES}include more.mk\n"
+        self.assertEqual(self.judged(top, sub), ["stale"])
+
+
+@can_judge
 class TargetWithoutRecipeTest(MakeFolderTest):
     """A file that a recursive make writes, and that has a rule without a recipe above.
 

@@ -7,7 +7,10 @@ Beside each stands one that is right, and that is a yes.
 from __future__ import annotations
 
 import re
+import shutil
+import subprocess
 import time
+import unittest
 from pathlib import Path
 
 from importer.make_folder import Answer, MakeFolderTest, can_judge
@@ -218,7 +221,8 @@ class WhileReadingTest(UnseenTestCase):
         self.refused("    version: it is made when make reads its makefiles (by $(shell ..)")
 
     def test_recipe_that_make_expands(self) -> None:
-        """`make -n` expands it, and so writes the file: that is no file of an earlier build."""
+        """`make -n` expands it, and so writes the file: that is no file of an earlier build, and
+        counts as one that its recipe writes."""
         self.write(
             {
                 "Makefile": "x: a list\n\tcat a list > x\nlist: b\n\t$(file > $@,one two)\n",
@@ -226,7 +230,8 @@ class WhileReadingTest(UnseenTestCase):
                 "b": "b\n",
             }
         )
-        answer = self.refused("    list: it is made when make reads its makefiles (by $(shell ..)")
+        answer = self.accepted()
+        self.assertIn("that counts as a command of it", answer.output + answer.errors)
         self.assertNotIn("nothing tells whether", answer.output)
 
     def test_from_an_output(self) -> None:
@@ -617,6 +622,71 @@ class ReadingTest(UnseenTestCase):
             "make reads version beside its makefiles, and whether commands depend on it couldn't be"
             " tried, since make refuses other contents"
         )
+
+
+@can_judge
+@unittest.skipUnless(shutil.which("git"), "no git")
+class CommitTest(UnseenTestCase):
+    """Commands that hold what git says, which is something else after a commit."""
+
+    MAKEFILE = "v := $(shell git log -1 --format=%s)\nx: a\n\techo $v > x; cat a >> x\n"
+
+    def commit(self, folder: Path, message: str) -> None:
+        """Commits all that a folder has."""
+        who = ("-c", "user.name=a", "-c", "user.email=a@localhost")
+        for words in (["init", "-q"], ["add", "."], [*who, "commit", "-q", "-m", message]):
+            more = ["--allow-empty"] if "commit" in words else []
+            subprocess.run(["git", "-C", str(folder), *words, *more], check=True)
+
+    def project(self, makefile: str) -> None:
+        """A project with one commit."""
+        self.write({"Makefile": makefile, "a": "a\n", ".gitignore": "x\nv\n"})
+        self.commit(self.folder, "one")
+
+    def after_a_commit(self) -> list[str]:
+        """The text of `x` after a build, a commit and a further build, and after a clean build."""
+        folder = self.copied("edited")
+        self.run_make(folder, "")
+        self.commit(folder, "two")
+        self.run_make(folder, "")
+        text = (folder / "x").read_text()
+        (folder / "x").unlink()
+        self.run_make(folder, "")
+        return [text, (folder / "x").read_text()]
+
+    def test_commands(self) -> None:
+        inner = "x: a\n\techo $(shell git log -1 --format=%s) > x; cat a >> x\n"
+        for makefile in (self.MAKEFILE, inner):
+            self.project(makefile)
+            self.assertEqual(self.after_a_commit(), ["one\na\n", "two\na\n"])
+            answer = self.imported()
+            self.assertEqual(answer.status, 1, answer.output + answer.errors)
+            self.assertIn("x isn't made again after a commit: make asks git for its", answer.output)
+            self.assertNotIn(".git/", answer.output)
+
+    def test_a_file_that_is_written_where_git_says_something_else(self) -> None:
+        self.project(
+            "v := $(shell git log -1 --format=%s)\nx: a v\n\tcat v a > x\n"
+            "v: FORCE\n\techo $v | cmp -s - v || echo $v > v\nFORCE:\n"
+        )
+        self.assertEqual(self.after_a_commit(), ["two\na\n", "two\na\n"])
+        self.accepted()
+
+    def test_what_no_commit_changes(self) -> None:
+        self.project(
+            "v := $(shell git log -1 --format=%s)\ntop := $(shell git rev-parse --show-toplevel)\n"
+            "x: a\n\tcat a > x; echo $(notdir $(top)) >> x\ndist:\n\ttar cf $v.tar a\n"
+        )
+        self.accepted()
+
+    def test_a_folder_of_a_repository(self) -> None:
+        self.project(self.MAKEFILE)
+        above = self.folder.parent
+        (self.folder / ".git").rename(above / ".git")
+        self.refused("make asks git by `git log -1 --format=%s`, and whether commands depend on")
+        other = self.MAKEFILE.replace("log -1 --format=%s", "rev-parse --show-cdup")
+        self.write({"Makefile": other})
+        self.accepted()
 
 
 @can_judge

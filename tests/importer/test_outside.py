@@ -72,4 +72,4 @@ class NinjaOutsideTest(OutsideTestCase):
     def test_command(self) -> None:
         text = f"rule copy\n  command = cp $in {self.outside}/new && cp $in $out\n"
         self.write({"build.ninja": f"{text}build x: copy a\n", "a": "a\n"})
-        self.refused(WRITES)
+        self.refused("the recipe of x writes files outside the folder, which no footprint can name")

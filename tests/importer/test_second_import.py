@@ -38,7 +38,7 @@ class SecondImportTestCase(MakeFolderTest):
     def first(self, *words: str) -> Answer:
         """An import from nothing."""
         answer = self.imported(*words)
-        self.assertIn("mkcheck-import: build ", answer.errors)
+        self.assertIn("mkcheck-import: translate ", answer.errors)
         return answer
 
     def second(self, *words: str) -> Answer:
@@ -62,14 +62,14 @@ class SecondImportTestCase(MakeFolderTest):
     def taken(self, *words: str) -> str:
         """A second import that takes the translation: how many recipes of all it records."""
         answer = self.second(*words)
-        self.assertNotIn("mkcheck-import: build ", answer.errors)
+        self.assertNotIn("mkcheck-import: translate ", answer.errors)
         self.assertNotIn("translated anew", answer.errors)
         return self.count(answer)
 
     def anew(self, why: str, *words: str) -> str:
         """A second import that translates anew, and says why: how many recipes it records."""
         answer = self.second(*words)
-        self.assertIn("mkcheck-import: build ", answer.errors)
+        self.assertIn("mkcheck-import: translate ", answer.errors)
         self.assertIn(why, answer.errors)
         return self.count(answer)
 
@@ -395,7 +395,7 @@ class AnewTest(SecondImportTestCase):
         self.first()
         answer = self.imported(keep=True, environment={"OTHER": "1"})
         self.assertIn("other than then: $OTHER", answer.errors)
-        self.assertIn("mkcheck-import: build ", answer.errors)
+        self.assertIn("mkcheck-import: translate ", answer.errors)
 
     def test_words(self) -> None:
         self.first()
@@ -495,7 +495,7 @@ class DamagedTest(SecondImportTestCase):
         path = self.folder / ".mkcheck" / "kept" / "import.json"
         path.write_text(path.read_text().replace("b.c", "c.c"))
         answer = self.second()
-        self.assertIn("mkcheck-import: build ", answer.errors)
+        self.assertIn("mkcheck-import: translate ", answer.errors)
         self.assertEqual(self.count(answer), "0 of 3")
 
     def test_what_recipes_left(self) -> None:
@@ -517,7 +517,7 @@ class StoppedTest(SecondImportTestCase):
                 (self.scratch / "go").touch()
                 answer = self.second()
                 self.assertEqual(answer.status, 0, answer.output + answer.errors)
-                self.assertNotIn("mkcheck-import: build ", answer.errors)
+                self.assertNotIn("mkcheck-import: translate ", answer.errors)
                 self.assertIn("2 of 3 recipes", answer.errors)
 
     def stop_at_b(self, number: int) -> None:

@@ -47,6 +47,21 @@ def waiting(*words, **more):
     return kept(*words, **more)
 room.{name} = waiting
 """
+# A tool to which two signals come before Python looks for any.
+AT_ONCE = """\
+import contextlib, os, signal, sys
+sys.path.insert(0, {tools!r})
+from mkcheck_tools.run import ending, stopping
+def work():
+    both = signal.SIGINT, signal.SIGTERM
+    with {within}:
+        signal.pthread_sigmask(signal.SIG_BLOCK, both)
+        for number in both:
+            os.kill(os.getpid(), number)
+        signal.pthread_sigmask(signal.SIG_UNBLOCK, both)
+    return 0
+sys.exit(ending.ended("tool", "tool", work))
+"""
 # How much a full disk holds.
 SMALL = 4 << 20
 ON_A_SMALL_DISK = """\
@@ -164,6 +179,25 @@ class LoadingTest(unittest.TestCase):
             check=False,
         )
         return done.returncode, done.stderr
+
+
+class AtOnceTest(unittest.TestCase):
+    """Two signals at one moment, as Ctrl-C at a terminal gives a tool that another one started, and
+    that other one ends it too."""
+
+    def test_the_second_one_changes_nothing(self) -> None:
+        for within in ("contextlib.nullcontext()", "stopping.held()"):
+            text = AT_ONCE.format(tools=str(ROOT / "tools"), within=within)
+            with self.subTest(within):
+                done = subprocess.run(
+                    [sys.executable, "-c", text],
+                    preexec_fn=take_signals,
+                    capture_output=True,
+                    text=True,
+                    check=False,
+                )
+                self.assertEqual(done.stderr, "tool: stopped by SIGINT, nothing is written\n")
+                self.assertEqual(done.returncode, 128 + signal.SIGINT)
 
 
 @traced
@@ -288,13 +322,15 @@ class SignalTest(EndTest):
         """It is copied in pieces, and no further one where the program ends."""
         old, new = RealPath(str(self.scratch / "old")), RealPath(str(self.scratch / "new"))
         with open(old, "xb") as file:
-            file.truncate(4 * CHUNK)
+            file.write(b"x" * (4 * CHUNK))
         with mock.patch.object(stopping, "is_ending", side_effect=[False, True]):
             self.assertRaises(Fault, copy_bytes, old, new)
         self.assertEqual(os.path.getsize(new), 2 * CHUNK)
 
     @namespaces
     def test_while_a_replay_waits_for_later_stamps(self) -> None:
+        looking = MAKEFILE.replace("\tcp a c", "\ttest -e s; cp a c")
+        self.write({"makefile": looking})
         patch = WAITING.format(
             module="replay.stamps",
             name="stopping.pause",

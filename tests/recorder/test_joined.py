@@ -11,6 +11,7 @@ import sys
 import unittest
 from pathlib import Path
 
+from mkcheck_tools.replay.replays import processors
 from mkcheck_tools.replay.surroundings import library
 from mkcheck_tools.run import places
 from recorder.project import MKCHECK, ROOT, ProjectTest, compiled, traced
@@ -35,7 +36,35 @@ def told(own, trial, place, run, *more, **others):
 Runner.one = told
 sys.exit(program.main(sys.argv[1:]))
 """
-# The same where no run over outputs comes before the clock has gone on.
+# The same where a replay fails that waits for stamps which are later by twenty seconds.
+TOLD_AT_ONCE = TOLD.replace(
+    "Runner.one = told",
+    """\
+Runner.one = told
+from mkcheck_tools.replay import stamps
+
+pause = stamps.stopping.pause
+
+
+def short(seconds):
+    assert seconds < 5, "it waits for later stamps"
+    pause(seconds)
+
+
+stamps.LEAST = 20 * stamps.SECOND
+stamps.stopping.pause = short
+""",
+)
+# The same, which also tells the end of each run.
+TOLD_TO_THE_END = TOLD.replace(
+    "    return one(own, trial, place, run, *more, **others)",
+    """\
+    try:
+        return one(own, trial, place, run, *more, **others)
+    finally:
+        sys.stdout.write(f"{trial.recipe.target} {run} ended\\n")""",
+)
+# The first where no run over outputs comes before the clock has gone on.
 TOLD_LATE = TOLD.replace(
     "Runner.one = told", "Runner.one = told\nRunner.passes_ahead = lambda *_: False"
 )
@@ -77,6 +106,19 @@ class JoinedTest(ProjectTest):
     def test_a_recipe_that_looks_at_nothing_else_runs_twice(self) -> None:
         runs = self.runs("out: a\n\tcat a > out\n", {"a": "1\n"})
         self.assertEqual(sorted(runs), ["out again", "out damaged"])
+
+    def test_later_stamps_are_not_waited_for_where_it_looks_at_nothing_else(self) -> None:
+        """The project's folder may have changed just before."""
+        makefile = "out: a\n\tcat a > out\na: s\n\tcat s > a\n"
+        runs = self.runs(makefile, {"s": "1\n"}, TOLD_AT_ONCE)
+        of_out = [one for one in runs if one.startswith("out ")]
+        self.assertEqual(sorted(of_out), ["out again", "out damaged"])
+
+    @unittest.skipIf(processors() < 3, "one replay at a time")
+    def test_runs_go_on_beside_each_other(self) -> None:
+        """The one begins when the recipe is recorded, the other one in another second."""
+        runs = self.runs("out: a\n\tsleep 2; cat a > out\n", {"a": "1\n"}, TOLD_TO_THE_END)
+        self.assertEqual(runs[:2], ["out again", "out damaged"])
 
     def test_runs_are_repeated_apart_where_the_joined_one_shows_something(self) -> None:
         """It fails over other bytes, which a make doesn't meet unless it was stopped."""

@@ -42,6 +42,14 @@ class KeepGoingTest(ProjectTest):
         self.assertTrue(third.startswith("the recipe of c writes files outside the folder"), third)
         self.assertIn("\n\techo one; false\none\n", outcome.errors)
 
+    def test_a_file_elsewhere_that_another_recipe_writes(self) -> None:
+        """It isn't one that never changes."""
+        other = self.scratch / "other"
+        self.write({"makefile": f"all: a b\na:\n\techo > {other}\nb:\n\tcp {other} b\n"})
+        _, second = heads(self.record().errors)
+        told = "the recipe of b reads files outside the folder that the recipe of a writes: let"
+        self.assertEqual(second, f"{told} both use files in the folder")
+
     def test_what_depends_by_other_names(self) -> None:
         self.write(
             {"makefile": "all: c\nc: mid\n\techo > c\nmid: b\nb: a\n\techo > b\na:\n\tfalse\n"}

@@ -53,6 +53,24 @@ class LeftOverTest(ProjectTest):
         self.git("add", "data/two.txt")
         self.assertEqual(self.recorded().warnings(), [])
 
+    @with_git
+    def test_dependency_files_that_no_recipe_makes(self) -> None:
+        """A copy without them lacks their prerequisites."""
+        rules = "b: a\n\tcat a h > b\ndepend:\n\techo b: h > .depend\n-include .depend\n"
+        self.write({"makefile": rules, "a": "", "h": "", ".depend": "# None.\n"})
+        self.assertEqual(self.recorded().warnings(), [])
+        self.write({".depend": "# All.\nb: \\\n h\n"})
+        (said,) = self.recorded().warnings()
+        self.assertIn("the makefile includes .depend where it is there, and no recipe of", said)
+        self.git("init", "-q")
+        self.git("add", "makefile", "a", "h")
+        self.assertEqual(self.recorded().warnings(), [said])
+        self.git("add", ".depend")
+        self.assertEqual(self.recorded().warnings(), [])
+        self.write({"makefile": rules.replace("-include .d", "include .d"), "deps": "b: h\n"})
+        self.git("rm", "-q", "--cached", ".depend")
+        self.assertEqual(self.recorded().warnings(), [])
+
     def test_a_file_that_a_rule_names(self) -> None:
         self.write({"makefile": MAKEFILE.replace("list: ", "list: data/two.txt ")})
         self.age("makefile", 1000)

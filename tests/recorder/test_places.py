@@ -10,6 +10,7 @@ import sys
 import tempfile
 import time
 import unittest
+from dataclasses import replace
 from pathlib import Path
 from typing import Any
 from unittest import mock
@@ -19,6 +20,7 @@ from mkcheck_tools.replay.versions import Store
 from mkcheck_tools.replay.worlds import World
 from mkcheck_tools.run import folders, places, stopping
 from mkcheck_tools.run.folders import scratch_folder
+from mkcheck_tools.run.holders import ready
 from mkcheck_tools.run.paths import Name, RealPath, SeenPath
 from mkcheck_tools.run.places import Place
 from outside import assert_untouched, folder_outside
@@ -108,6 +110,21 @@ class PlaceTest(ProjectTest):
             (f"{seen}s", f"{seen}s"),
         ):
             self.assertEqual(self.place.real(SeenPath(path)), found)
+
+    @unittest.skipUnless(shutil.which("nsenter"), "no nsenter")
+    def test_mounts_that_are_made_once(self) -> None:
+        """Commands have copies of these, and see the folder as in other places."""
+        outside = folder_outside(self)
+        with ready(replace(self.place, shut=True)) as self.place:
+            self.assertTrue(self.place.is_ready)
+            self.test_a_folder_at_the_path_of_another()
+            ended = self.run_here(f"echo > {outside}/there")
+            self.assertNotEqual(ended.status, 0)
+            before = self.run_here("cat /proc/self/mounts").output
+            if os.getuid() == 0:
+                self.assertEqual(self.run_here(f"umount -l {self.folder}").output, "")
+            self.assertEqual(self.run_here("cat /proc/self/mounts").output, before)
+        assert_untouched(self, outside)
 
     def test_without_namespaces(self) -> None:
         kept = places.namespace

@@ -248,8 +248,10 @@ class TerminalTest(ProjectTest):
         self.assertEqual(len(lines), 4, lines)
         self.assertEqual(lines[0], "[1/2] a: echo > a; echo a long line > /"[:39])
         self.assertRegex(lines[1], r"^\[2/2 0:0\d left\] b: cp a b; echo unseen$")
-        self.assertRegex(lines[2], r"^\[replay 1/2 0:0\d left\] a$")
-        self.assertEqual(lines[3], "[replay 2/2] b")
+        # They are replayed side by side, so either may end first.
+        self.assertRegex(lines[2], r"^\[replay 1/2 0:0\d left\] [ab]$")
+        other = "b" if lines[2].endswith("a") else "a"
+        self.assertEqual(lines[3], f"[replay 2/2] {other}")
 
 
 if __name__ == "__main__":

@@ -2,6 +2,7 @@
 
 from __future__ import annotations
 
+import hashlib
 import os
 import shutil
 import subprocess
@@ -20,7 +21,13 @@ from mkcheck_tools.replay.orders import DAY
 from mkcheck_tools.replay.replays import Bench, Replay
 from mkcheck_tools.replay.runs import AGAIN, BARE, DAMAGED, ORDERED, Outcome
 from mkcheck_tools.replay.stamps import LEAST, made_since, with_other_stamps
-from mkcheck_tools.replay.versions import Store, Version, version_of
+from mkcheck_tools.replay.versions import (
+    Store,
+    Version,
+    copy_bytes,
+    digest_of_bytes,
+    version_of,
+)
 from mkcheck_tools.replay.worlds import Effects, World
 from mkcheck_tools.run import places
 from mkcheck_tools.run.paths import Name, RealPath, SeenPath, real_in
@@ -636,6 +643,17 @@ class PassTest(ReplayTest):
     def test_a_pipe_that_is_left(self) -> None:
         self.passes("out:\n\trm -f pipe; mkfifo pipe; echo > out\n")
 
+    def test_a_target_that_is_a_pipe_or_a_socket(self) -> None:
+        binding = "import socket; socket.socket(socket.AF_UNIX).bind('out')"
+        for command, what in (
+            ("rm -f out; mkfifo out", "a pipe"),
+            (f'rm -f out; {sys.executable} -c "{binding}"', "a socket"),
+        ):
+            self.write({"makefile": f"out: a\n\t{command}\n", "a": ""})
+            outcome = self.record()
+            self.assertEqual(outcome.status, 1)
+            self.assertIn(f"the recipe of out leaves {what} as out, which holds", outcome.errors)
+
     def test_files_that_are_only_touched(self) -> None:
         self.passes("out: a\n\ttest -s a || cp b out\na:\n\ttouch a\n", {"b": ""})
 
@@ -821,6 +839,22 @@ class UntracedTest(ReplayTest):
         (self.folder / "l").symlink_to("nowhere")
         self.assertEqual(version_of(real_in(folder, "l")), Version("link", 0, "nowhere"))
         self.assertIsNone(version_of(real_in(folder, "none")))
+
+    def test_holes_are_neither_read_nor_filled(self) -> None:
+        for number, (front, size, end) in enumerate(
+            [(b"a", 9 << 20, b"z"), (b"", 9 << 20, b"z"), (b"a", 9 << 20, b""), (b"", 5, b"")]
+        ):
+            one, two = (real_in(RealPath(str(self.scratch)), f"{name}{number}") for name in "ab")
+            with open(one, "wb") as file:
+                file.write(front)
+                file.truncate(size)
+                file.seek(0, os.SEEK_END)
+                file.write(end)
+            copy_bytes(one, two)
+            text = Path(one).read_bytes()
+            self.assertEqual(Path(two).read_bytes(), text)
+            self.assertEqual(digest_of_bytes(one), hashlib.sha256(text).hexdigest())
+            self.assertLessEqual(os.stat(two).st_blocks, os.stat(one).st_blocks)
 
 
 if __name__ == "__main__":

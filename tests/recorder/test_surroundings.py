@@ -14,7 +14,13 @@ from unittest import mock
 
 from mkcheck_tools.replay.surroundings import library
 from mkcheck_tools.run import places
-from mkcheck_tools.run.machines import fewer_online, has_names, processors_but_one
+from mkcheck_tools.run.machines import (
+    fewer_online,
+    has_names,
+    older_kernel,
+    other_user,
+    processors_but_one,
+)
 from mkcheck_tools.run.memory import memory
 from mkcheck_tools.run.paths import SeenPath
 from mkcheck_tools.run.terminals import has_terminals
@@ -205,6 +211,25 @@ class AmidTest(SurroundingsTest):
         ):
             self.doubt(f"out: a b\n\trm -f out; {command}\n", told, files=MANY)
 
+    def test_processes_that_write_to_what_another_one_opened(self) -> None:
+        told = "processes of the recipe of out write out side by side: which of them comes first"
+        for command in (
+            "((sleep 1; cat a) & cat b; wait) > out",
+            "ls a b | xargs -P2 -I{} sh -c 'test {} = b || sleep 1; cat {}' > out",
+            "cp a c; cp b d; (sleep 1; mv c out) & mv d out; wait",
+        ):
+            self.doubt(f"out: a b\n\trm -f out; {command}\n", told, files=MANY)
+
+    def test_processes_for_which_nobody_waits(self) -> None:
+        told = "processes of the recipe of out write out side by side: which of them comes first"
+        command = "((sleep 0.3; cat a >> out) &); sleep 1; (cat b >> out &); sleep 1"
+        self.doubt(f"out: a b\n\trm -f out; {command}\n", told, files=MANY)
+
+    def test_processes_that_write_a_file_that_is_gone_then(self) -> None:
+        told = "processes of the recipe of out write c side by side: which of them comes first"
+        command = "(sleep 1; cat a >> c) & cat b >> c; wait; cat c > out; rm c"
+        self.doubt(f"out: a b\n\t{command}\n", told, files=MANY)
+
     def test_processes_that_write_one_file_one_after_the_other(self) -> None:
         for command in (
             "cat a >> out; cat b >> out; (cat a; cat b) >> out",
@@ -212,6 +237,9 @@ class AmidTest(SurroundingsTest):
             "ls a b | xargs -P1 -I{} sh -c 'cat {} >> out'",
             "(cat a > c) & (cat b > d) & wait; cat c d > out; rm c d",
             "exec >> out; cat a; cat b >> out",
+            "(sleep 0.1 & cat a; wait; cat b) > out",
+            "(cat a & wait; cat b & wait) > out",
+            "(flock 9; cat a b > out) 9> lock & (sleep 0.1; flock 9) 9> lock; wait; rm lock",
         ):
             self.passes(f"out: a b\n\trm -f out; {command}\n", MANY)
 
@@ -291,11 +319,12 @@ class MachineTest(SurroundingsTest):
     """The machine, and the disk on which folders lie."""
 
     def test_a_recipe_that_asks_for_the_machine(self) -> None:
-        told = "on a machine with another name, fewer processors, and another limit of open files"
+        told = "on a machine with another name, an older kernel, fewer processors, and another"
         for command in (
             *(["uname -n", "hostname"] if has_names() else []),
             *(["nproc"] if processors_but_one() else []),
             *(["getconf _NPROCESSORS_ONLN"] if fewer_online() else []),
+            *(["uname -r", "uname -sr"] if older_kernel() else []),
             "ulimit -n",
         ):
             self.doubt(f"out: a\n\t({command}) > out; cat a >> out\n", told)
@@ -328,8 +357,37 @@ class MachineTest(SurroundingsTest):
         self.assertNotIn("in another language", outcome.errors)
 
     def test_recipes_that_only_use_it(self) -> None:
-        for command in ("sort a > out", "uname -srm > out", "install -m 600 a out"):
+        for command in ("sort a > out", "uname -sm > out", "install -m 600 a out"):
             self.passes(f"out: a\n\t{command}\n")
+
+    @unittest.skipUnless(other_user(), "no user namespaces")
+    def test_a_recipe_that_asks_for_the_user(self) -> None:
+        told = "by another user (LC_ALL, TZ, USER, LOGNAME, HOME, id), writes out with other"
+        for command in ("id -u", "whoami", "echo $$(id -un)", 'echo "$$HOME"', "echo ~/x"):
+            self.doubt(f"out: a\n\t{command} > out; cat a >> out\n", told)
+        for command in (
+            "if test `id -u` -eq 0; then cat a; else cat a; fi > out",
+            "tar --mtime=@0 -cf out a",
+            "cat $$HOME/../../etc/hostname a > /dev/null; cp a out",
+            "id=1; grid=2; echo $$id $$grid > out",
+        ):
+            self.passes(f"out: a\n\t{command}\n")
+
+    def test_a_recipe_that_asks_for_the_umask(self) -> None:
+        told = "the recipe of out asks for the umask: no make notices when that changes"
+        for command in ("umask > out", "m=`umask -S`; echo $$m > out", "(cat a; umask) > out"):
+            self.doubt(f"out: a\n\t{command}\n", told)
+        for command in ("umask 022; cp a out", "(umask 077; cp a out)", "echo umask > out"):
+            self.passes(f"out: a\n\t{command}\n")
+
+    def test_code_for_the_processor_that_is_here(self) -> None:
+        told = "the recipe of out compiles for the processor that is here (-march=native)"
+        files = {"a.c": "int a;\n"}
+        self.doubt("out: a.c\n\tcc -march=native -c -o out a.c\n", told, files=files)
+        self.passes("out: a.c\n\tcc -march=x86-64 -c -o out a.c\n", files)
+        self.passes("out: a.c\n\tcp a.c out # -march=native\n", files)
+        link = "a.o: a.c\n\tcc -c a.c\nout: a.o\n\tcc -march=native -shared -o out a.o\n"
+        self.passes(f"all: out\n{link}", files)
 
     def test_sizes_of_folders(self) -> None:
         with memory(SeenPath(str(self.scratch))) as found:

@@ -24,13 +24,16 @@ class Fault(Exception):
 
 class RecipeFault(Fault):
     """A recipe failed, or did what no footprint can say. `targets` names the recipes that have no
-    record for that, if the fault is that of a whole footprint file."""
+    record for that, if the fault is that of a whole footprint file. `makers` are targets that are
+    made later, and that the recipe looked for in vain."""
 
     status = 1
 
-    def __init__(self, text: str, targets: Sequence[str] = ()) -> None:
+    def __init__(
+        self, text: str, targets: Sequence[str] = (), makers: Sequence[str] = ()
+    ) -> None:
         super().__init__(text)
-        self.targets = tuple(targets)
+        self.targets, self.makers = tuple(targets), tuple(makers)
 
 
 class MakeFault(RecipeFault):
@@ -54,6 +57,9 @@ class Failure:
     make_in: str | None = None
     """The folder in which the recipe starts a make, if it does."""
 
+    makers: tuple[str, ...] = ()
+    """Targets that are made later, and that a recipe which failed looked for in vain."""
+
 
 def last_lines(text: str, log: str) -> str:
     """What is said of a recipe that failed, with the last lines of what it printed; the file `log`
@@ -74,7 +80,7 @@ def failure_of(error: Exception, target: str) -> Failure:
     if isinstance(error, MakeFault):
         return Failure(target, str(error), error.fact, error.folder)
     if isinstance(error, RecipeFault):
-        return Failure(target, str(error))
+        return Failure(target, str(error), makers=error.makers)
     text = f"the recipe of {target} can't be recorded: {mistake_of(error, 'recorder')}"
     return Failure(target, text)
 

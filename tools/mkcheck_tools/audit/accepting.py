@@ -3,10 +3,10 @@
 from __future__ import annotations
 
 from collections.abc import Iterable, Sequence
-from dataclasses import dataclass
+from dataclasses import dataclass, replace
 from fnmatch import fnmatchcase
 
-from mkcheck_tools.audit.verdicts import Finding, Item
+from mkcheck_tools.audit.verdicts import Audited, Finding, Item
 
 
 @dataclass(frozen=True)
@@ -60,3 +60,16 @@ def fitted(
             reasons.update((entry.reason, None) for entry in fitting)
         found.append(finding.with_accepted(accepted, reasons) if accepted else finding)
     return Fitted(tuple(found), tuple(entry for entry in entries if entry not in used))
+
+
+def accepting(
+    audited: Audited, entries: Sequence[Accepted]
+) -> tuple[Audited, tuple[Accepted, ...]]:
+    """An audit with what these entries accept, and the entries that fit nothing. Nobody mends what
+    is accepted, so what that hides, or a recipe that isn't judged, is a finding too."""
+    found = fitted(audited.findings, entries, audited.later)
+    taken = audited.with_findings(found.findings)
+    if not taken.later or not taken.is_settled:
+        return taken, found.unused
+    found = fitted((*audited.findings, *audited.later), entries)
+    return replace(audited, findings=found.findings, later=()), found.unused

@@ -17,6 +17,9 @@ from mkcheck_tools.audit.verdicts import Audited, Finding, Mend, Spot
 from mkcheck_tools.book.note_files import read_notes
 from mkcheck_tools.faults import Fault
 from mkcheck_tools.gnu.rule_lines import rule_line
+from mkcheck_tools.imports.desk import IMPORT
+from mkcheck_tools.imports.desk import KEPT as KEPT_FILES
+from mkcheck_tools.imports.kept import read_kept
 from mkcheck_tools.imports.told import FORMAT
 from mkcheck_tools.run.stopping import Stopped
 
@@ -35,6 +38,18 @@ def audit_of_build(asked: Asked, reader: Reader) -> Audited:
     return answer_before(asked, reader)
 
 
+def refuse_other_words(asked: Asked, reader: Reader) -> None:
+    """Raises Fault where the last import was one of other goals, macros or another makefile."""
+    kept = read_kept(os.path.join(asked.root, STORE, KEPT_FILES, IMPORT))
+    makefile = asked.makefile if reader.kind != NINJA else None
+    words = json.dumps([makefile, *asked.words])
+    if kept is not None and kept.conditions.get("words", words) != words:
+        raise Fault(
+            "the last import was asked for other goals, macros, or another makefile: leave out"
+            " --no-record"
+        )
+
+
 def answer_before(asked: Asked, reader: Reader) -> Audited:
     """The answer of the last import."""
     value = read(Path(asked.root, ANSWER))
@@ -44,6 +59,7 @@ def answer_before(asked: Asked, reader: Reader) -> Audited:
         reader.path,
         value["tool"],
         tuple(finding_of(one, reader, sources) for one in value["findings"]),
+        tuple(finding_of(one, reader, sources) for one in value.get("later", [])),
         notes=noted.notes,
         unjudged=tuple(value["unjudged"]),
         recipes=value["recipes"],
@@ -122,7 +138,7 @@ def finding_of(value: dict[str, Any], reader: Reader, sources: Sources) -> Findi
         tuple(value["targets"]),
         tuple(value["files"]),
         mends,
-    )
+    ).without_git()
 
 
 def spot_of(value: dict[str, Any], makefile: str, sources: Sources) -> Spot:

@@ -90,11 +90,19 @@ def why_left(finding: Finding, audited: Audited, sources: Sources) -> str | None
     if not finding.mends:
         return finding.advice
     for mend in finding.mends:
+        inside = next(mend.inside, None)
+        if inside is not None:
+            return (
+                f"{inside[1]} lies in {inside[0]}, which has to be there before it: let the recipe"
+                f" that makes it need that (`{inside[1]}: | {inside[0]}`), and write `mkdir -p` in"
+                " recipes that make folders"
+            )
         name = mend.spot.file
         if name in audited.generators:
             return f"{name} lacks `{mend.text}`; {audited.generators[name]}"
         if name.endswith(".ninja"):
-            return f"add to that build line: {' '.join(mend.words)}"
+            text = f"| {' '.join(mend.words)}"
+            return f"write `{text}` at the end of that build line (behind its `|`, if it has one)"
         if mend.takes_all:
             words, macro = " ".join(mend.words), mend.takes_all
             return (

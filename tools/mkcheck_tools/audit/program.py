@@ -13,7 +13,7 @@ from pathlib import Path
 from typing import Any
 
 from mkcheck_tools import VERSION
-from mkcheck_tools.audit.accepting import Accepted, fitted
+from mkcheck_tools.audit.accepting import Accepted, accepting, fitted
 from mkcheck_tools.audit.asking import (
     FORMATS,
     GITHUB,
@@ -25,8 +25,8 @@ from mkcheck_tools.audit.asking import (
 )
 from mkcheck_tools.audit.baselines import read_baseline, write_baseline
 from mkcheck_tools.audit.environments import environments_in
-from mkcheck_tools.audit.freshness import Unknown, changed_since, sentence_of
-from mkcheck_tools.audit.importing import answer_before, audit_of_build
+from mkcheck_tools.audit.freshness import Unknown, changes_since
+from mkcheck_tools.audit.importing import answer_before, audit_of_build, refuse_other_words
 from mkcheck_tools.audit.makefile_lines import Sources
 from mkcheck_tools.audit.judgements import Judgement
 from mkcheck_tools.audit.mending import mending_of, texts_of
@@ -194,16 +194,17 @@ def tell(text: str) -> None:
 def judged(asked: Asked, reader: Reader) -> Judgement:
     """Audits once."""
     audited = audited_by(asked, reader)
-    found = fitted(audited.findings, asked.accepted, audited.later)
+    entries = asked.accepted
     if asked.new_baseline is not None and not audited.refused:
+        found = fitted((*audited.findings, *audited.later), entries)
         new = [one for one in found.findings if not one.is_accepted]
         write_baseline(asked.new_baseline, asked.root, new)
         tell(f"{asked.new_baseline} is written: {counted(number_of(new), 'finding')}, accepted")
-        entries = read_baseline(asked.new_baseline, asked.root, False) or ()
-        found = fitted(audited.findings, (*asked.accepted, *entries), audited.later)
-    audited, sources = audited.with_findings(found.findings), Sources(asked.root)
+        entries = (*entries, *(read_baseline(asked.new_baseline, asked.root, False) or ()))
+    audited, unused = accepting(audited, entries)
+    sources = Sources(asked.root)
     mending = mending_of(audited, sources)
-    return Judgement(reader, audited, found.unused, sources, mending, asked.allow_unjudged)
+    return Judgement(reader, audited, unused, sources, mending, asked.allow_unjudged)
 
 
 def show_patch(judgement: Judgement) -> None:
@@ -244,8 +245,7 @@ def audited_before(asked: Asked, reader: Reader) -> Audited:
     """The audit of what was recorded before."""
     old = ""
     try:
-        changed = changed_since(asked.root, reader)
-        old = sentence_of(changed) if changed else ""
+        old = changes_since(asked.root, reader, asked.words).sentence
     except Unknown as unknown:
         if asked.fresh_only:
             raise
@@ -256,6 +256,7 @@ def audited_before(asked: Asked, reader: Reader) -> Audited:
     if reader.kind == POSIX:
         audited = judged_makefile(asked.wanted_by(reader), ())
     else:
+        refuse_other_words(asked, reader)
         audited = answer_before(asked, reader)
     if not old:
         return audited

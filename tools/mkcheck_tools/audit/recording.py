@@ -6,7 +6,7 @@ import os
 import shutil
 import sys
 import tempfile
-from collections.abc import Sequence
+from collections.abc import Collection, Sequence
 from functools import partial
 from pathlib import Path
 
@@ -35,6 +35,10 @@ LOG = os.path.join(".mkcheck", "record.log")
 KEPT = "the next audit takes what was recorded"
 # Kinds by which a recipe has no footprint, so that nothing is known of it.
 UNRECORDED = ("record", "commands")
+UNRECORDED_FIRST = (
+    "a recipe that has no record may write it: mend what wasn't judged first, and then let this one"
+    " need the target of that recipe"
+)
 
 
 def program(name: str) -> str:
@@ -135,7 +139,7 @@ def judged(wanted: Wanted, failures: Sequence[str]) -> Audited:
     return Audited(
         makefile,
         TOOL,
-        tuple(finding_of(group, makefile) for group in groups),
+        tuple(finding_of(group, makefile, missing) for group in groups),
         tuple(finding_of(group, makefile) for group in answer.later),
         notes,
         (*unjudged, *failures),
@@ -150,10 +154,12 @@ def spot_of(group: Group, makefile: str) -> Spot:
     return Spot(group.file or makefile, group.line)
 
 
-def finding_of(group: Group, makefile: str) -> Finding:
-    """A group as a finding of the audit."""
+def finding_of(group: Group, makefile: str, missing: Collection[str] = ()) -> Finding:
+    """A group as a finding of the audit. A file of which nothing is known, where recipes are
+    `missing`, is one that these write."""
     spot = spot_of(group, makefile)
     mends = tuple(mend_of(line, spot) for line in group.adds)
+    advice = UNRECORDED_FIRST if missing and group.kind == "unknown" else group.advice
     return Finding(
         group.kind,
         spot,
@@ -161,9 +167,9 @@ def finding_of(group: Group, makefile: str) -> Finding:
         group.targets,
         group.files,
         mends,
-        group.advice,
+        advice,
         also=group.also,
-    )
+    ).without_git()
 
 
 def mend_of(line: str, spot: Spot) -> Mend:

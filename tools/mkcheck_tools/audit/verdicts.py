@@ -2,12 +2,21 @@
 
 from __future__ import annotations
 
-from collections.abc import Iterable
+from collections.abc import Iterable, Iterator
 from dataclasses import dataclass, field, replace
 
+from mkcheck_tools.answers.findings import HIDDEN
 from mkcheck_tools.judge.notes import Note
+from mkcheck_tools.run.folders import is_of_versions
 
 YES, NO, NONE = "yes", "no", "none"
+# The kinds that those of other kinds hide.
+SEEN_LAST = frozenset(HIDDEN)
+# What to do where a recipe reads what git keeps.
+OF_GIT = (
+    "no prerequisite can stand for what git keeps: let a recipe that always runs write what git"
+    " says to a file where that is another text, and let this one read that file"
+)
 
 
 @dataclass(frozen=True)
@@ -49,6 +58,12 @@ class Mend:
     def text(self) -> str:
         """The line."""
         return f"{' '.join(self.targets)}: {' '.join(self.words)}"
+
+    @property
+    def inside(self) -> Iterator[tuple[str, str]]:
+        """Targets that are folders, each with a prerequisite that lies in it."""
+        for target in self.targets:
+            yield from ((target, word) for word in self.words if word.startswith(f"{target}/"))
 
     def without(self, kinds: tuple[str, ...], items: frozenset[Item]) -> Mend:
         """The same without the words that no target lacks when some findings of these kinds don't
@@ -109,6 +124,17 @@ class Finding:
     def is_accepted(self) -> bool:
         """Whether all of it was accepted."""
         return len(self.accepted) == len(self.items)
+
+    def without_git(self) -> Finding:
+        """The same without lines by which a target needs what git keeps."""
+        mends = tuple(
+            replace(mend, words=tuple(word for word in mend.words if not is_of_versions(word)))
+            for mend in self.mends
+        )
+        if mends == self.mends:
+            return self
+        left = tuple(mend for mend in mends if mend.words)
+        return replace(self, mends=left, advice=self.advice if left else OF_GIT)
 
     def with_accepted(self, accepted: Iterable[Item], reasons: Iterable[str]) -> Finding:
         """The same where some of it is accepted, and isn't mended by the lines to add."""
@@ -171,7 +197,12 @@ class Audited:
     def hides(self) -> bool:
         """Whether there may be races and stale reads that aren't seen yet."""
         kinds = {finding.kind for finding in self.findings}
-        return bool(kinds - {"race", "stale"} or self.unjudged)
+        return bool(kinds - SEEN_LAST or self.unjudged)
+
+    @property
+    def is_settled(self) -> bool:
+        """Whether only what was accepted, and what wasn't judged, hides races and stale reads."""
+        return all(set(finding.kinds) <= SEEN_LAST for finding in self.open)
 
     @property
     def answer(self) -> str:

@@ -65,4 +65,5 @@ def failure_of_value(value: dict[str, object]) -> Failure:
         str(value["text"]),
         str(value["fact"]),
         None if make is None else str(make),
+        tuple(map(str, list(value["makers"]))),  # type: ignore[call-overload]
     )

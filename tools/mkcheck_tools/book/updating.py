@@ -9,6 +9,7 @@ replayed, since the recording was stopped, is replayed as if it had just run.
 from __future__ import annotations
 
 import contextlib
+import functools
 import hashlib
 import os
 import secrets
@@ -58,8 +59,7 @@ class Conditions:
         umask = os.umask(0)
         os.umask(umask)
         own = {
-            "recorder": digest_of_program(),
-            "strace": version_of_strace(),
+            **of_programs(),
             "user": f"{os.geteuid()} {os.getegid()}",
             "umask": f"{umask:o}",
         }
@@ -299,6 +299,19 @@ def drop_damaged(folder: str) -> None:
         path = RealPath(os.path.join(folder, name))
         if not os.path.isfile(path) or digest_of(path) != name:
             os.unlink(path)
+
+
+@functools.cache
+def of_programs() -> Mapping[str, str]:
+    """The conditions that tell by which programs a recording is made."""
+    return {"recorder": digest_of_program(), "strace": version_of_strace()}
+
+
+def probe_programs() -> None:
+    """Finds out the versions of these programs, so that they are known later. Where that fails, it
+    fails then again."""
+    with contextlib.suppress(Exception):
+        of_programs()
 
 
 def digest_of_program() -> str:

@@ -15,6 +15,8 @@ from mkcheck_tools.run.folders import is_plain_path
 JOINED = re.compile(r"\\\n[ \t]*")
 COMMENT = re.compile(r"(?<!\\)#.*")
 INCLUDE = re.compile(r"[ ]*-?include[ \t]+(.*)")
+# A line of a dependency file: a rule without a recipe, or nothing.
+DEPENDENCIES = re.compile(r"(?:[^\s:=#$][^:=#$]*:(?![:=])[^=#$;]*|\s*)$")
 # At this level a text may include none; the makefile is at level 0.
 LEVELS = 16
 
@@ -24,7 +26,8 @@ class Reading:
     """Reads the texts of a makefile in their order, and notes the files that they include."""
 
     prober: Prober
-    found: dict[str, None] = field(default_factory=dict)
+    found: dict[str, bool] = field(default_factory=dict)
+    """The names, each with whether make does without such a file."""
 
     def read(self, name: str, before: str, level: int = 0) -> None:
         """Reads a text, where that of the makefile goes so far, `before`."""
@@ -33,14 +36,14 @@ class Reading:
             match = INCLUDE.fullmatch(COMMENT.sub("", line))
             if match is not None and level < LEVELS:
                 text = before + "".join(f"{line}\n" for line in lines[:number])
-                self.include(match[1], text, level + 1)
+                self.include(match[1], text, level + 1, line.lstrip().startswith("-"))
 
-    def include(self, words: str, before: str, level: int) -> None:
+    def include(self, words: str, before: str, level: int, is_optional: bool) -> None:
         """Reads the files that an include line names."""
         if "$" in words:
             words = self.prober.read_behind(before, words)
         for name in filter(is_plain_path, words.split()):
-            self.found.setdefault(name)
+            self.found[name] = is_optional and self.found.get(name, True)
             self.read(name, before, level)
             before += f"-include {escaped(name)}\n"
 
@@ -60,6 +63,36 @@ def included(prober: Prober) -> list[str]:
     reading = Reading(prober)
     reading.read(prober.makefile, "")
     return list(reading.found)
+
+
+def optional_dependencies(prober: Prober) -> list[str]:
+    """The dependency files that the makefile includes where they are there."""
+    reading = Reading(prober)
+    reading.read(prober.makefile, "")
+    names = [name for name, is_optional in reading.found.items() if is_optional]
+    return [name for name in names if is_telling(os.path.join(prober.folder, name))]
+
+
+def is_dependency_file(path: str) -> bool:
+    """Whether a makefile has rules without recipes and nothing else, so that it only adds
+    prerequisites."""
+    lines = lines_without_comments(path)
+    return lines is not None and all(map(DEPENDENCIES.match, lines))
+
+
+def is_telling(path: str) -> bool:
+    """Whether it is a dependency file that has a rule."""
+    return is_dependency_file(path) and any(map(str.strip, lines_without_comments(path) or ()))
+
+
+def lines_without_comments(path: str) -> list[str] | None:
+    """The lines of a text without those that are comments; None where it can't be read."""
+    try:
+        with open(path, encoding="utf-8", errors="surrogateescape") as file:
+            text = file.read()
+    except OSError:
+        return None
+    return re.sub(r"(?m)^#.*$", "", text.replace("\\\n", " ")).split("\n")
 
 
 def made_first(prober: Prober) -> list[str]:

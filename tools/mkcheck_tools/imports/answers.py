@@ -7,6 +7,8 @@ from itertools import takewhile
 from mkcheck_tools.imports.builds import Build
 from mkcheck_tools.imports.grouping import grouped
 from mkcheck_tools.imports.judging import BuildVerdict
+from mkcheck_tools.imports.known_names import KnownNames
+from mkcheck_tools.imports.plain import names_of
 from mkcheck_tools.imports.recorded import Recorded
 
 SHOWN_AT_MOST = 8
@@ -20,8 +22,9 @@ def answer_of(
     """What is printed: the answer, the findings as sentences, and all on which the answer rests."""
     lines = [headline(build, recorded.doubts, verdict, sentences)]
     lines += ["", *sentences] if sentences else []
+    known = KnownNames.of(build, names_of(build))
     if build.problems:
-        texts = grouped(build.problems, build.subjects)
+        texts = list(map(known.replace, grouped(build.problems, build.subjects)))
         lines += ["", "Not judged:", *(f"    {text}" for text in texts)]
     if build.unjudged:
         lines += [
@@ -29,8 +32,9 @@ def answer_of(
             "Of a recipe that isn't judged it is presumed that it writes its targets alone.",
         ]
     if recorded.warnings:
+        texts = list(dict.fromkeys(map(known.replace, recorded.warnings)))
         lines += ["", "What the recorder says:"]
-        lines += [f"    {text}" for text in shown(list(recorded.warnings))]
+        lines += [f"    {text}" for text in shown(texts)]
     if build.given:
         lines += [
             "",
@@ -44,7 +48,7 @@ def answer_of(
             f" ({counted(len(build.unwritten), 'target')}): {', '.join(shown(build.unwritten))}",
         ]
     if build.notes:
-        texts = grouped(build.notes, build.subjects)
+        texts = list(map(known.replace, grouped(build.notes, build.subjects)))
         lines += ["", "Of the translation:", *(f"    {text}" for text in shown(texts))]
     return lines
 

@@ -12,8 +12,9 @@ MAKEFILES = ("GNUmakefile", "makefile", "Makefile")
 NINJA_FILE = "build.ninja"
 # What a folder of a configured build holds, beside the build itself.
 CONFIGURED = ("CMakeCache.txt", os.path.join("meson-private", "coredata.dat"))
-# The line of CMake's cache that names the folder of the sources.
+# The lines of CMake's cache that name the folder of the sources, and its own.
 HOME = re.compile(r"^CMAKE_HOME_DIRECTORY:INTERNAL=(.+)$", re.MULTILINE)
+OWN = re.compile(r"^CMAKE_CACHEFILE_DIR:INTERNAL=(.+)$", re.MULTILINE)
 
 
 def first_of(folder: Path) -> str | None:
@@ -41,12 +42,39 @@ def configured_in(root: Path) -> str:
 
 def refuse_build_folder(root: Path) -> None:
     """Refuses the build folder of CMake below a project's: recipes read the sources above it."""
-    cache = root / CONFIGURED[0]
-    told = HOME.search(cache.read_text(errors="replace")) if cache.is_file() else None
-    home = Path(told[1]).resolve() if told else root
+    home = told_by_cmake(root, HOME) or root
     if home in root.resolve().parents:
         below = root.resolve().relative_to(home)
         raise Fault(
             f"{root} is a build folder, whose sources lie in {home}: give that folder with -C, and"
             f" this one with -S {below}"
         )
+
+
+def refuse_moved(place: Path) -> None:
+    """Refuses a folder that CMake configured at another path, or from sources that are gone: its
+    makefiles name these paths."""
+    own, home = told_by_cmake(place, OWN), told_by_cmake(place, HOME)
+    if own is None or home is None:
+        return
+    if own == place.resolve():
+        if not home.is_dir():
+            raise Fault(
+                f"CMake configured {place} for the sources in {home}, which isn't there any more:"
+                f" remove {place / CONFIGURED[0]}, and run `cmake -S DIR -B {place}` for the folder"
+                " DIR that they lie in now"
+            )
+        return
+    sources = Path(os.path.normpath(place.resolve() / os.path.relpath(home, own)))
+    known = sources if (sources / "CMakeLists.txt").is_file() else home
+    raise Fault(
+        f"CMake configured {place} as {own}, and it was moved or copied since, so its build names"
+        f" other folders: remove {place / CONFIGURED[0]}, and run `cmake -S {known} -B {place}`"
+    )
+
+
+def told_by_cmake(place: Path, line: re.Pattern[str]) -> Path | None:
+    """The folder that a line of CMake's cache in a folder names; None where there is none."""
+    cache = place / CONFIGURED[0]
+    told = line.search(cache.read_text(errors="replace")) if cache.is_file() else None
+    return None if told is None else Path(told[1]).resolve()

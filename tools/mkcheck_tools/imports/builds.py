@@ -133,6 +133,9 @@ class Node:
     """Which of the build's makes has the recipe. One make looks at a file that another one writes
     only when it begins."""
 
+    also_makes: list[str] = field(default_factory=list)
+    """Further files that the tool knows its recipe to make, whether the goals reach them or not."""
+
     piece_of: str = ""
     """The node of which this one is a part: its commands are some of that node's recipe."""
 
@@ -210,6 +213,9 @@ class Build:
     old_dependencies: set[str] = field(default_factory=set)
     """Dependency files that are there before the build."""
 
+    unsure_dependencies: set[str] = field(default_factory=set)
+    """Those of them that a fresh copy of the project may lack, and without which make does."""
+
     tried: set[str] = field(default_factory=set)
     """Recipes and folders, as `RECIPE FOLDER`: the recipe does the same without the folder."""
 
@@ -231,6 +237,10 @@ class Build:
     unaware: dict[str, list[str]] = field(default_factory=dict)
     """Targets that the tool doesn't make again when a file changes on which their commands depend,
     as the tool itself showed: for each the target, the file, and what differs."""
+
+    waited: dict[str, list[str]] = field(default_factory=dict)
+    """Recipes at which a build from nothing fails, since they don't wait for what others make: for
+    each the sentence, and the names of these targets."""
 
     failed: str = ""
     """Where this isn't empty, a part of the build fails, so it can't be recorded: the sentence."""

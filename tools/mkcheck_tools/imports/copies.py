@@ -116,6 +116,22 @@ class Copies:
         self.made.clear()
         self.used = ""
 
+    def renew(self, word: str) -> None:
+        """Removes the copy of a word, which is made anew where it is asked for."""
+        if word not in self.made:
+            return
+        shutil.rmtree(self.place(word).folder, ignore_errors=True)
+        self.made.discard(word)
+        self.used = "" if self.used == word else self.used
+
+    def rename(self, word: str, other: str) -> None:
+        """Lets the copy of a word be that of another one, which isn't there yet."""
+        folder = self.place(word).folder
+        os.makedirs(os.path.dirname(self.kept(other)), exist_ok=True)
+        os.rename(folder, self.kept(other))
+        self.made ^= {word, other}
+        self.used = "" if self.used == word else self.used
+
     def take_away(self, folder: str, names: set[str]) -> None:
         """Takes files and folders away from a copy; folders only where they are empty then."""
         for name in sorted(names, key=len, reverse=True):

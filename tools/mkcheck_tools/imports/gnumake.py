@@ -27,6 +27,7 @@ from mkcheck_tools.faults import Fault
 from mkcheck_tools.imports.database import OWN, Database, Shown, joined
 from mkcheck_tools.imports.transcripts import BEGINNING, MARK, Transcript, marking, read_transcript
 from mkcheck_tools.run.places import Place, run
+from mkcheck_tools.trace.tracing import UNCACHED
 
 # Variables that make and the shell set for each process, and those of this program.
 OF_THE_TOOL = re.compile(
@@ -45,6 +46,8 @@ HARMLESS = re.compile(
     r"|--keep-going|--(jobs|output-sync|trace|debug)\S*|-[jlO]\S*|MAKE=.*|IFS=.*",
     re.DOTALL,
 )
+# An option that tells how many jobs a make has, perhaps behind others without a value.
+JOBS = re.compile(r"(?:-[^-CfIoWEl=]*?j|--jobs=?)(\d*)")
 # Options by which a make runs nothing, or takes files for up to date or for new.
 PASSING = re.compile(
     r"-[BbdeikmprRsSvw]*[tqnoW].*|--(touch|question|just-print|dry-run|recon|old-file|assume-old"
@@ -100,7 +103,12 @@ if [ -d "$D_/lacks" ]; then
     [ ! -f "$own_" ] || cp "$own_" "$MKIMPORT_LACKS"
     hide "$above_"; show "$MKIMPORT_LACKS"
 fi
-@MAKE@ --no-print-directory "$@" > "$D_/$n_.out" 2>> "$MKIMPORT_ERR"
+# One job, whatever its words say: with several a race could show, and outputs come mixed. Behind
+# `--` there are no options.
+case " $* " in
+(*" -- "*) @MAKE@ --no-print-directory "$@" > "$D_/$n_.out" 2>> "$MKIMPORT_ERR" ;;
+(*) @MAKE@ --no-print-directory "$@" -j1 > "$D_/$n_.out" 2>> "$MKIMPORT_ERR" ;;
+esac
 s_=$?
 if [ -d "$D_/lacks" ]; then
     hide "$MKIMPORT_LACKS"; show "$above_"
@@ -136,6 +144,22 @@ class Start:
 
 
 @dataclass(frozen=True)
+class Wait:
+    """A target of the makes in a folder that is to wait for another one, which its makefile doesn't
+    say."""
+
+    folder: str
+    target: str
+    maker: str
+
+    @property
+    def text(self) -> str:
+        """What tells makes so."""
+        rule = f"$(eval {self.target}: | {self.maker})"
+        return f"$(if $(filter {self.folder},$(CURDIR)),{rule})\n"
+
+
+@dataclass(frozen=True)
 class Question:
     """What a make that is started is to do and to show."""
 
@@ -150,6 +174,9 @@ class Question:
 
     lacks: Mapping[str, Sequence[str]] = field(default_factory=dict)
     """By calls of make the paths of files that stand there while that make runs, empty and old."""
+
+    waits: Sequence[Wait] = ()
+    """What waits for something else than makefiles say."""
 
 
 @dataclass
@@ -197,6 +224,16 @@ class Make:
         return flags is not None and "i" in flags.group()
 
     @functools.cached_property
+    def has_one_job(self) -> bool:
+        """Whether it, or else the nearest one above it that was told how many jobs to have, has one
+        alone. The make that is started first is told that by the user, who may say another number.
+        """
+        if self.parent is None:
+            return False
+        jobs = jobs_of(self.words)
+        return self.parent.has_one_job if jobs is None else jobs == 1
+
+    @functools.cached_property
     def key(self) -> tuple[object, ...]:
         """Makes with one key know the same rules and macros."""
         options = tuple(word for word in options_of(self.words) if not is_harmless(word))
@@ -229,6 +266,21 @@ def option_words(words: list[str]) -> list[list[str]]:
             at += 1
         if option[0].startswith("-") or "=" in option[0]:
             found.append(option)
+    return found
+
+
+def jobs_of(words: Sequence[str]) -> int | None:
+    """How many jobs a make has by its words: 0 where these are as many as there can be, and None
+    where no word tells that."""
+    found = None
+    waiting = False
+    for word in words:
+        if waiting and word.isdigit():
+            found = int(word)
+        match = JOBS.fullmatch(word)
+        waiting = match is not None and not match.group(1)
+        if match is not None:
+            found = int(match.group(1) or 0)
     return found
 
 
@@ -266,11 +318,9 @@ def version_of(program: str) -> str:
 
 def outer_environment() -> dict[str, str]:
     """The environment in which the build tool is started."""
-    return {
-        name: value
-        for name, value in os.environ.items()
-        if name not in ("MAKEFLAGS", "MAKELEVEL", "MFLAGS", "MAKEOVERRIDES", "GNUMAKEFLAGS", "IFS")
-    }
+    left_out = ("MAKEFLAGS", "MAKELEVEL", "MFLAGS", "MAKEOVERRIDES", "GNUMAKEFLAGS", "IFS")
+    kept = {name: value for name, value in os.environ.items() if name not in left_out}
+    return {**kept, **UNCACHED}
 
 
 def run_make(start: Start, place: Place, scratch: str, asked: Question) -> list[Make]:
@@ -303,7 +353,8 @@ def run_make(start: Start, place: Place, scratch: str, asked: Question) -> list[
     how = ["--trace"] if asked.is_real else ["-n", "-k", "--trace"]
     # Where a make has several jobs, what recipes print doesn't come between a mark and its command.
     own = [*how, "-p", "-j1", "-Otarget", f"MAKE={wrapper}"]
-    own += [marking(list(asked.watched), asked.is_real), f"--eval={EVAL}"]
+    waits = "".join(wait.text for wait in asked.waits)
+    own += [marking(list(asked.watched), asked.is_real), f"--eval={waits}{EVAL}"]
     ended = run(start.command(*own, program=wrapper), place, environment, asked.seconds)
     if ended.timed_out:
         raise Fault(f"GNU make didn't end in {asked.seconds:g} seconds")
@@ -311,7 +362,11 @@ def run_make(start: Start, place: Place, scratch: str, asked: Question) -> list[
     if count == 0:
         raise Fault(f"GNU make could not be started: {last_words(ended.output)}")
     watched = list(asked.watched)
-    makes = [read_make(scratch, number, set(own), watched) for number in range(1, count + 1)]
+    words_of_first = [set(own), *([set[str]()] * (count - 1))]
+    makes = [
+        read_make(scratch, number, left_out, watched)
+        for number, left_out in enumerate(words_of_first, 1)
+    ]
     attach(makes, scratch)
     return makes
 

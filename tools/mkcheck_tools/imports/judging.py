@@ -5,12 +5,13 @@ from __future__ import annotations
 import json
 import os
 import re
-from collections.abc import Iterable, Mapping
+from collections.abc import Iterable, Iterator, Mapping
 from dataclasses import dataclass, field, replace
+from itertools import product
 from pathlib import Path
 
 from mkcheck_tools.answers.checkers import Checker, Reply
-from mkcheck_tools.answers.findings import Answer, answer_of, refusal_by
+from mkcheck_tools.answers.findings import HIDDEN, Answer, Group, answer_of, refusal_by
 from mkcheck_tools.answers.graphs import read_graph
 from mkcheck_tools.answers.refusals import CYCLE, NO_RULE, Refusal
 from mkcheck_tools.book.answer_files import RecordingAnswer, read_answer
@@ -19,11 +20,13 @@ from mkcheck_tools.book.formats import first
 from mkcheck_tools.book.note_files import Noted, read_notes, text_of_notes
 from mkcheck_tools.book.paths import path_of_notes
 from mkcheck_tools.book.states import State
-from mkcheck_tools.faults import Failure, Fault, last_lines
+from mkcheck_tools.faults import FAILED, Failure, Fault, last_lines
 from mkcheck_tools.imports.alike import HANDING_ON, passing_through
 from mkcheck_tools.imports.builds import Build, Kind, Node
 from mkcheck_tools.imports.copies import Tail, run_here
+from mkcheck_tools.imports.known_names import KnownNames
 from mkcheck_tools.imports.plain import Names, goal_of, makefile, names_of, order_name
+from mkcheck_tools.judge.leftovers import note_of_unmade
 from mkcheck_tools.judge.notes import Kind as NoteKind
 from mkcheck_tools.judge.notes import Note
 from mkcheck_tools.run.places import Place
@@ -35,6 +38,8 @@ FIRST = "makefile.first"
 LATER = "makefile"
 # A makefile with the prerequisites that both the first build and later ones have. Only races count.
 BETWEEN = "makefile.between"
+# The makefile that is recorded, where recipes in it wait for what they lack.
+WAITING = "makefile.waiting"
 NODES_AT_MOST = 4096
 # This many lines of the recorder are shown where it ends without an answer.
 LINES_SHOWN = 20
@@ -70,8 +75,13 @@ class BuildVerdict:
     """The targets whose recipes it is about."""
 
     refused: str = ""
-    hides: bool = False
-    """Whether mkcheck sees races and stale reads that these findings hide."""
+    later: list[BuildFinding] = field(default_factory=list)
+    """Races and stale reads that these findings hide, as far as mkcheck sees them."""
+
+    @property
+    def hides(self) -> bool:
+        """Whether mkcheck sees races and stale reads that these findings hide."""
+        return bool(self.later)
 
     @property
     def is_yes(self) -> bool:
@@ -98,6 +108,11 @@ class Judge:
     def names(self) -> Names:
         """The names of the nodes in the makefiles."""
         return names_of(self.build)
+
+    @property
+    def known(self) -> KnownNames:
+        """What names targets as people know them."""
+        return KnownNames.of(self.build, self.names())
 
     def path(self, name: str) -> str:
         """A file of the output."""
@@ -202,11 +217,14 @@ class Judge:
 
     def refusal(self, refusal: Refusal, name: str) -> str:
         """A refusal of mkcheck as a sentence."""
+        known = self.known
         if refusal.name == CYCLE:
-            return f"the prerequisites of the build form a cycle: {' '.join(refusal.names)}"
+            names = known.replace(" ".join(refusal.names))
+            return f"the prerequisites of the build form a cycle: {names}"
         if refusal.name == NO_RULE:
-            return f"nothing makes {refusal.names[0]}, and it isn't there"
-        return f"mkcheck doesn't read {name}, the translated makefile: {refusal.text}"
+            return f"nothing makes {known.replace(refusal.names[0])}, and it isn't there"
+        text = known.replace(refusal.text)
+        return f"mkcheck doesn't read {name}, the translated makefile: {text}"
 
     def checker(self, name: str, book: str) -> Checker:
         """What asks mkcheck about one of the makefiles, with these footprints."""
@@ -221,13 +239,21 @@ class Judge:
         """Asks mkcheck, in the folder of the project."""
         return Checker(self.mkcheck, self.place, environment=self.environment).run(*words)
 
-    def record(self, recorder: list[str], first: bool, book: str) -> tuple[RecordingAnswer, str]:
+    def record(
+        self, recorder: list[str], first: bool, book: str, waits: Mapping[str, Iterable[str]]
+    ) -> tuple[RecordingAnswer, str]:
         """Records the build, as far as it has changed since the last recording whose state lies
-        beside the footprints; gives what it came to, and what the recorder said."""
+        beside the footprints; gives what it came to, and what the recorder said. The targets in
+        `waits` wait for further ones."""
         written = f"{book}.answer"
         for path in (book, written):
             Path(path).unlink(missing_ok=True)
         name = FIRST if first else LATER
+        if waits:
+            text = Path(self.path(name)).read_bytes().decode("utf-8", "surrogateescape")
+            lines = (f"{target}: {' '.join(makers)}\n" for target, makers in waits.items())
+            name = WAITING
+            write(self.path(name), text + "".join(lines))
         words = [*recorder, "-f", self.path(name), "-C", self.place.seen, "--update", book]
         words += ["--answer", written]
         status, said, errors = run_here(self.place, words, self.environment, self.tail)
@@ -236,11 +262,14 @@ class Judge:
             raise RecordingFault("\n".join([end, *(said + errors).splitlines()[-LINES_SHOWN:]]))
         answer = read_answer(written)
         if not answer.written:
-            own = [
-                sentence(one, "") if one.make_in is not None else one.text
+            known = self.known
+            failures = [
+                replace(one, text=sentence(one, "") if one.make_in is not None else one.text)
                 for one in answer.unrecorded
             ]
-            raise RecordingFault(answer.fault or "\n".join(dict.fromkeys(own)))
+            own = [known.replace(one.text) for one in failures]
+            text = answer.fault or "\n".join(dict.fromkeys(own))
+            raise RecordingFault(text, failures)
         return answer, errors
 
     def looks(self, state: State, folders: set[str]) -> dict[str, list[str]]:
@@ -267,10 +296,13 @@ class Judge:
 
     def notes(self, left_out: frozenset[NoteKind], trusted: frozenset[str]) -> Noted:
         """The notes of the recorder, without those of some kinds, and on recipes that the importer
-        trusts by itself."""
+        trusts by itself; and a note on dependency files that nothing makes."""
         noted = read_notes(self.path(BOOK))
         kept = [note for note in noted.notes if note.kind not in left_out]
-        return Noted(tuple(one for one in kept if one.target not in trusted or not is_trust(one)))
+        kept = [one for one in kept if one.target not in trusted or not is_trust(one)]
+        unmade = sorted(self.build.unsure_dependencies - set(self.read_book().writers))
+        own = [note_of_unmade(unmade)] if unmade else []
+        return Noted(tuple(dict.fromkeys([*kept, *own])))
 
     def unrecorded(self, failures: Iterable[Failure], log: str) -> dict[str, str]:
         """Of each recipe that has no record what the recorder says of it, in a line, and the last
@@ -278,7 +310,8 @@ class Judge:
         back = {word: name for name, word in self.names().written.items() if "\0" not in name}
         found: dict[str, str] = {}
         for failure in failures:
-            found.setdefault(back.get(failure.target, failure.target), sentence(failure, log))
+            name = back.get(failure.target, failure.target)
+            found.setdefault(name, self.known.replace(sentence(failure, log)))
         return {name: text for name, text in found.items() if name in self.build.nodes}
 
     def complete(self, footprints: Footprints, first: bool, unrecorded: Mapping[str, str]) -> None:
@@ -340,28 +373,39 @@ class Judge:
         """Checks later builds, and the first one where its makefile is another one. What recipes
         read that aren't judged is no finding."""
         verdict = self.check_all(first)
-        verdict.findings = [
-            found
-            for found in verdict.findings
-            if found.kind not in ("stale", "race") or found.words[0] not in self.build.unjudged
-        ]
+        verdict.findings = self.of_judged(verdict.findings)
+        verdict.later = self.of_judged(verdict.later)
         return verdict
+
+    def of_judged(self, findings: Iterable[BuildFinding]) -> list[BuildFinding]:
+        """Findings without the reads of recipes that aren't judged."""
+        return [
+            found
+            for found in findings
+            if found.kind not in HIDDEN or found.words[0] not in self.build.unjudged
+        ]
 
     def check_all(self, first: bool) -> BuildVerdict:
         """All findings of later builds and of the first one."""
-        later = self.check_one(LATER)
-        later.findings += self.check_between(later)
+        footprints = self.read_book()
+        later = self.check_one(LATER, footprints)
+        later.findings += self.check_between(later, footprints)
         later.findings += self.unaware(later)
-        later.findings += self.check_through(later)
+        later.findings += self.check_through(later, footprints)
         if not first:
             later.findings = [replace(found, in_first=True) for found in later.findings]
             return later
-        one = self.check_one(FIRST)
+        one = self.check_one(FIRST, footprints)
         later.refused = later.refused or one.refused
         kept = [found for found in one.findings if found.kind != "stale"]
         both = {(found.kind, found.words) for found in later.findings}
         verdict = BuildVerdict(later.recipes, later.reads, refused=later.refused)
-        verdict.hides, verdict.targets = later.hides, later.targets
+        hidden = {found.words for found in later.later}
+        races = [found for found in one.later if found.kind == "race"]
+        verdict.later = [*later.later, *(found for found in races if found.words not in hidden)]
+        verdict.targets = later.targets | one.targets
+        if one.targets - later.targets:
+            verdict.recipes, verdict.reads = self.counts(verdict.targets, footprints)
         for found in kept:
             in_later = (found.kind, found.words) in both
             verdict.findings.append(replace(found, in_first=True, in_later=in_later))
@@ -377,7 +421,7 @@ class Judge:
         pairs = [(name, file) for name, file, _ in self.build.unaware.values()]
         return [BuildFinding(UNAWARE, words, False, True) for words in pairs if words not in known]
 
-    def check_between(self, later: BuildVerdict) -> list[BuildFinding]:
+    def check_between(self, later: BuildVerdict, footprints: Footprints) -> list[BuildFinding]:
         """Races of later builds that only prerequisites of the first one, or late ones, hide."""
         gone = {name: node.first_only for name, node in self.build.nodes.items() if node.first_only}
         if not gone:
@@ -385,16 +429,16 @@ class Judge:
         text = makefile(without_first_only(self.build), False, self.names())
         write(self.path(BETWEEN), text)
         known = {found.words for found in later.findings if found.kind == "race"}
-        races = [found for found in self.check_one(BETWEEN).findings if found.kind == "race"]
+        found_then = self.check_one(BETWEEN, footprints).findings
+        races = [found for found in found_then if found.kind == "race"]
         return [found for found in races if found.words not in known]
 
-    def check_through(self, later: BuildVerdict) -> list[BuildFinding]:
+    def check_through(self, later: BuildVerdict, footprints: Footprints) -> list[BuildFinding]:
         """Stale reads in builds in which files change that recipes leave alike where nothing did.
 
         `alike` lets what needs such a file never run again by it. Here it runs again when what the
         file is made from changes.
         """
-        footprints = self.read_book()
         build = passing_through(self.build, footprints)
         if build is None:
             return []
@@ -404,13 +448,14 @@ class Judge:
         written.update((order_name(name), f"{name}@order") for name in more)
         write(self.path(THROUGH), makefile(build, True, Names(written)))
         known = {found.words for found in later.findings if found.kind == "stale"}
-        stale = [found for found in self.check_one(THROUGH).findings if found.kind == "stale"]
+        found_then = self.check_one(THROUGH, footprints).findings
+        stale = [found for found in found_then if found.kind == "stale"]
         return [found for found in stale if found.words not in known]
 
-    def check_one(self, name: str) -> BuildVerdict:
-        """Checks one of the makefiles."""
+    def check_one(self, name: str, footprints: Footprints) -> BuildVerdict:
+        """Checks one of the makefiles, over footprints that were written."""
         answer = self.answer(name)
-        verdict = BuildVerdict(answer.recipes, answer.reads, hides=bool(answer.later))
+        verdict = BuildVerdict(answer.recipes, answer.reads)
         names = self.names()
         back = {word: node for node, word in names.written.items() if "\0" not in node}
         if answer.refusal is not None:
@@ -421,23 +466,43 @@ class Judge:
             lacks = needs.get(one.number, "")
             found = BuildFinding(one.kind, words, False, True, back.get(lacks, lacks))
             verdict.findings.append(found)
-        records = read_footprints(self.path(BOOK)).records.values()
-        reached = {names[name] for name in self.build.reached(True)}
-        used = [record for record in records if record.target in reached]
-        verdict.targets = {back.get(record.target, record.target) for record in used}
-        if answer.findings:
-            verdict.recipes, verdict.reads = len(used), sum(len(record.reads) for record in used)
-        # What only hands a file on is no recipe of the project.
-        own = [
-            self.build.nodes[name] for name in self.build.reached(True) if name in self.build.nodes
+        writers = footprints.writers if answer.later else {}
+        verdict.later = [
+            found for group in answer.later for found in hidden_in(group, writers, back)
         ]
-        verdict.recipes -= sum(node.commands == [HANDING_ON] for node in own)
+        reached = self.build.reached(name != FIRST)
+        verdict.targets = {one for one in reached if one in footprints.records}
+        if answer.findings:
+            verdict.recipes, verdict.reads = self.counts(verdict.targets, footprints)
+        else:
+            verdict.recipes -= self.handing_on(verdict.targets)
         return verdict
+
+    def counts(self, targets: set[str], footprints: Footprints) -> tuple[int, int]:
+        """How many recipes these targets have, and how many files they read."""
+        reads = sum(len(footprints.records[name].reads) for name in targets)
+        return len(targets) - self.handing_on(targets), reads
+
+    def handing_on(self, targets: set[str]) -> int:
+        """How many of these only hand a file on, and so are no recipes of the project."""
+        nodes = (self.build.nodes[name] for name in targets if name in self.build.nodes)
+        return sum(node.commands == [HANDING_ON] for node in nodes)
 
     @property
     def goal(self) -> str:
         """The goal of the makefiles."""
         return goal_of(self.build, self.names())
+
+
+def hidden_in(
+    group: Group, writers: Mapping[str, list[str]], back: Mapping[str, str]
+) -> Iterator[BuildFinding]:
+    """The findings of a group that others hide. No file in them has several writers."""
+    for kind, name, file in product(group.kinds, group.targets, group.files):
+        reader, read = back.get(name, name), back.get(file, file)
+        words = (reader, read) if kind == "stale" else (reader, *writers.get(read, []), read)
+        lacks = next(iter(group.lacking.get(name, [])), "")
+        yield BuildFinding(kind, words, False, True, back.get(lacks, lacks))
 
 
 def is_trust(note: Note) -> bool:
@@ -476,7 +541,17 @@ def sentence(failure: Failure, log: str) -> str:
 
 
 class RecordingFault(Fault):
-    """The recording failed; the text is what the recorder said."""
+    """The recording failed; the text is what the recorder said, and `failures` say why recipes have
+    no record, where it told that."""
+
+    def __init__(self, text: str, failures: Iterable[Failure] = ()) -> None:
+        super().__init__(text)
+        self.failures = tuple(failures)
+
+    @property
+    def is_of_command(self) -> bool:
+        """Whether a command failed, so that the build tool may fail too."""
+        return any(FAILED in one.text for one in self.failures)
 
 
 def write(path: str, text: str) -> None:

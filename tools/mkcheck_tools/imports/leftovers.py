@@ -8,23 +8,26 @@ others are outputs of an earlier build, which a clean build makes anew: these ar
 from __future__ import annotations
 
 import os
+import re
 import subprocess
 from collections.abc import Callable, Container, Iterable, Mapping, Sequence
 from dataclasses import dataclass, replace
 from pathlib import Path
 
 from mkcheck_tools.faults import Fault
+from mkcheck_tools.gnu.remade import is_telling
 from mkcheck_tools.imports.answers import counted
 from mkcheck_tools.imports.builds import Build, path_name
 from mkcheck_tools.imports.copies import Copies, listing
 from mkcheck_tools.imports.gnumake import Make, last_words, option_words
 from mkcheck_tools.imports.inherited import reached
-from mkcheck_tools.imports.rereading import is_dependency_file
 from mkcheck_tools.run.places import namespace
 
 CLEAN = "clean"
 # How long it may take.
 CLEAN_SECONDS = 60
+# A line of a makefile that includes files only where they are there.
+OPTIONAL = re.compile(r"(?m)^ *(?:-include|sinclude)\b")
 # The files of a release are made within that time, in nanoseconds.
 A_DAY = 86_400 * 10**9
 # Cleans in a copy: runs make with these words, and ends it after this number of seconds.
@@ -60,18 +63,25 @@ class Leftovers:
     dependencies: frozenset[str] = frozenset()
     """Dependency files that say something before the build."""
 
+    unsure: frozenset[str] = frozenset()
+    """Those of them without which make does, and of which git doesn't tell whose they are."""
+
     def found(self, shown: list[Make], words: Sequence[str], run: Cleaning) -> Leftovers:
         """The same, with what an earlier build left.
 
         That is what `make clean` removes in a copy, by `run`, with the options among the words, but
         for files of a release. Where there is no such rule, or it fails, it is each target that git
-        doesn't track.
+        doesn't track. A dependency file that git doesn't track, and without which make does, is no
+        part of a fresh clone either.
         """
         found = targets_there(self.copies.seen, shown, self.there)
-        tracked = tracked_files(self.copies.root) if found else None
+        optional = self.optional(shown)
+        tracked = tracked_files(self.copies.root) if found or optional else None
         found -= tracked or frozenset()
+        unsure = frozenset(optional) if tracked is None else frozenset()
+        optional = set() if tracked is None else optional - tracked
         if not found:
-            return replace(self, tracked=tracked)
+            return replace(self, tracked=tracked, hidden=frozenset(optional), unsure=unsure)
         is_cleaned, not_cleaned = False, ""
         if has_clean(shown[0]):
             options = [word for option in option_words(list(words)) for word in option]
@@ -88,8 +98,23 @@ class Leftovers:
             tracked=tracked,
             is_cleaned=is_cleaned,
             not_cleaned=not_cleaned,
-            hidden=frozenset(found),
+            hidden=frozenset(found | optional),
+            unsure=unsure,
         )
+
+    def optional(self, shown: list[Make]) -> set[str]:
+        """The dependency files that makes read, and that say something, where makefiles include
+        files only if these are there."""
+        place = self.copies.place("read")
+        found: set[str] = set()
+        for make in shown:
+            names = [path_name(self.copies.seen, make.folder, text) for text in make.makefiles]
+            paths = {name: os.path.join(place.folder, name) for name in names if name in self.there}
+            told = {name for name, path in paths.items() if is_telling(path)}
+            others = (path for name, path in paths.items() if name not in told)
+            if told and any(OPTIONAL.search(text_of(path)) for path in others):
+                found |= told
+        return found
 
     def of_release(self, names: set[str]) -> set[str]:
         """Those of these files that came with a release, though `make clean` removes them: they
@@ -124,7 +149,7 @@ class Leftovers:
                 if name in self.there and name not in self.hidden and not is_made:
                     found.setdefault(name)
         paths = {name: os.path.join(folder, name) for name in found}
-        told = {name for name, path in paths.items() if is_dependency_file(path) and has_rule(path)}
+        told = {name for name, path in paths.items() if is_telling(path)}
         return replace(self, dependencies=self.dependencies | told)
 
     def sentence(self) -> str:
@@ -153,11 +178,10 @@ class Leftovers:
             )
         if self.shown_again:
             some = self.some(self.shown_again)
-            build.note(
-                f"{some} that `make clean` removes stayed as they are, since a build fails without"
-                " them"
-            )
+            which = "that `make clean` removes" if self.is_cleaned else "that git doesn't track"
+            build.note(f"{some} {which} stayed as they are, since a build fails without them")
         build.old_dependencies = set(self.dependencies)
+        build.unsure_dependencies = set(self.unsure & self.dependencies)
         if keep or self.is_cleaned:
             return
         why = ""
@@ -232,7 +256,9 @@ def tracked_files(folder: str) -> frozenset[str] | None:
     return frozenset(filter(None, names)) or None
 
 
-def has_rule(path: str) -> bool:
-    """Whether a dependency file says anything."""
-    lines = Path(path).read_text(encoding="utf-8", errors="surrogateescape").split("\n")
-    return any(line.strip() and not line.startswith("#") for line in lines)
+def text_of(path: str) -> str:
+    """The text of a file; empty where it can't be read."""
+    try:
+        return Path(path).read_text(encoding="utf-8", errors="surrogateescape")
+    except OSError:
+        return ""

@@ -7,6 +7,7 @@ import os
 import shlex
 from dataclasses import dataclass, field, replace
 
+from mkcheck_tools.gnu.remade import is_dependency_file
 from mkcheck_tools.imports.asking import Asking
 from mkcheck_tools.imports.builds import in_folder, path_name
 from mkcheck_tools.imports.confining import OWN, Confined
@@ -14,12 +15,13 @@ from mkcheck_tools.imports.copies import links_in, listing
 from mkcheck_tools.imports.database import Rule
 from mkcheck_tools.imports.failing import build_fault, failed_rule, failure_of_make
 from mkcheck_tools.imports.gnumake import Make, Start, content, outer_environment
+from mkcheck_tools.imports.lacking import Lack, lacking, without_waits
 from mkcheck_tools.imports.leaving import times_in
 from mkcheck_tools.imports.make_folder import MakeFolder, MakeShown, exported_by, shown_with
 from mkcheck_tools.imports.questions import processor_time
 from mkcheck_tools.imports.readers import Started
 from mkcheck_tools.imports.readings import Readings, run_in
-from mkcheck_tools.imports.rereading import for_makefiles, is_dependency_file, touch_sources
+from mkcheck_tools.imports.rereading import for_makefiles, touch_sources
 from mkcheck_tools.imports.telling import ASKED
 from mkcheck_tools.imports.unchanged import left_unchanged
 from mkcheck_tools.run.places import run
@@ -74,6 +76,9 @@ class MakeBuilt:
     readings: Readings
     """What make reads beside its makefiles."""
 
+    lacks: list[Lack]
+    """The recipes at which a build from nothing fails, since they don't wait for others."""
+
     @property
     def made(self) -> set[str]:
         """The files and folders that the build made."""
@@ -91,7 +96,7 @@ def built_by(asked: MakeShown) -> MakeBuilt:
     The second make has to be a real one: only that lets CMake join its dependency files.
     """
     begun = processor_time()
-    shown, built = first_build(asked)
+    shown, built, lacks = first_build(asked)
     seconds = processor_time() - begun
     front, copies = shown.front, shown.front.copies
     place = copies.place("built")
@@ -156,22 +161,35 @@ def built_by(asked: MakeShown) -> MakeBuilt:
         makefiles,
         asking.sentences,
         readings,
+        lacks,
     )
 
 
-def first_build(shown: MakeShown) -> tuple[MakeShown, list[Make]]:
+def first_build(shown: MakeShown) -> tuple[MakeShown, list[Make], list[Lack]]:
     """Makes the build in a copy: what was shown before it, and its makes. Where it fails without
-    what was hidden, it is made with that. Raises `Fault` where it fails for good."""
+    what was hidden, it is made with that; where a recipe fails since it doesn't wait for what
+    another one makes, it is made so that it waits. Raises `Fault` where it fails for good."""
     built = shown.front.run("built", is_real=True)
     while built[0].status != 0 and (names := hidden_wanted(shown, built)):
         shown = shown_with(shown, names)
         built = shown.front.run("built", is_real=True)
+    front = shown.front
+    lacks: list[Lack] = []
+    while built[0].status != 0:
+        lack = lacking(front.copies, shown.makes, built)
+        known = [wait for one in lacks for wait in one.waits]
+        if lack is None or {*lack.waits} <= {*known}:
+            break
+        lacks.append(lack)
+        waits = [*known, *lack.waits]
+        front.copies.renew("built")
+        built = front.run("built", is_real=True, waits=waits)
+        without_waits(built, waits)
     if built[0].status != 0:
-        front = shown.front
         found = failure_of_make(front.copies.seen, built[0], built)
         command = f"`{shlex.join(['make', *front.words])}` {in_folder(front.folder)}"
         raise build_fault(found, command, shown.leftovers.sentence())
-    return shown, built
+    return shown, built, lacks
 
 
 def hidden_wanted(shown: MakeShown, built: list[Make]) -> set[str]:

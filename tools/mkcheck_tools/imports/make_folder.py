@@ -14,10 +14,12 @@ from mkcheck_tools.imports.builds import path_name
 from mkcheck_tools.imports.commands import is_export
 from mkcheck_tools.imports.confining import OWN, Confined
 from mkcheck_tools.imports.copies import Copies, links_in, listing
+from mkcheck_tools.imports.expanded import Expanded, expanded_in
 from mkcheck_tools.imports.gnumake import (
     Make,
     Question,
     Start,
+    Wait,
     content,
     find_make,
     last_words,
@@ -95,14 +97,16 @@ class MakeFolder:
         is_real: bool,
         seconds: float | None = None,
         lacks: Mapping[str, Sequence[str]] = MappingProxyType({}),
+        waits: Sequence[Wait] = (),
     ) -> list[Make]:
         """Runs make in a copy. With `seconds`, a limit of its time, make can change nothing but the
-        copy. By calls `lacks` has files that stand there while that make is asked."""
+        copy. By calls `lacks` has files that stand there while that make is asked, and `waits` what
+        waits for something else than makefiles say."""
         place, start = self.copies.shut(word), self.start
         if seconds is not None:
             place = Confined(place.folder, place.seen, own=(self.scratch,))
             start = replace(start, more=OWN)
-        question = Question(is_real, self.watched, seconds, lacks)
+        question = Question(is_real, self.watched, seconds, lacks, waits)
         makes = run_make(start, place, self.scratch, question)
         self.questions.asked += self.is_asked
         if not makes[0].transcript.is_whole:
@@ -164,6 +168,9 @@ class MakeShown:
     """The files that make made or changed when it read its makefiles."""
 
     links: dict[str, str]
+
+    expanded: Mapping[str, Expanded] = field(default_factory=dict)
+    """The files that make writes when it expands the commands of a recipe, which aren't there."""
 
     @property
     def commands(self) -> int:
@@ -244,15 +251,19 @@ def learned(
         front = replace(front, watched=tuple(watched))
         makes = front.asked_before()
     after = times_in(place.folder)
+    written = {name for name, stamp in after.items() if times.get(name) != stamp}
+    expanded = expanded_in(front.copies.seen, place.folder, makes, written)
+    front.copies.take_away(place.folder, {*expanded})
     return MakeShown(
         front,
         makes,
         leftovers.with_dependencies(place.folder, makes),
         {folder: names for folder, names in exported.items() if names},
         listing(place.folder),
-        after,
-        {name for name, stamp in after.items() if times.get(name) != stamp},
+        {name: stamp for name, stamp in after.items() if name not in expanded},
+        written - expanded.keys(),
         links_in(place.folder),
+        expanded,
     )
 
 

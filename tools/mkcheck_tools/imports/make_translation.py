@@ -3,10 +3,13 @@
 from __future__ import annotations
 
 import contextlib
+import os
 
+from mkcheck_tools.gnu.remade import is_dependency_file
 from mkcheck_tools.imports.answers import counted
 from mkcheck_tools.imports.builds import Build, in_folder, path_name
 from mkcheck_tools.imports.depfiles import DepfileFault, read_depfile
+from mkcheck_tools.imports.environments import Trier
 from mkcheck_tools.imports.gnumake import Make, content, last_words, outer_environment, passing
 from mkcheck_tools.imports.later import add_later
 from mkcheck_tools.imports.leaving import leave_alone
@@ -15,7 +18,7 @@ from mkcheck_tools.imports.make_folder import MakeFolder, MakeShown
 from mkcheck_tools.imports.overlaps import name_overlaps
 from mkcheck_tools.imports.own_folders import take_longer
 from mkcheck_tools.imports.real_commands import take_unseen, to_build
-from mkcheck_tools.imports.rereading import changed, is_dependency_file, place_of
+from mkcheck_tools.imports.rereading import changed, place_of
 from mkcheck_tools.imports.telling import Far
 from mkcheck_tools.imports.translating import Translation
 from mkcheck_tools.imports.unchanged import mark_unchanged
@@ -30,7 +33,14 @@ def shown_build(shown: MakeShown) -> Build:
     front = shown.front
     root, files = front.copies.seen, shown.files
     subject = Subject(
-        root, shown.makes, files, None, front.wrapper, shown.links, shown.exported
+        root,
+        shown.makes,
+        files,
+        None,
+        front.wrapper,
+        shown.links,
+        shown.exported,
+        shown.expanded,
     )
     translation = Translation(subject, outer_environment())
     build = translation.translate()
@@ -57,7 +67,14 @@ def made_build(built: MakeBuilt, far: Far) -> Build:
     leave_alone(front.copies.seen, makes, shown.times, built.times)
     root, files = front.copies.seen, shown.files
     subject = Subject(
-        root, makes, files, built.files, front.wrapper, built.links, shown.exported
+        root,
+        makes,
+        files,
+        built.files,
+        front.wrapper,
+        built.links,
+        shown.exported,
+        shown.expanded,
     )
     translation = Translation(subject, outer_environment())
     build = translation.translate()
@@ -74,6 +91,10 @@ def made_build(built: MakeBuilt, far: Far) -> Build:
     if built.unchanged:
         place = front.copies.shut("built")
         mark_unchanged(build, built.unchanged, place, outer_environment(), far)
+    for lack in built.lacks:
+        makers = [path_name(root, wait.folder, wait.maker) for wait in lack.waits]
+        text = f"a build from nothing fails at {lack.text}; let {lack.target} need {makers[0]}"
+        build.waited.setdefault(lack.target, [text]).extend(makers)
     name_overlaps(translation)
     name_makefiles(translation, makes, dependencies)
     name_changes(build, built, makes)
@@ -101,6 +122,17 @@ def name_changes(build: Build, built: MakeBuilt, makes: list[Make]) -> None:
             " the first ones alone",
             name,
         )
+    folder = front.copies.place("built").folder
+    for path, one in shown.expanded.items():
+        # Make has expanded the recipe again there, without running it.
+        text = content(os.path.join(folder, path)).decode("latin-1")
+        if len(built.makes) == len(shown.makes) and text != one.text:
+            target = path_name(front.copies.seen, one.folder, one.target)
+            build.problem(
+                f"{target}: after a build make writes something else into {path} by $(file ..), so"
+                " what it does is judged for the first contents alone",
+                target,
+            )
     failed = [make for make in built.later if make.status != 0]
     if failed and all(make.status == 0 for make in shown.makes):
         build.problem(
@@ -110,7 +142,8 @@ def name_changes(build: Build, built: MakeBuilt, makes: list[Make]) -> None:
     name_passing(build, front, makes)
     for text, target in built.sentences.items():
         build.question(text, target)
-    built.readings.name(build, varying)
+    trier = Trier(build, front.copies.shut("built"), outer_environment())
+    built.readings.name(build, varying, trier)
 
 
 def name_passing(build: Build, front: MakeFolder, makes: list[Make]) -> None:

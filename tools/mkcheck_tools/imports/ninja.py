@@ -11,7 +11,7 @@ from mkcheck_tools.imports.builds import Build, Command, Kind, Node, Origin, Set
 from mkcheck_tools.imports.ninja_files import Edge, Manifest, canonical, read_manifest
 from mkcheck_tools.imports.ninja_inputs import Inputs, Resolver
 from mkcheck_tools.imports.ninja_text import NinjaFault
-from mkcheck_tools.imports.plain import LINE_AT_MOST
+from mkcheck_tools.imports.plain import LINE_AT_MOST, printf_format
 from mkcheck_tools.run.paths import SeenPath
 from mkcheck_tools.run.places import Place, run
 
@@ -268,11 +268,6 @@ class NinjaBuild:
                     f"the command of {where} has over {LINE_AT_MOST} bytes, more than mkcheck"
                     " takes in a line: let it read a response file"
                 )
-
-
-def printf_format(text: str) -> str:
-    """A word of the shell by which `printf` writes a text."""
-    return shlex.quote(text.replace("\\", "\\\\").replace("%", "%%").replace("\n", "\\n"))
 
 
 def read_ninja(

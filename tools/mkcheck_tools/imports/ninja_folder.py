@@ -3,6 +3,7 @@
 from __future__ import annotations
 
 import shlex
+from collections.abc import Mapping
 from dataclasses import dataclass, replace
 
 from mkcheck_tools.faults import Fault
@@ -38,15 +39,20 @@ class NinjaShown:
     manifest: Manifest
     version: str
     is_built: bool = False
-    """Whether ninja built it in a copy."""
+    """Whether a copy has what a build makes."""
+
+    noted: Mapping[str, list[str]] | None = None
+    """What ninja would note from dependency files, by the first outputs, where recorded recipes
+    made that copy; None where ninja did."""
 
     is_late: bool = False
     """Whether a second build succeeded where the first one failed."""
 
 
 def ninja_shown(front: NinjaFolder) -> NinjaShown:
-    """Reads `build.ninja`, and asks ninja whether it could build."""
-    place = front.copies.place("read")
+    """Reads `build.ninja`, and asks ninja whether it could build, in a copy for that: `ninja -n`
+    makes folders of outputs, and takes dependency files away."""
+    place = front.copies.place("asked")
     found = read_ninja(place, front.folder, front.words, outer_environment())
     return NinjaShown(front, *found)
 
@@ -54,6 +60,7 @@ def ninja_shown(front: NinjaFolder) -> NinjaShown:
 def ninja_built(shown: NinjaShown, tail: Tail) -> NinjaShown:
     """Lets ninja build in a copy; `tail` has the end of what it prints."""
     front = shown.front
+    front.copies.renew("asked")
     place = front.copies.shut("built")
     # What an earlier build left must not help this one.
     run_here(place, ["ninja", "-C", front.folder, "-t", "clean"], outer_environment())
@@ -89,7 +96,7 @@ def ninja_build(shown: NinjaShown, far: Far) -> Build:
             " late"
         )
     if built is not None:
-        learn(translation, built, outer_environment(), far)
+        learn(translation, built, outer_environment(), shown.noted, far)
         translation.build.made = listing(built.folder) - before
     return translation.build
 

@@ -23,12 +23,17 @@ NOTED = re.compile(r"(.*): #deps \d+, deps mtime ")
 
 
 def learn(
-    translation: NinjaBuild, built: Place, environment: Mapping[str, str], far: Far
+    translation: NinjaBuild,
+    built: Place,
+    environment: Mapping[str, str],
+    noted: Mapping[str, list[str]] | None,
+    far: Far,
 ) -> None:
-    """Adds to a translation what is known after a build, which ninja made in a place; `far` tells
-    how far that is."""
+    """Adds to a translation what is known after a build, which lies in a place; `noted` has what
+    ninja would note from dependency files, where it didn't build itself, and `far` tells how far
+    that is."""
     folders: set[str] = set()
-    noted = noted_by_ninja(translation, built, environment)
+    noted = noted_by_ninja(translation, built, environment) if noted is None else noted
     reached = list(translation.reached)
     for edge in reached:
         if edge.value("deps"):

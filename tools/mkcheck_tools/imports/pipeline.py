@@ -4,140 +4,52 @@ the recording, what that settles, and the verdict. Each step gives a value that 
 
 from __future__ import annotations
 
-import copy
 import json
 import os
 import secrets
-import shutil
-import sys
-from collections.abc import Iterable, Mapping, Sequence
+from collections.abc import Mapping
 from dataclasses import dataclass, replace
 from functools import partial
-from pathlib import Path
 from typing import Generic
 
-from mkcheck_tools.answers.checkers import find_checker
-from mkcheck_tools.book.footprint_files import Footprints
-from mkcheck_tools.book.paths import path_of_notes, path_of_state
-from mkcheck_tools.book.states import Entry, State, Unusable
-from mkcheck_tools.book.states import read as read_state
-from mkcheck_tools.book.states import read_choice
+from mkcheck_tools.book.paths import path_of_store
 from mkcheck_tools.book.updating import Conditions
-from mkcheck_tools.faults import FAILED, Fault
-from mkcheck_tools.imports.answers import AS_FAR_AS_JUDGED, answer_of, counted, status_of
+from mkcheck_tools.faults import Fault
+from mkcheck_tools.imports.answers import AS_FAR_AS_JUDGED, counted
 from mkcheck_tools.imports.builds import Build
-from mkcheck_tools.imports.configured import configured_files, configuring
-from mkcheck_tools.imports.copies import Copies, listing
-from mkcheck_tools.imports.desk import ANSWER, LOG, SAVED, Desk
+from mkcheck_tools.imports.copies import Copies
+from mkcheck_tools.imports.desk import LOG, SAVED, Desk
 from mkcheck_tools.imports.gnumake import outer_environment
 from mkcheck_tools.imports.grouping import grouped
-from mkcheck_tools.imports.judging import (
-    BOOK,
-    FIRST,
-    BuildVerdict,
-    Judge,
-    RecordingFault,
-    write,
-)
-from mkcheck_tools.imports.kept import (
-    Answer,
-    Kept,
-    Now,
-    Tried,
-    basis_of,
-    change_of,
-    digest_of_value,
-    files_of,
-    made_in,
-)
+from mkcheck_tools.imports.judged import Judged, answer, is_probed, judged_by, tell, write_answer
+from mkcheck_tools.imports.judging import BOOK, FIRST, RecordingFault
+from mkcheck_tools.imports.kept import Answer, Kept, Now, change_of, digest_of_value, files_of
 from mkcheck_tools.imports.leftovers import tracked_files
-from mkcheck_tools.imports.probing import Before, Probing
-from mkcheck_tools.imports.recorded import Recorded
+from mkcheck_tools.imports.probing import Before
+from mkcheck_tools.imports.recordings import Recording, recorded, recorded_at_once
 from mkcheck_tools.imports.request import Request
-from mkcheck_tools.imports.saving import build_of_text, recorded_of_text, text_of_build
-from mkcheck_tools.imports.sentences import Sentences
-from mkcheck_tools.imports.settling import Settling
-from mkcheck_tools.imports.telling import COUNT, Far
-from mkcheck_tools.imports.told import Teller
+from mkcheck_tools.imports.saving import build_of_text, recorded_of_text
 from mkcheck_tools.imports.tools import Built, NinjaTool, Shown, Tool, program_of, tool_of
-from mkcheck_tools.judge.notes import Kind
-from mkcheck_tools.judge.trust import ALIKE, KEPT
+from mkcheck_tools.imports.translated import (
+    Translated,
+    add_configured,
+    checker,
+    find_programs,
+    judge_of,
+    word_of_translation,
+    written,
+)
 from mkcheck_tools.replay.versions import digest_of
 from mkcheck_tools.run import places
-from mkcheck_tools.run.folders import prefix_of
 from mkcheck_tools.run.paths import resolved
 from mkcheck_tools.run.places import Place
-from mkcheck_tools.trace.tracing import strace
 
 STEPS = ("read", "translate", "graph", "record", "check")
-# The kinds of notes on what the translation has in it.
-OF_TRANSLATION = frozenset({Kind.BUILT_IN_RULE, Kind.UNLOOKED, Kind.WAIT})
 OTHER_FILES = "recipes make other files now, or other dependency files"
 WITHOUT_BUILD = (
     "it was translated without a build (--only translate), so what the build tool knows only after"
     " one, as dependency files, isn't in it: import without --only"
 )
-
-
-@dataclass(frozen=True)
-class Translated:
-    """A translated build, and what writes, records and checks it. `text` is the build as a text,
-    before anything settles it."""
-
-    build: Build
-    judge: Judge
-    has_first: bool
-    text: str
-
-
-@dataclass(frozen=True)
-class Settled:
-    """A build and its footprints as the recording settles them; at which folders its recipes
-    looked, and what the recorder knows of each."""
-
-    build: Build
-    footprints: Footprints
-    looked: dict[str, list[str]]
-    recordings: dict[str, Entry]
-
-
-@dataclass(frozen=True)
-class Judged:
-    """A build as the recording settles it, its footprints, what was found of it, and what came of
-    trying its recipes."""
-
-    build: Build
-    footprints: Footprints
-    verdict: BuildVerdict
-    has_first: bool
-    tried: dict[str, Tried]
-
-
-@dataclass(frozen=True)
-class Recording:
-    """A recording: what the recorder said, and what it knows of each recipe."""
-
-    recorded: Recorded
-    count: str
-    """How many of all recipes were recorded by now, where all have a record."""
-
-    state: State | None
-    recipes: int
-    """How many recipes have a record."""
-
-    digest: str
-    """A digest of all that the recorder gave."""
-
-    def bases(self, judge: Judge, files: Iterable[str]) -> dict[str, str]:
-        """On what the recipes of some files depend, as digests."""
-        known = recordings(judge, self.state)
-        return {name: basis_of(known.get(name)) for name in files}
-
-    def made(self, reread: Sequence[str]) -> str:
-        """A digest of what recipes made, as `made_in` gives it; empty where it isn't known."""
-        if self.state is None or len(self.state.entries) != self.recipes:
-            return ""
-        return made_in(self.state, reread) or ""
 
 
 def import_folder(request: Request, desk: Desk, scratch: str) -> int:
@@ -152,39 +64,6 @@ def import_folder(request: Request, desk: Desk, scratch: str) -> int:
     if isinstance(tool, NinjaTool):
         return Import(request, desk, copies, tool).run()
     return Import(request, desk, copies, tool).run()
-
-
-def find_programs(request: Request) -> None:
-    """Finds mkcheck, its recorder and strace; what isn't there is told before the build."""
-    if request.only not in ("read", "translate") and not request.look:
-        find_checker(Path(sys.argv[0]).resolve().parent)
-        recorder()
-    if request.only in (None, "record") and not request.look:
-        strace()
-
-
-def recorder() -> Path:
-    """The recorder, which lies beside this program."""
-    beside = Path(sys.argv[0]).resolve().parent / "mkcheck-record"
-    found = str(beside) if beside.exists() else shutil.which("mkcheck-record")
-    if found is None:
-        raise Fault("mkcheck-record isn't there: it belongs beside mkcheck-import")
-    return Path(found)
-
-
-def checker() -> str:
-    """The program mkcheck."""
-    return os.path.abspath(find_checker(Path(sys.argv[0]).resolve().parent))
-
-
-def environment() -> dict[str, str]:
-    """The environment of the recorder and of mkcheck."""
-    return {**outer_environment(), "MKCHECK": checker()}
-
-
-def judge_of(build: Build, place: Place, desk: Desk) -> Judge:
-    """What writes, records and checks a build."""
-    return Judge(build, place, desk.drafts, checker(), environment())
 
 
 @dataclass(frozen=True)
@@ -243,7 +122,8 @@ class Import(Generic[Shown, Built]):
 
     def anew(self, shown: Shown, now: Now) -> int:
         """Builds, translates, records and checks; gives the status."""
-        built = self.built(shown)
+        known = self.recorded_first(shown)
+        built = self.built(shown) if known is None else known[0]
         basis = self.tool.basis(built)
         translated = self.translated(shown, built)
         if translated.build.failed:
@@ -255,11 +135,34 @@ class Import(Generic[Shown, Built]):
         basis = replace(basis, alike=tuple(own))
         kept = now.kept(basis, translated.text, secrets.token_hex(16))
         self.desk.keep(kept)
-        recording = recorded(self.request, translated, self.desk)
+        first = None if known is None else known[1]
+        recording = recorded(self.request, translated, self.desk, first)
         before = Before({}, files=now.files.entries)
         judged = judged_by(translated, recording, self.desk, self.copies, before)
         bases = recording.bases(judge, kept.alike)
         return self.answer(judged, recording, replace(kept, bases=bases))
+
+    def recorded_first(self, shown: Shown) -> tuple[Built, Recording] | None:
+        """Records the build before the tool builds, and gives what that shows in place of a build;
+        None where the tool has to build, as to tell why a recipe fails."""
+        build = self.tool.recordable(shown)
+        if build is None:
+            return None
+        place = self.copies.place("read")
+        add_configured(build, place, self.request.configured)
+        translated = written(build, place, self.desk)
+        translated.judge.graph(translated.has_first)
+        try:
+            recording = recorded_at_once(self.request, translated, self.desk)
+        except RecordingFault as fault:
+            if not fault.is_of_command:
+                raise
+            return None
+        if recording.state is None or recording.is_partial:
+            return None
+        store = path_of_store(self.desk.recording)
+        built = self.tool.recorded(shown, recording.state, store)
+        return None if built is None else (built, recording)
 
     def again(self, now: Now) -> int | None:
         """Does as much as the last import left to do, and gives the status; None where all has to
@@ -341,45 +244,6 @@ def other_build(kept: Kept, recording: Recording, bases: Mapping[str, str]) -> s
     return "" if made == kept.made else OTHER_FILES
 
 
-def word_of_translation(translated: Translated) -> str:
-    """How many problems there are, as they are told."""
-    build = translated.build
-    return counted(len(grouped(build.problems, build.subjects)), "problem")
-
-
-def written(build: Build, place: Place, desk: Desk) -> Translated:
-    """A translated build, whose makefiles are written."""
-    judge = judge_of(build, place, desk)
-    text = text_of_build(build)
-    return Translated(build, judge, save(judge, desk), text)
-
-
-def save(judge: Judge, desk: Desk, said: Recorded | None = None) -> bool:
-    """Writes the makefiles, the map and the translation itself, with what the recorder said; tells
-    whether the first build is another one."""
-    has_first = judge.write_makefiles()
-    judge.write_map()
-    write(judge.path(SAVED), text_of_build(judge.build, said) + "\n")
-    desk.log_notes(judge.build.notes)
-    return has_first
-
-
-def add_configured(build: Build, place: Place, asked: tuple[str, ...]) -> None:
-    """Marks the files of a configure step that are there before the build."""
-    found = configured_files(place.folder, asked)
-    build.configured |= found.files
-    origins = {node.origin.makefile for node in build.nodes.values() if node.origin}
-    build.generators = {name: found.tools[name] for name in origins & found.files}
-    for text in found.notes:
-        build.note(text)
-    for name in configuring(build):
-        build.note(
-            f"{name}: its recipe runs config.status, so it is of the configure step, and is"
-            " recorded as it is, whatever its replay shows",
-            name,
-        )
-
-
 def look(translated: Translated, desk: Desk, why: str) -> int:
     """Says what will be judged, as far as that is known without a build; `why` is a reason for
     which it isn't."""
@@ -401,192 +265,6 @@ def look(translated: Translated, desk: Desk, why: str) -> int:
         if texts:
             print("\n".join(["", front, *(f"    {text}" for text in texts)]))
     return 0
-
-
-def recorded(request: Request, translated: Translated, desk: Desk) -> Recording:
-    """The recording of the first build, as far as it isn't known yet."""
-    record = partial(record_build, request, translated, desk)
-    return desk.step("record", record, word_of_recording, translated.judge.tail.text)
-
-
-def word_of_recording(recording: Recording) -> str:
-    """How many of all recipes were recorded by now, where all have a record."""
-    return recording.count
-
-
-def record_build(request: Request, translated: Translated, desk: Desk) -> Recording:
-    """Records the first build, and reads what the recorder gave."""
-    build, judge = translated.build, translated.judge
-    own = [target for target in own_trusted(judge) if target not in request.trusted]
-    trusted = [KEPT + target for target in request.trusted] + [ALIKE + target for target in own]
-    words = [word for prefix in request.fixed for word in ("--fixed", prefix)]
-    words += [word for target in trusted for word in ("--trust", target)]
-    words += [] if request.replay else ["--no-replay"]
-    desk.take_state()
-    if is_other_choice(desk.recording, request.fixed, trusted):
-        os.unlink(path_of_state(desk.recording))
-    came, text = judge.record(
-        [sys.executable, str(recorder()), *words], translated.has_first, desk.recording
-    )
-    shutil.copyfile(desk.recording, desk.path(BOOK))
-    if os.path.exists(path_of_notes(desk.recording)):
-        shutil.copyfile(path_of_notes(desk.recording), path_of_notes(desk.path(BOOK)))
-    desk.log += [line for line in text.splitlines() if not COUNT.match(line)]
-    state = state_of(desk.recording)
-    folders = {name.rstrip("/") for name in build.made if name.endswith("/")}
-    if folders and state is None:
-        raise Fault("what recipes looked at isn't known: import again")
-    found = Recorded(
-        judge.unrecorded(came.unrecorded, request.log),
-        judge.notes(OF_TRANSLATION, frozenset(own)),
-        judge.looks(state, folders) if state is not None else {},
-    )
-    save(judge, desk, found)
-    return Recording(
-        found,
-        "" if came.unrecorded else f"{came.recipes - came.known} of {came.recipes} recipes",
-        state,
-        len(judge.read_book().records),
-        digest_of_recording(desk.text(BOOK), found, request.replay),
-    )
-
-
-def digest_of_recording(book: str, found: Recorded, replay: bool) -> str:
-    """A digest of all that the recorder gave. An update tells its notes in another order."""
-    unrecorded = sorted((name, without_details(text)) for name, text in found.unrecorded.items())
-    said = unrecorded, sorted(map(str, found.noted.notes))
-    return digest_of_value([book, *said, found.noted.missing, replay])
-
-
-def without_details(text: str) -> str:
-    """What is said of a recipe without a record, but for the details in which two runs of it
-    differ: these are others each time."""
-    first = text.split("\n", 1)[0]
-    return text if FAILED in first else first
-
-
-def state_of(book: str) -> State | None:
-    """What the recorder knows of each recipe."""
-    try:
-        return read_state(path_of_state(book))
-    except Unusable:
-        return None
-
-
-def is_other_choice(book: str, fixed: Sequence[str], trusted: Sequence[str]) -> bool:
-    """Whether the recording before was asked for something that this one isn't: the recorder would
-    take that from it."""
-    before = read_choice(path_of_state(book))
-    if before is None:
-        return False
-    asked = {name if name in before.steady else prefix_of(name) for name in fixed}
-    is_other = {*before.prefixes, *before.steady} != asked
-    return is_other or bool(before.trusted and not trusted)
-
-
-def own_trusted(judge: Judge) -> list[str]:
-    """The targets whose recipes are trusted without being asked for, and run again without their
-    outputs alone: those of `restat`, and those that configure again."""
-    names, build = judge.names().written, judge.build
-    alike = [name for name, node in build.nodes.items() if node.left_alike]
-    return [names[name] for name in [*alike, *configuring(build)] if name in names]
-
-
-def is_probed(translated: Translated, recording: Recording, before: Before) -> bool:
-    """Whether there are recipes that have to be tried in a copy of the project that is built."""
-    settled = settled_by(translated, recording)
-    return probing(settled, before, None, {}).needs_build()
-
-
-def probing(
-    settled: Settled, before: Before, built: Place | None, environment: dict[str, str]
-) -> Probing:
-    """What tries recipes, of which the recording tells more than was known `before`."""
-    known = replace(before, looked=settled.looked, recordings=settled.recordings)
-    return Probing(settled.build, settled.footprints, known, built, environment)
-
-
-def judged_by(
-    translated: Translated,
-    recording: Recording,
-    desk: Desk,
-    copies: Copies | None,
-    before: Before,
-) -> Judged:
-    """Settles what only the recording tells, and checks. Without copies of the project nothing is
-    tried; `before` has what came of that in the import before."""
-
-    def check() -> Judged:
-        settled = settled_by(translated, recording)
-        judge = replace(translated.judge, build=settled.build)
-        place = None
-        if copies is not None and "built" in copies.made:
-            place = copies.shut("built")
-        said = replace(recording.recorded, looked=settled.looked)
-        tried = probing(settled, before, place, judge.environment).probe(far)
-        if place is not None and copies is not None:
-            copies.place("read")
-        judge.write_book(settled.footprints, said.noted)
-        has_first = save(judge, desk, said)
-        return Judged(settled.build, settled.footprints, judge.check(has_first), has_first, tried)
-
-    far = Far()
-    return desk.step("check", check, word_of_check, far.text)
-
-
-def word_of_check(judged: Judged) -> str:
-    """Whether the first build is another one."""
-    return "two passes" if judged.has_first else ""
-
-
-def settled_by(translated: Translated, recording: Recording) -> Settled:
-    """The build and its footprints as the recording settles them."""
-    build = copy.deepcopy(translated.build)
-    judge = replace(translated.judge, build=build)
-    footprints = judge.read_book()
-    judge.complete(footprints, translated.has_first, recording.recorded.unrecorded)
-    settling = Settling(build, footprints, listing(judge.place.folder))
-    settling.settle()
-    looked = recording.recorded.looked
-    renamed = {settling.renamed.get(name, name): found for name, found in looked.items()}
-    known = recordings(translated.judge, recording.state)
-    return Settled(
-        build,
-        footprints,
-        renamed,
-        {settling.renamed.get(name, name): entry for name, entry in known.items()},
-    )
-
-
-def recordings(judge: Judge, state: State | None) -> dict[str, Entry]:
-    """What the recorder knows of each recipe, by the names of nodes."""
-    back = {word: name for name, word in judge.names().written.items() if "\0" not in name}
-    entries = {} if state is None else state.entries
-    return {back.get(word, word): entry for word, entry in entries.items()}
-
-
-def answer(request: Request, judged: Judged, said: Recorded) -> tuple[list[str], int]:
-    """The lines of the answer, and its status."""
-    told = Sentences(judged.build, judged.footprints, judged.has_first)
-    folder = os.path.relpath(request.output, request.root)
-    folder = request.output if folder.startswith("../") else folder
-    words = f"-f {folder}/makefile -b {folder}/footprint.json"
-    verdict = judged.verdict
-    texts = told.texts(verdict.findings, f"mkcheck check -w {words}" * verdict.hides)
-    return answer_of(judged.build, said, verdict, texts), status_of(judged.build, verdict)
-
-
-def tell(lines: Iterable[str], desk: Desk) -> None:
-    """Prints an answer."""
-    for line in lines:
-        print(line)
-    desk.log += ["", *lines]
-
-
-def write_answer(judged: Judged, desk: Desk) -> None:
-    """Writes the answer for other programs."""
-    teller = Teller(judged.build, judged.footprints, judged.has_first)
-    write(desk.path(ANSWER), teller.answer(judged.verdict))
 
 
 def end_early(build: Build) -> int:

@@ -217,3 +217,8 @@ def quoted(text: str) -> str:
         return shlex.quote(text)
     lines = " ".join(shlex.quote(line) for line in text.split("\n"))
     return f"\"$(printf '%s\\n' {lines})\""
+
+
+def printf_format(text: str) -> str:
+    """A word of the shell by which `printf` writes a text."""
+    return shlex.quote(text.replace("\\", "\\\\").replace("%", "%%").replace("\n", "\\n"))

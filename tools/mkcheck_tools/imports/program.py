@@ -8,12 +8,14 @@ import sys
 from mkcheck_tools import VERSION
 from mkcheck_tools.faults import Fault, sentence_of
 from mkcheck_tools.imports.desk import Desk
+from mkcheck_tools.imports.failing import SHOWN as SHOWN_AT_MOST
 from mkcheck_tools.imports.failing import BuildFault
+from mkcheck_tools.imports.grouping import grouped
 from mkcheck_tools.imports.judging import RecordingFault
 from mkcheck_tools.imports.pipeline import STEPS, import_folder
 from mkcheck_tools.imports.request import Request, request_of
 from mkcheck_tools.run.folders import scratch_folder
-from mkcheck_tools.run.stopping import Stopped, catch_signals
+from mkcheck_tools.run.stopping import Stopped, catch_signals, pass_over_signals
 
 ABOUT = (
     "Has a build of GNU make or ninja judged: asks the build tool what it would do, writes that as"
@@ -70,10 +72,12 @@ def main(arguments: list[str]) -> int:
         with scratch_folder(request.root) as scratch:
             return imported(request, scratch)
     except RecordingFault as fault:
-        print(f"mkcheck-import: the recording failed:\n{str(fault).rstrip()}", file=sys.stderr)
+        said = short(fault, request.log)
+        print(f"mkcheck-import: the recording failed:\n{said}", file=sys.stderr)
     except Exception as error:
         print(f"mkcheck-import: {sentence_of(error, 'importer')}", file=sys.stderr)
     except Stopped as stopped:
+        pass_over_signals()
         rest = "" if request.look else "; the next import takes what this one has"
         print(f"mkcheck-import: stopped by {stopped.name}{rest}", file=sys.stderr)
         return stopped.status
@@ -87,12 +91,27 @@ def imported(request: Request, scratch: str) -> int:
         desk.say(f"the build in {request.folder} is taken, as by -S {request.folder}")
     try:
         return import_folder(request, desk, scratch)
+    except RecordingFault as fault:
+        desk.log.append(str(fault))
+        raise
     except BuildFault as fault:
         desk.log.append(fault.whole)
         raise Fault(fault.short(request.log)) from None
     finally:
         if not request.look:
             desk.write_output()
+
+
+def short(fault: RecordingFault, log: str) -> str:
+    """Why nothing could be recorded, where the file `log` has all: recipes of which the same is
+    said are told in one sentence, and the first lines are enough."""
+    subjects = {one.text: one.target for one in fault.failures}
+    texts = grouped(subjects, subjects) if len(subjects) > 1 else [str(fault).rstrip()]
+    lines = [line for text in texts for line in text.splitlines()]
+    if len(lines) <= SHOWN_AT_MOST:
+        return "\n".join(lines)
+    left = len(lines) - SHOWN_AT_MOST + 1
+    return "\n".join([*lines[: SHOWN_AT_MOST - 1], f"({left} lines left out, see {log})"])
 
 
 def run() -> None:

@@ -7,25 +7,33 @@ so a target whose commands change has to need such a file.
 from __future__ import annotations
 
 import os
-from collections.abc import Callable, Iterable
+from collections.abc import Callable, Iterable, Mapping
 from dataclasses import dataclass, field
 
 from mkcheck_tools.faults import Fault
 from mkcheck_tools.imports.builds import Build, Kind, Node, in_folder, is_foreign, path_name
+from mkcheck_tools.imports.commits import CURE, HEAD, SAYS
 from mkcheck_tools.imports.copies import Copies
 from mkcheck_tools.imports.database import Rule
+from mkcheck_tools.imports.environments import Trier, other_values
 from mkcheck_tools.imports.gnumake import Make, Start, own_environment
 from mkcheck_tools.imports.inherited import needs_of, reached
 from mkcheck_tools.imports.questions import TOO_LONG, Questions
 from mkcheck_tools.imports.readers import ByCommand, Reader, Started
-from mkcheck_tools.imports.rereading import changed, other_needs, place_of, short
+from mkcheck_tools.imports.rereading import ENVIRONMENT, changed, other_needs, place_of, short
 from mkcheck_tools.imports.trying import Trial
+from mkcheck_tools.run.folders import is_of_versions
+from mkcheck_tools.run.paths import SeenPath
 from mkcheck_tools.run.places import Place
 from mkcheck_tools.trace.tracing import Tracer, Watch
 from mkcheck_tools.trace.trees import Tree
 
 TRIED_AT_MOST = 24
 LONGEST = 1 << 20
+WITHOUT_COMMIT = (
+    "make asks git when it reads its makefiles, and whether commands depend on what git says"
+    " couldn't be tried"
+)
 UNKNOWN = "whether commands depend on files that make reads beside its makefiles isn't known"
 
 
@@ -41,6 +49,9 @@ class Differing:
     file: str
     number: int
     """Which of the other contents of the file."""
+
+    values: Mapping[str, str] = field(default_factory=dict)
+    """Where the environment of its make alone differs, the variables that do, with these values."""
 
     @property
     def key(self) -> tuple[str, str]:
@@ -156,9 +167,28 @@ class Readings:
             readers = reader.accesses.readers[path]
             self.readers[name] = [one for one in readers if one not in reader.starting]
         names = dict.fromkeys(path_name(place.seen, place.seen, path) for path in paths)
+        git = [HEAD] if self.asks_git(place, reader, paths) else []
         links = [path_name(place.seen, place.seen, path) for path in reader.links]
         links = [name for name in links if name not in names and not is_foreign(name)]
-        return [*(name for name in names if self.is_data(place, name)), *links]
+        return [*(name for name in names if self.is_data(place, name)), *links, *git]
+
+    def asks_git(self, place: Place, reader: Reader, paths: list[SeenPath]) -> bool:
+        """Whether git, which a make starts, reads what it keeps in the project. Where it keeps that
+        elsewhere, nothing can be tried, and a command that asks for it is named."""
+        found = [path for path in paths if is_of_versions(path) and "/.git/" in path]
+        if found and os.path.isfile(os.path.join(place.folder, HEAD)):
+            return True
+        for path in found:
+            for command in filter(None, reader.accesses.readers[path]):
+                text = command.text or " ".join(command.words)
+                if SAYS.search(text):
+                    self.sentences.append(
+                        f"make asks git by `{short(text)}`, and whether commands depend on that"
+                        " can't be tried, since git keeps what it says outside of the project's"
+                        f" folder; {CURE}"
+                    )
+                    return False
+        return False
 
     def outputs_used(self, place: Place, start: Start, made: set[str]) -> set[str]:
         """Those of the files `made` that a make reads beside its makefiles, or at which a program
@@ -292,9 +322,15 @@ class Readings:
         before = trial.before[0].makes
         for number, said in all_asked.items():
             found = changed(before, said.makes)
-            self.found += [Differing(*one, name, number) for one in found]
+            values = other_values(before, said.makes)
+            self.found += [
+                Differing(*one, name, number, self.values_of(one, values)) for one in found
+            ]
             self.needs += [(*one, name) for one in other_needs(before, said.makes)]
         asked = [said for said in all_asked.values() if any(map(has_run, said.makes))]
+        if name == HEAD:
+            self.sentences += [] if asked else [f"{WITHOUT_COMMIT}; {CURE}"]
+            return
         if not asked:
             self.sentences.append(
                 f"make reads {name} beside its makefiles, and whether commands depend on it"
@@ -320,15 +356,23 @@ class Readings:
                 f" with all other contents that were tried; let all that is made need {name}"
             )
 
+    def values_of(
+        self, found: tuple[Make, Rule, str], values: Mapping[int, Mapping[str, str]]
+    ) -> Mapping[str, str]:
+        """The variables by which alone a rule differs; none where it differs by more."""
+        make, _, what = found
+        return values.get(make.number, {}) if what == ENVIRONMENT else {}
+
     def unmoved(self, trial: Trial, name: str) -> Started | None:
         """One of several commands that read a file and print the same whatever it says."""
         readers = self.readers.get(name, [])
         commands = [command for command in readers if command is not None]
         return trial.unmoved(name, commands) if len(readers) > 1 else None
 
-    def name(self, build: Build, varying: set[tuple[str, str]]) -> None:
+    def name(self, build: Build, varying: set[tuple[str, str]], trier: Trier) -> None:
         """Names the targets that don't need a file on which their commands depend. `varying` has
-        the rules whose commands change by themselves, each by its folder and name."""
+        the rules whose commands change by themselves, each by its folder and name; `trier` tries
+        those that find another environment."""
         met: dict[str, dict[str, tuple[str, str]]] = {}
         told = set()
         for one in self.found:
@@ -336,7 +380,14 @@ class Readings:
             if one.key in varying or one.file in followed(build, name):
                 continue
             is_run = self.asked.get(one)
-            if is_run is None:
+            if not is_run and one.values and trier.is_alike(name, one.values):
+                build.note(
+                    f"{where}: the recipe of {name} finds another value of"
+                    f" {first({*one.values})} when {one.file} changes, and was seen to write the"
+                    " same with other values of it",
+                    name,
+                )
+            elif is_run is None:
                 met.setdefault(one.file, {}).setdefault(name, (where, one.what))
             elif not is_run:
                 told.add(one.file)
@@ -350,10 +401,12 @@ class Readings:
             where, what = next(iter(targets.values()))
             some = ", ".join(list(targets)[:5])
             more = f" and {len(targets) - 5} more" if len(targets) > 5 else ""
+            cure, when = f"let what they make need {file}", f"when {file} changes"
+            if file == HEAD:
+                cure, when = CURE, "after a commit"
             build.problem(
                 f"{where}: the commands of {some}{more} depend on {file}, which make reads beside"
-                f" its makefiles ({what}), and make doesn't run them again when {file} changes; let"
-                f" what they make need {file}"
+                f" its makefiles ({what}), and make doesn't run them again {when}; {cure}"
             )
         for make, rule, words, file in self.needs:
             where, name = place_of(self.copies.seen, make, rule)

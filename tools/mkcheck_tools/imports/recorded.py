@@ -17,6 +17,11 @@ class Recorded:
     """Recipes that it could not record, each with what it says of it."""
 
     noted: Noted = Noted()
+
+    waited: Mapping[str, list[str]] = field(default_factory=dict)
+    """Recipes that fail where they don't wait for what other recipes make later, and that were
+    recorded behind these: for each what was said of it, and these targets."""
+
     looked: Mapping[str, list[str]] = field(default_factory=dict)
     """For each recipe the folders at which it looked, of those that the build makes; with a `/`
     behind it one whose names it read."""

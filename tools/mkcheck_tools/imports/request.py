@@ -8,7 +8,12 @@ from dataclasses import dataclass
 from pathlib import Path
 
 from mkcheck_tools.faults import Fault
-from mkcheck_tools.imports.build_folders import configured_in, first_of, refuse_build_folder
+from mkcheck_tools.imports.build_folders import (
+    configured_in,
+    first_of,
+    refuse_build_folder,
+    refuse_moved,
+)
 from mkcheck_tools.run.paths import RealPath, resolved
 
 
@@ -65,6 +70,7 @@ def request_of(asked: argparse.Namespace) -> Request:
         raise Fault(f"-S {asked.S}: there is no such folder in {root}")
     if folder == "." and asked.f is None:
         folder = folder_of_build(Path(root))
+    refuse_moved(Path(root, folder))
     output = asked.o or os.path.normpath(os.path.join(asked.C, ".mkcheck"))
     return Request(
         root,

@@ -10,8 +10,8 @@ import os
 import re
 import shlex
 import time
-from pathlib import Path
 
+from mkcheck_tools.gnu.remade import is_dependency_file
 from mkcheck_tools.imports.builds import path_name
 from mkcheck_tools.imports.database import Rule
 from mkcheck_tools.imports.gnumake import Make, is_harmless, options_of
@@ -21,6 +21,8 @@ from mkcheck_tools.imports.own_folders import essential, essential_texts
 OLDER = 1_000_000
 # A time that is older than that of any file of a project.
 OLD = 1
+# What differs where the commands don't.
+ENVIRONMENT = "another environment"
 # How much of a command is quoted.
 SHORT = 80
 # What ends the words of a command, as far as a text shows that; a name by which one begins; words
@@ -32,7 +34,6 @@ KEYWORDS = frozenset("if then else elif while until do time exec in case for".sp
 # are, but for quotes.
 HIDING = re.compile(r"`|\$\(|<<|[<>]&?[^;&|<>(){}\n]*$")
 UNEXPANDED = re.compile(r"[\w ./,:=@%+'\"-]*")
-DEPENDENCIES = re.compile(r"(?:[^\s:=#$][^:=#$]*:(?![:=])[^=#$;]*|\s*)$")
 
 
 def touch_sources(root: str, folder: str, makes: list[Make], made: set[str]) -> None:
@@ -122,17 +123,6 @@ def for_makefiles(root: str, folder: str, make: Make) -> set[str]:
     return found
 
 
-def is_dependency_file(path: str) -> bool:
-    """Whether a makefile has rules without recipes and nothing else, so that it only adds
-    prerequisites."""
-    try:
-        text = Path(path).read_text(encoding="utf-8", errors="surrogateescape")
-    except OSError:
-        return False
-    text = re.sub(r"(?m)^#.*$", "", text.replace("\\\n", " "))
-    return all(map(DEPENDENCIES.match, text.split("\n")))
-
-
 def changed(used: list[Make], asked: list[Make]) -> list[tuple[Make, Rule, str]]:
     """The rules whose commands are others in makes that were asked again: the make, the rule as it
     was used, and what differs."""
@@ -147,7 +137,7 @@ def changed(used: list[Make], asked: list[Make]) -> list[tuple[Make, Rule, str]]
             before = ran.get((old.key, name), [])
             what = difference(before, rules, old.transcript.is_one_shell)
             if not what and old.key != make.key and before and any(rule.ran for rule in rules):
-                what = "another environment"
+                what = ENVIRONMENT
             if what:
                 found.setdefault((make.folder, name), (old, before[0], what))
     return list(found.values())
@@ -198,7 +188,7 @@ def difference(used: list[Rule], asked: list[Rule], one_shell: bool = False) -> 
         if not (is_cut or is_same_to_shell(one, other)):
             return " and not ".join(f"`{text}`" for text in contrasted(other, one))
         if shown.watched != shown_again.watched:
-            return "another environment"
+            return ENVIRONMENT
     return "" if len(old) == len(new) else f"{len(new)} and not {len(old)}"
 
 

@@ -11,13 +11,14 @@ from mkcheck_tools.faults import Fault
 from mkcheck_tools.imports.builds import Build, Command, Kind, Node, Origin, Setting
 from mkcheck_tools.imports.recorded import Recorded
 
-FORMAT = 2
+FORMAT = 3
 SETS = (
     "configured",
     "makefiles",
     "read_made",
     "read_again",
     "old_dependencies",
+    "unsure_dependencies",
     "tried",
     "blind",
     "made",
@@ -33,6 +34,7 @@ def text_of_build(build: Build, recorded: Recorded | None = None) -> str:
         said = {
             "unrecorded": dict(recorded.unrecorded),
             "looked": dict(recorded.looked),
+            "waited": dict(recorded.waited),
         }
     return json.dumps({"format": FORMAT, "build": build, "recorded": said}, default=plain_value)
 
@@ -65,7 +67,7 @@ def recorded_of_text(text: str, noted: Noted) -> Recorded:
     values = json.loads(text)["recorded"]
     if not values:
         return Recorded(noted=noted)
-    return Recorded(values["unrecorded"], noted, values["looked"])
+    return Recorded(values["unrecorded"], noted, values["waited"], values["looked"])
 
 
 def node_of(values: dict[str, Any]) -> Node:

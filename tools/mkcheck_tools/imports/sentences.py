@@ -2,6 +2,7 @@
 
 from __future__ import annotations
 
+import functools
 import os
 import re
 from collections.abc import Iterable
@@ -10,8 +11,11 @@ from dataclasses import dataclass, field
 from mkcheck_tools.book.footprint_files import Footprints
 from mkcheck_tools.gnu.rule_lines import pattern_rule
 from mkcheck_tools.imports.builds import Build, Kind, Node, in_folder
+from mkcheck_tools.imports.commits import CURE, HEAD
 from mkcheck_tools.imports.configured import CMAKE
 from mkcheck_tools.imports.judging import UNAWARE, BuildFinding
+from mkcheck_tools.imports.known_names import known_as, whole_of
+from mkcheck_tools.run.folders import is_of_versions
 
 OTHERS = {
     "record": "{r} was not recorded, since the first build doesn't run it; import the goals that"
@@ -32,6 +36,10 @@ OTHERS = {
 UNREACHED = (
     "the recipe of {r} reads {f}, which the recipe of {w} makes, and this build doesn't run that;"
     " let {r} need {w}"
+)
+FIRST_ALONE = (
+    "the recipe of {r} reads {f}, which the recipe of {w} makes in a first build and in no later"
+    " one, so it stays as it is when what it is made from changes; let each build make it"
 )
 UNREACHED_BOTH = (
     "the recipe of {r} reads {f}, which the recipes of {w} write, and this build runs neither; let"
@@ -126,15 +134,11 @@ class Sentences:
 
     def node(self, name: str) -> Node:
         """The node for which a name stands: of a part the whole."""
-        node = self.build.nodes.get(name) or Node(name, has_rule=False)
-        while node.piece_of and node.piece_of in self.build.nodes:
-            node = self.build.nodes[node.piece_of]
-        return node
+        return whole_of(self.build, self.build.nodes.get(name) or Node(name, has_rule=False))
 
     def called(self, name: str) -> str:
         """How people know a node: its path, or its name in its makefile."""
-        node = self.node(name)
-        return node.name if "@" not in node.name else node.known_as or node.name
+        return known_as(self.build, self.node(name))
 
     def place(self, name: str) -> str:
         """Where a node's recipe stands."""
@@ -158,10 +162,15 @@ class Sentences:
         return os.path.relpath(os.path.join("/", file), os.path.join("/", node.folder))
 
     def need(self, recipe: str, file: str) -> None:
-        """Advises that a target needs a file, or the target of the recipe that writes it."""
+        """Advises that a target needs a file, or the target of the recipe that writes it. None can
+        need what git keeps."""
+        if is_of_versions(file):
+            return
         node = self.node(recipe)
         known = file in self.build.nodes and file not in self.build.blind
-        word = file if known or file not in self.writers else self.called(self.writers[file][0])
+        word = file
+        if not known and file in self.writers and not self.is_output(file):
+            word = self.called(self.writers[file][0])
         makefile = node.origin.makefile if node.origin else "the makefile"
         target = node.known_as or node.name
         advice = NinjaAdvice() if self.tool == "ninja" else Advice()
@@ -173,6 +182,11 @@ class Sentences:
         if above is not None:
             # Without a rule make may look for the file before it is there.
             advice.add(self.spelled(node, word), f"{above} ;")
+
+    def is_output(self, file: str) -> bool:
+        """Whether the tool knows that the recipe which writes a file makes it."""
+        node = self.node(self.writers[file][0])
+        return file in node.also_makes and file not in self.build.blind
 
     def started_for(self, node: Node, file: str) -> str | None:
         """The target whose recipe starts the make that writes a file for which the make of a node
@@ -321,6 +335,12 @@ class Sentences:
         names = [self.called(target) for target in targets]
         is_one = len(targets) == 1
         some = listed(names, "and", "targets")
+        if file == HEAD:
+            return (
+                f"{self.place(targets[0])}: {some} {'isn' if is_one else 'aren'}'t made again after"
+                f" a commit: make asks git for {'its' if is_one else 'their'} commands, which are"
+                f" others then ({what}); {CURE}"
+            )
         return (
             f"{self.place(targets[0])}: {some} {'isn' if is_one else 'aren'}'t made again when"
             f" {file} changes: make reads {file} for {'its' if is_one else 'their'} commands, which"
@@ -459,6 +479,21 @@ class Sentences:
             make = self.node(name).make
         return None
 
+    def is_made_first(self, file: str) -> bool:
+        """Whether one recipe makes a file, in a first build and in no later one."""
+        makers = self.writers.get(file, [])
+        return len(makers) == 1 and makers[0] in self.first - self.later
+
+    @functools.cached_property
+    def first(self) -> set[str]:
+        """The nodes that a first build reaches."""
+        return set(self.build.reached(later=False))
+
+    @functools.cached_property
+    def later(self) -> set[str]:
+        """The nodes that later builds reach."""
+        return set(self.build.reached(later=True))
+
     def is_taken_away(self, file: str) -> bool:
         """Whether a file that several recipes change isn't there after a build."""
         return len(self.writers.get(file, [])) > 1 and file not in self.build.made
@@ -474,6 +509,8 @@ class Sentences:
         elif finding.kind == "unknown" and finding.lacks:
             self.need(words[0], finding.lacks)
             text, makers = UNREACHED, [self.called(finding.lacks)]
+        elif finding.kind == "unknown" and self.is_made_first(words[-1]):
+            text = FIRST_ALONE
         elif finding.kind == "unknown" and len(makers) > 1:
             text = UNREACHED_BOTH
         return f"{self.place(words[0])}: {text.format(**values, w=listed(makers, 'and'))}"

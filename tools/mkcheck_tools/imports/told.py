@@ -12,6 +12,8 @@ from mkcheck_tools.imports.answers import is_nothing_judged, status_of
 from mkcheck_tools.imports.builds import Build, Node
 from mkcheck_tools.imports.grouping import grouped
 from mkcheck_tools.imports.judging import UNAWARE, BuildFinding, BuildVerdict
+from mkcheck_tools.imports.known_names import KnownNames
+from mkcheck_tools.imports.plain import names_of
 from mkcheck_tools.imports.sentences import OF_ONE_LINE, Sentences
 
 FORMAT = 1
@@ -35,6 +37,7 @@ class Teller:
         build, refused = self.build, verdict.refused
         if not refused and is_nothing_judged(build, verdict):
             refused = f"no recipe could be judged, of {verdict.recipes}"
+        known = KnownNames.of(build, names_of(build))
         makefiles = {node.origin.makefile for node in build.nodes.values() if node.origin}
         generators = {name: self.names.generated(name) for name in sorted(makefiles)}
         value = {
@@ -46,11 +49,12 @@ class Teller:
             "unjudged_recipes": len(build.unjudged & verdict.targets),
             "reads": verdict.reads,
             "findings": [self.finding(group) for group in self.groups(verdict.findings)],
+            "later": [self.finding(group) for group in self.groups(verdict.later)],
             "generators": {name: how for name, how in generators.items() if how},
-            "unjudged": grouped(build.problems, build.subjects),
+            "unjudged": list(map(known.replace, grouped(build.problems, build.subjects))),
             "given": list(build.given),
             "unwritten": list(build.unwritten),
-            "notes": grouped(build.notes, build.subjects),
+            "notes": list(map(known.replace, grouped(build.notes, build.subjects))),
         }
         return json.dumps(value, indent=1, ensure_ascii=False) + "\n"
 

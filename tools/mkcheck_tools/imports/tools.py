@@ -11,6 +11,7 @@ from collections.abc import Iterable
 from dataclasses import asdict, dataclass, field, replace
 from typing import Any, Protocol, TypeVar
 
+from mkcheck_tools.book.states import State
 from mkcheck_tools.faults import Fault
 from mkcheck_tools.imports.answers import counted
 from mkcheck_tools.imports.builds import Build, path_name
@@ -28,6 +29,7 @@ from mkcheck_tools.imports.ninja_folder import (
     ninja_built,
     ninja_shown,
 )
+from mkcheck_tools.imports.ninja_recorded import laid_out, recordable
 from mkcheck_tools.imports.real_commands import to_build
 from mkcheck_tools.imports.request import Request
 from mkcheck_tools.imports.telling import Far
@@ -88,6 +90,13 @@ class Tool(Protocol[Shown, Built]):
 
     def build(self, shown: Shown) -> Built:
         """Lets the tool build in a copy, and asks it again what it would do."""
+
+    def recordable(self, shown: Shown) -> Build | None:
+        """The build to be recorded before the tool builds; None where it has to build first."""
+
+    def recorded(self, shown: Shown, state: State, store: str) -> Built | None:
+        """The same as `build` by what recorded recipes left, which lies in a store; None where that
+        doesn't show all."""
 
     def word_of_build(self, built: Built) -> str:
         """A word on that."""
@@ -157,6 +166,12 @@ class MakeTool:
     def build(self, shown: MakeShown) -> MakeBuilt:
         """Lets make build in a copy."""
         return built_by(shown)
+
+    def recordable(self, shown: MakeShown) -> Build | None:
+        """None: what make knows after a build it only says in one."""
+
+    def recorded(self, shown: MakeShown, state: State, store: str) -> MakeBuilt | None:
+        """None."""
 
     def word_of_build(self, built: MakeBuilt) -> str:
         """How many recipes ran."""
@@ -295,6 +310,14 @@ class NinjaTool:
     def build(self, shown: NinjaShown) -> NinjaShown:
         """Lets ninja build in a copy."""
         return ninja_built(shown, self.tail)
+
+    def recordable(self, shown: NinjaShown) -> Build | None:
+        """The build as `build.ninja` says it, where recipes show the rest."""
+        return recordable(shown)
+
+    def recorded(self, shown: NinjaShown, state: State, store: str) -> NinjaShown | None:
+        """The build with what recorded recipes left."""
+        return laid_out(shown, state, store)
 
     def word_of_build(self, built: NinjaShown) -> str:
         """Nothing more."""

@@ -2,16 +2,24 @@
 
 from __future__ import annotations
 
+import shlex
 from dataclasses import replace
 
-from mkcheck_tools.imports.builds import Build, Kind, Node, in_folder
+from mkcheck_tools.imports.builds import Build, Command, Kind, Node, in_folder
 from mkcheck_tools.imports.cmake import is_beside
 from mkcheck_tools.imports.commands import Commands
 from mkcheck_tools.imports.database import Rule, Shown
+from mkcheck_tools.imports.expanded import Expanded
 from mkcheck_tools.imports.failing import below_last, failure_of_make
 from mkcheck_tools.imports.gnumake import Make
+from mkcheck_tools.imports.plain import printf_format
 from mkcheck_tools.imports.recursion import is_only_makes, runs_at_once, without_makes
 from mkcheck_tools.imports.views import Edge, View
+
+
+def writing(one: Expanded) -> Command:
+    """A command that writes a file as make does when it expands a recipe."""
+    return Command(f"printf {printf_format(one.text)} > {shlex.quote(one.name)}")
 
 
 class Translation(Commands):
@@ -244,7 +252,9 @@ class Translation(Commands):
                 " be the target",
                 node.name,
             )
-        if rule.has_recipe and not rule.ran and not (rule.is_done and not self.is_made(node.name)):
+        written = self.expanded.get((view.folder, rule.name), [])
+        is_run = rule.ran or bool(written)
+        if rule.has_recipe and not is_run and not (rule.is_done and not self.is_made(node.name)):
             self.build.problem(
                 f"{self.place_of(node)}: make didn't run the recipe of {node.name}, which another"
                 " recipe made first, or which make didn't come to: what it does isn't judged; let"
@@ -261,6 +271,16 @@ class Translation(Commands):
         if node.kind is Kind.ORDER and rule.does_nothing:
             return
         node.commands, node.setting = self.commands(view, node, rule.commands)
+        if written:
+            node.setting = replace(node.setting, folder=self.short(view.folder))
+            node.commands = [*map(writing, written), *node.commands]
+            names = ", ".join(one.name for one in written)
+            self.build.note(
+                f"{self.place_of(node)}: make writes {names} by $(file ..) when it expands the"
+                f" recipe of {node.name}: that counts as a command of it",
+                node.name,
+            )
+        node.also_makes = [self.path(view, other) for other in rule.also_makes]
         node.varies = rule.varies and rule.ran
 
     def is_given(self, view: View, rule: Rule, text: str) -> bool:

@@ -12,6 +12,7 @@ from pathlib import Path
 from typing import ClassVar
 
 from mkcheck_tools.faults import Fault
+from mkcheck_tools.imports.commits import HEAD, commits
 from mkcheck_tools.imports.database import COMPUTED_NAME, WORD
 from mkcheck_tools.imports.gnumake import Make, content
 from mkcheck_tools.imports.readers import Started
@@ -59,6 +60,8 @@ class Trial:
 
     def count(self, name: str) -> int:
         """How many other contents of a file there are."""
+        if name == HEAD:
+            return 1
         text = content(os.path.join(self.folder, name))
         return sum(1 for _ in others(text, self.words, self.is_confined))
 
@@ -76,7 +79,10 @@ class Trial:
 
     def changes(self, name: str, is_new: bool = False) -> Iterator[int]:
         """Gives a file each of the other contents, one after another, and then its own again. It
-        keeps its time, unless it is to be new."""
+        keeps its time, unless it is to be new. What git keeps has a commit more."""
+        if name == HEAD:
+            yield from (0 for _ in commits(self.folder))
+            return
         path = Path(self.folder, name)
         before, stamp = path.read_bytes(), os.stat(path).st_mtime_ns
         for number, text in enumerate(others(before, self.words, self.is_confined)):

@@ -11,6 +11,7 @@ from dataclasses import dataclass, field
 
 from mkcheck_tools.imports.builds import Build, Node, Origin, in_folder, path_name
 from mkcheck_tools.imports.database import Rule, Shown
+from mkcheck_tools.imports.expanded import Expanded
 from mkcheck_tools.imports.gnumake import Make, last_words, own_environment
 
 SPECIAL = re.compile(r"\.[A-Z][A-Z_]{2,}")
@@ -28,6 +29,9 @@ class View:
     rules: dict[str, list[Rule]] = field(default_factory=dict)
     exported: set[str] = field(default_factory=set)
     """Macros that are exported for some targets alone."""
+
+    has_one_job: bool = False
+    """Whether each of these makes has one job alone (`$(MAKE) -j1`)."""
 
     @functools.cached_property
     def also(self) -> dict[str, list[str]]:
@@ -47,9 +51,9 @@ class View:
 
     @property
     def is_serial(self) -> bool:
-        """Whether `.NOTPARALLEL` holds for all of it."""
+        """Whether it has one job alone, or `.NOTPARALLEL` holds for all of it."""
         rules = self.rules.get(".NOTPARALLEL", [])
-        return any(not rule.needs or not self.has_wait for rule in rules)
+        return self.has_one_job or any(not rule.needs or not self.has_wait for rule in rules)
 
     def is_serial_target(self, name: str) -> bool:
         """Whether the prerequisites of a target are made one after another."""
@@ -88,6 +92,9 @@ class Subject:
     exported: Mapping[str, set[str]]
     """Of each folder the macros that are exported for some targets alone."""
 
+    expanded: Mapping[str, Expanded] = field(default_factory=dict)
+    """The files that make writes when it expands the commands of a recipe."""
+
 
 class Knowledge:
     """What is known of one build. `outside` is the environment in which its first make starts."""
@@ -97,6 +104,9 @@ class Knowledge:
         self.before, self.after = subject.before, subject.after
         self.wrapper = subject.wrapper
         self.links, self.exported = subject.links, subject.exported
+        self.expanded: dict[tuple[str, str], list[Expanded]] = {}
+        for one in subject.expanded.values():
+            self.expanded.setdefault((one.folder, one.target), []).append(one)
         self.outside = own_environment(dict(outside))
         self.build = Build(self.root)
         self.views: dict[tuple[object, ...], View] = {}
@@ -141,7 +151,11 @@ class Knowledge:
                 " and what that one does isn't judged; start it by $(MAKE)",
                 folder,
             )
-        view = self.views.setdefault(make.key, View(len(self.views), make, make.folder))
+        view = self.views.setdefault(
+            make.key,
+            View(len(self.views), make, make.folder, has_one_job=make.has_one_job),
+        )
+        view.has_one_job = view.has_one_job and make.has_one_job
         view.exported = self.exported.get(make.folder, set())
         for name, rules in make.base.rules.items():
             known = view.rules.get(name)

@@ -5,7 +5,7 @@ from __future__ import annotations
 import os
 import stat
 import time
-from collections.abc import Container, Iterable, Iterator
+from collections.abc import Iterable, Iterator
 from dataclasses import dataclass, field
 
 from mkcheck_tools.answers.graphs import Recipe
@@ -142,7 +142,7 @@ def footprint_of(recipe: Recipe, accesses: Accesses, naming: Naming, warn: Warn)
     read = [path for path in accesses.reads if path in there and not is_needless(path, naming)]
     written = list(dict.fromkeys(left(tree, [*accesses.writes, *within(tree, accesses.moved)])))
     written = [path for path in written if not is_cache(path)]
-    refuse_nameless(recipe, read, written, naming, accesses.locked)
+    refuse_nameless(recipe, read, written, naming, accesses)
     for path in lost if written else ():
         warn_of_lost(recipe, naming.name_or_path(path), warn)
     here = set(written)
@@ -269,7 +269,7 @@ def is_outside(path: SeenPath, naming: Naming) -> bool:
 
 def refuse_forbidden(recipe: Recipe, accesses: Accesses, naming: Naming) -> None:
     """Refuses a recipe that would have written outside of the folder, were that not read-only."""
-    refuse_nameless(recipe, [], list(accesses.forbidden), naming)
+    refuse_nameless(recipe, [], list(accesses.forbidden), naming, accesses)
 
 
 def is_needless(path: SeenPath, naming: Naming) -> bool:
@@ -291,12 +291,11 @@ def refuse_nameless(
     read: list[SeenPath],
     written: list[SeenPath],
     naming: Naming,
-    locked: Container[str] = (),
+    accesses: Accesses,
 ) -> None:
-    """Refuses files that no footprint can name, and says for each what helps.
-
-    `locked` are those that the recipe locked.
-    """
+    """Refuses files that no footprint can name, and says for each what helps. Those that the recipe
+    reads may be written by another one that has no footprint."""
+    locked, others = accesses.locked, accesses.tree.outside
     nameless = [("reads", path) for path in read] + [("writes", path) for path in written]
     nameless = [
         ("locks" if path in locked and is_outside(path, naming) else verb, path)
@@ -307,7 +306,9 @@ def refuse_nameless(
         return
     told: dict[str, list[tuple[str, SeenPath]]] = {}
     for verb, path in nameless:
-        told.setdefault(what_helps(verb, path, naming), []).append((verb, path))
+        writer = others.get(path) if verb == "reads" else None
+        text = what_helps(verb, path, naming) if writer is None else written_by(writer)
+        told.setdefault(text, []).append((verb, path))
     lines: list[str] = []
     for text, files in told.items():
         text = text.replace(ANY_PREFIX, f"--fixed {prefix_above([p for _, p in files], naming)}")
@@ -329,6 +330,14 @@ def prefix_above(paths: list[SeenPath], naming: Naming) -> str:
         return "PREFIX"
     is_near = folder.startswith(os.path.dirname(naming.root) + "/")
     return f"{os.path.relpath(folder, naming.root) if is_near else folder}/"
+
+
+def written_by(target: str) -> str:
+    """What is said of a file outside of the folder that another recipe writes."""
+    return (
+        f"reads files outside the folder that the recipe of {target} writes: let both use files in"
+        " the folder"
+    )
 
 
 def what_helps(verb: str, path: SeenPath, naming: Naming) -> str:

@@ -58,6 +58,29 @@ def warn_of_left_over(
         warn(Note(readers[0].recipe.target, Kind.LEFT_OVER, text))
 
 
+def warn_of_unmade(folder: str, names: Sequence[str], graph: Graph, warn: Warn) -> None:
+    """Warns of dependency files that the makefile includes where they are there, that no recipe of
+    the goals makes, and that git doesn't track."""
+    found = [name for name in names if name not in graph.targets]
+    tracked = tracked_in(folder) if found else None
+    found = [name for name in found if name not in (tracked or ())]
+    if found:
+        warn(note_of_unmade(found))
+
+
+def note_of_unmade(names: Sequence[str]) -> Note:
+    """The note on dependency files that the makefile includes where they are there, and that no
+    recipe of the goals makes."""
+    one = len(names) == 1
+    it, they, are = ("it", "it", "it is") if one else ("them", "they", "they are")
+    text = (
+        f"the makefile includes {listed(names)} where {are} there, and no recipe of these goals"
+        f" makes {it}: in a fresh copy of the project, or after an edit of an #include, make lacks"
+        f" prerequisites that {they} should name; let make make {it}, as by cc -MMD"
+    )
+    return Note("", Kind.LEFT_OVER, text)
+
+
 def unnamed(folder: str, graph: Graph, footprints: Sequence[Footprint]) -> list[str]:
     """The files that recipes read, that the graph doesn't name and no recipe writes, and that lie
     in a folder in which recipes write."""

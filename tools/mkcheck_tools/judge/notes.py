@@ -40,7 +40,7 @@ class Kind(Enum):
     LINKS = ("links", DOUBT, "a recipe goes by the number of names of a file that it reads")
     LISTING = ("listing", DOUBT, "a recipe goes by the order in which a folder has its names")
     LOCK = ("lock", HINT, "recipes lock a file that they write, which counts as any other file")
-    MACHINE = ("machine", DOUBT, "a recipe asks for the machine's name, processors or limits")
+    MACHINE = ("machine", DOUBT, "a recipe asks for a machine's name, kernel, processors or limits")
     MAKE = ("make", DOUBT, "make ran other commands, or used other files (`--make`)")
     MODE = ("mode", DOUBT, "a recipe gives a folder a mode that no footprint can say")
     MODULES = ("modules", DOUBT, "a recipe uses modules that Python keeps compiled")

@@ -4,6 +4,7 @@ from __future__ import annotations
 
 import os
 from collections.abc import Iterable
+from pathlib import Path
 from typing import Protocol
 
 from mkcheck_tools.answers.graphs import Recipe
@@ -67,6 +68,19 @@ def refuse_unmade(recipe: Recipe, shop: Shop) -> None:
             f"{target} was there before, and its recipe {verb}, so its content is made by no"
             f" recipe, and a build from nothing lacks it; let the recipe write {target}, or leave"
             " out the rule's commands"
+        )
+
+
+def refuse_pipe(recipe: Recipe, shop: Shop) -> None:
+    """Refuses a target that is a pipe or a socket when its recipe has ended."""
+    target = recipe.target
+    path = Path(shop.place.folder, target)
+    what = "a pipe" if path.is_fifo() else "a socket" if path.is_socket() else ""
+    if what and target in shop.absent:
+        raise RecipeFault(
+            f"the recipe of {target} leaves {what} as {target}, which holds nothing that stays, so"
+            f" no footprint can name it: let the recipes that use it make it themselves, or let"
+            f" {target} be a file beside it (touch {target})"
         )
 
 

@@ -32,6 +32,13 @@ OF_BASH = re.compile(r"(\$\{?S?RANDOM\b|\(\(.*\bS?RANDOM\b)")
 SEED = "--random-source"
 # The clock of bash, which asks the kernel itself.
 CLOCK = re.compile(r"(\$\{?EPOCH(?:SECONDS|REALTIME)\b|\bEPOCHSECONDS\b|%\([^()]*\)T\b)")
+# Options by which compilers write code for the processor that is here, and the programs that do.
+NATIVE = re.compile(r"(?<!\S)-m(?:arch|tune|cpu)=native(?!\S)|(?<!\S)target-cpu=native(?!\S)")
+COMPILERS = re.compile(
+    r"cc1\w*|f951|lto1|gnat1|d21|rust1|(?:.+-)?clang(?:\+\+)?(?:-[0-9.]+)?|rustc|icp?x|nvc.*"
+)
+# The command that tells the umask.
+UMASK = re.compile(r"(?:^|[;&|({`]|\bdo|\bthen|\belse)\s*umask(?:\s+-[Sp]+)*\s*(?=[;&|)}`>]|$)")
 # The shell that has no variable of that name.
 PLAIN_SHELL = "dash"
 
@@ -75,6 +82,7 @@ def unsteady(recipe: Recipe, accesses: Accesses) -> Iterator[Note]:
             " write a file of its own, and join these in a fixed order"
         )
         yield Note(target, Kind.BESIDE, text)
+    yield from of_machine(recipe, accesses)
     asked = words_of_bash(recipe, CLOCK)
     if asked:
         text = (
@@ -89,6 +97,25 @@ def unsteady(recipe: Recipe, accesses: Accesses) -> Iterator[Note]:
             " which two runs needn't show; let it begin with a fixed seed"
         )
         yield Note(target, Kind.RANDOM, text)
+
+
+def of_machine(recipe: Recipe, accesses: Accesses) -> Iterator[Note]:
+    """Notes on a recipe that goes by the processor, or by the umask."""
+    target, texts = recipe.target, [command.text for command in recipe.commands]
+    programs = (os.path.basename(path) for path in accesses.reads)
+    native = next((found[0] for text in texts if (found := NATIVE.search(text))), None)
+    if native is not None and any(map(COMPILERS.fullmatch, programs)):
+        text = (
+            f"the recipe of {target} compiles for the processor that is here ({native}): on another"
+            " machine it writes something else, and no make notices that; name a processor"
+        )
+        yield Note(target, Kind.MACHINE, text)
+    if any(map(UMASK.search, texts)):
+        text = (
+            f"the recipe of {target} asks for the umask: no make notices when that changes; let it"
+            " set the umask itself (umask 022)"
+        )
+        yield Note(target, Kind.VARIABLES, text)
 
 
 def servers(accesses: Accesses) -> Iterator[str]:

@@ -6,6 +6,7 @@ from __future__ import annotations
 
 import os
 import secrets
+import threading
 from collections.abc import Mapping
 from contextlib import AbstractContextManager, nullcontext
 from dataclasses import dataclass, replace
@@ -18,14 +19,15 @@ from mkcheck_tools.book.footprint_files import Footprints
 from mkcheck_tools.book.note_files import text_of_notes
 from mkcheck_tools.book.paths import path_of_notes, path_of_state
 from mkcheck_tools.book.states import Unusable
-from mkcheck_tools.book.updating import FIRST_TIME, Conditions, Updating, believed
+from mkcheck_tools.book.updating import FIRST_TIME, Conditions, Updating, believed, probe_programs
 from mkcheck_tools.faults import Failure, Fault, RecipeFault, failure_of, sentence_of
+from mkcheck_tools.gnu.remade import optional_dependencies
 from mkcheck_tools.gnu.unlooked import warn_of_unlooked
 from mkcheck_tools.record.comparing import compare_again, compare_make
 from mkcheck_tools.replay.dates import dated, without_told
 from mkcheck_tools.judge.footprints import Footprint
 from mkcheck_tools.judge.late import Late, with_met
-from mkcheck_tools.judge.leftovers import warn_of_left_over
+from mkcheck_tools.judge.leftovers import warn_of_left_over, warn_of_unmade
 from mkcheck_tools.judge.linked import with_names
 from mkcheck_tools.judge.modules import warn_of_modules
 from mkcheck_tools.judge.notes import Kind, Note, Notes, Warn, ignore
@@ -78,8 +80,14 @@ def record_folder(request: Request, scratch: RealPath) -> int:
     """
     notes = Notes(tell)
     tracing.strace()
-    before = Beginning.of(request)
-    build = build_of(request, scratch, notes.add)
+    # While mkcheck is asked, this program reads itself.
+    probing = threading.Thread(target=probe_programs)
+    probing.start()
+    try:
+        before = Beginning.of(request)
+        build = build_of(request, scratch, notes.add)
+    finally:
+        probing.join()
     before = None if before is None else before.with_outside(request, build.graph.names)
     request = replace(request, left=with_folders(build.left))
     shop = workshop(request, build, scratch, notes.add)
@@ -276,6 +284,7 @@ def warn_of_recorded(shop: Workshop, build: Build, recorded: Recorded, warn: War
     warn_of_unlooked(build.graph, build.prober, recorded.writers, warn)
     makefile = makefile_of(request)
     warn_of_left_over(request.folder, makefile, build.graph, recorded.footprints, warn)
+    warn_of_unmade(request.folder, optional_dependencies(build.prober), build.graph, warn)
     refuse_other_meaning(build, recorded)
     warn_of_modules(recorded.footprints, shop.fixed, warn)
     if not request.replay:

@@ -18,7 +18,7 @@ from mkcheck_tools.book.answer_files import RecordingAnswer
 from mkcheck_tools.book.choices import Choice
 from mkcheck_tools.book.paths import path_of_state
 from mkcheck_tools.book.premises import Premises
-from mkcheck_tools.faults import Fault, sentence_of
+from mkcheck_tools.faults import Fault, RecipeFault, failure_of, sentence_of
 from mkcheck_tools.record.answering import tell, unchanged, write_answer
 from mkcheck_tools.record.request import Request
 from mkcheck_tools.run.ending import ended
@@ -74,6 +74,8 @@ def words_of(arguments: list[str]) -> argparse.Namespace:
     parser.add_argument(
         "-k", action="store_true", help="go on where a recipe fails, which is always done"
     )
+    # For mkcheck-import, which has the build tool say why, as soon as a recipe fails.
+    parser.add_argument("-S", action="store_true", help=argparse.SUPPRESS)
     parser.add_argument("--strict", action="store_true", help="take a doubt for an error")
     parser.add_argument(
         "--answer", metavar="FILE", help="write what the recording came to as JSON, for a program"
@@ -148,6 +150,7 @@ def request_of(asked: argparse.Namespace, before: Premises | None) -> Request:
         asked.make,
         asked.strict,
         asked.answer,
+        asked.S,
         asked.keep,
     )
 
@@ -238,7 +241,11 @@ def answered(asked: argparse.Namespace) -> int:
         if asked.answer is not None:
             status = error.status if isinstance(error, Fault) else Fault.status
             said = sentence_of(error, "recorder")
-            write_answer(asked.answer, RecordingAnswer(status, False, fault=said))
+            failed = error.targets if isinstance(error, RecipeFault) else ()
+            failures = tuple(failure_of(error, target) for target in failed)
+            write_answer(
+                asked.answer, RecordingAnswer(status, False, unrecorded=failures, fault=said)
+            )
         raise
 
 

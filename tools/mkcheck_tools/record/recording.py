@@ -36,7 +36,7 @@ from mkcheck_tools.judge.footprints import (
 from mkcheck_tools.judge.late import Late, folders_of, late_files
 from mkcheck_tools.judge.linked import Over
 from mkcheck_tools.judge.notes import Kind, Note, Warn
-from mkcheck_tools.judge.refusals import listed, refuse_unmade, refuse_unseen
+from mkcheck_tools.judge.refusals import listed, refuse_pipe, refuse_unmade, refuse_unseen
 from mkcheck_tools.record.building import VARYING_HELP
 from mkcheck_tools.record.request import Request
 from mkcheck_tools.replay.digests import Digests
@@ -44,6 +44,7 @@ from mkcheck_tools.replay.early import Disturbed, Early
 from mkcheck_tools.replay.versions import Store, Version, version_of
 from mkcheck_tools.replay.worlds import Effects, World
 from mkcheck_tools.run.folders import UNWRITTEN, Naming, copy, is_cache, is_own
+from mkcheck_tools.run.holders import ready
 from mkcheck_tools.run.paths import Name, RealPath, SeenPath, real_in, seen_in
 from mkcheck_tools.run.places import Place
 from mkcheck_tools.run.progress import Progress
@@ -51,7 +52,7 @@ from mkcheck_tools.run.stopping import Stopped
 from mkcheck_tools.trace import tracing
 from mkcheck_tools.trace.accesses import Accesses, Follower
 from mkcheck_tools.trace.makes import Makes
-from mkcheck_tools.trace.tracing import Tracer, Watch
+from mkcheck_tools.trace.tracing import Tracer, Watch, is_side_by_side
 from mkcheck_tools.trace.trees import Tree
 
 Follow = Callable[[], World]
@@ -196,8 +197,8 @@ def record(
     done = Recorded([], [], [], world, given, shop.ancestors)
     failed: set[str] = set()
     try:
-        with Progress(len(recipes)) as progress:
-            bench = Bench(shop, tree, naming, progress, early)
+        with Progress(len(recipes)) as progress, ready(shop.place) as place:
+            bench = Bench(replace(shop, place=place), tree, naming, progress, early)
             for number, recipe in enumerate(recipes, 1):
                 target = recipe.target
                 progress.begin(target)
@@ -219,6 +220,10 @@ def record(
                     progress.unrun = sum(shop.ancestors.any_before(failed, one) for one in rest)
                     done.failures.append(failure_of(error, target))
                     bench.clear(world)
+                    if shop.request.stops and FAILED in done.failures[-1].text:
+                        failure = done.failures[-1]
+                        end = RecipeFault(failure.text, (target,), failure.makers)
+                        return replace(done, stopped=end)
     except (OSError, Stopped) as end:
         return replace(done, stopped=end)
     return done
@@ -258,12 +263,18 @@ class Bench:
             output = run(recipe, self.shop, accesses, self.naming, self.progress)
         except Exception:
             self.refuse_disturbed(accesses)
+            self.note_outside(recipe, accesses)
             raise
         self.refuse_disturbed(accesses)
         self.progress.clear()
-        with showing(output):
-            refuse_unmade(recipe, self.shop)
-            footprint = footprint_of(recipe, accesses, self.naming, warn)
+        try:
+            with showing(output):
+                refuse_unmade(recipe, self.shop)
+                refuse_pipe(recipe, self.shop)
+                footprint = footprint_of(recipe, accesses, self.naming, warn)
+        except RecipeFault:
+            self.note_outside(recipe, accesses)
+            raise
         warn_of_stamps(footprint, accesses, self.naming, stamp, warn)
         if done.world is not None:
             effects = effects_of(footprint, accesses, self.naming)
@@ -302,6 +313,12 @@ class Bench:
         """Raises Disturbed where a replay may have disturbed a recipe."""
         if self.early is not None:
             self.early.refuse_disturbed(accesses)
+
+    def note_outside(self, recipe: Recipe, accesses: Accesses) -> None:
+        """Notes the files elsewhere that a recipe without a footprint wrote."""
+        for path in accesses.touched:
+            if not self.tree.has(path):
+                self.tree.outside.setdefault(path, recipe.target)
 
     def left(self, footprint: Footprint) -> Mapping[Name, Version | None]:
         """What a recipe left at the files that it wrote."""
@@ -393,7 +410,8 @@ def run(
         own = None if recipe.target in shop.opaque else Makes(shop.place.seen)
         if own is not None:
             own.written.update(accesses.touched)
-        done = tracer.run(command.words, Watch(links, looking=True), own)
+        watch = Watch(links, looking=True, writes=is_side_by_side(command.text))
+        done = tracer.run(command.words, watch, own)
         output += done.output
         Follower(accesses, shop.place.seen, ended=done.ended).follow(done.calls)
         with showing("" if accesses.makes else output):
@@ -401,11 +419,13 @@ def run(
             refuse_forbidden(recipe, accesses, naming)
         if done.status != 0 and not command.ignored:
             said = failure(recipe, command, done.status, output)
-            missed = missed_targets(recipe, accesses, naming, shop)
+            later = later_targets(recipe, accesses, naming, shop)
+            missed = missed_targets(recipe, later, accesses, naming, shop)
             more = [*missed, *varying_before(recipe, shop), *was_there(recipe, done.status, shop)]
             more += said_of_full(shop)
             more += said_of_leaks(output)
-            raise RecipeFault("\n".join([said, *more]))
+            makers = [name for name, needed in later.items() if not needed]
+            raise RecipeFault("\n".join([said, *more]), makers=makers)
     return output
 
 
@@ -443,21 +463,38 @@ def said_of_full(shop: Workshop) -> list[str]:
     return [f"{said} {above}, or let TMPDIR name another folder"]
 
 
-def missed_targets(
+def later_targets(
     recipe: Recipe, accesses: Accesses, naming: Naming, shop: Workshop
-) -> Iterator[str]:
-    """What is said of targets for which a recipe that failed looked in vain, or in whose folders it
-    would have looked, had these been there; and of names with rules that the goals don't reach."""
+) -> dict[str, bool]:
+    """Targets for which a recipe that failed looked in vain, or in whose folders it would have
+    looked, had these been there; and whether each needs the recipe."""
     target = recipe.target
-    missing = [path for path in accesses.sought if accesses.tree.status(path) is None]
-    sought, absent = named(accesses.sought, naming), set(named(missing, naming))
+    sought, absent = sought_by(accesses, naming)
     inside = [name for name in shop.ancestors.bits if absent.intersection(folders_of(Name(name)))]
-    for name in dict.fromkeys([*sought, *inside]):
-        if name in shop.ancestors.bits and name in shop.absent and name != target:
-            folder = "" if name in sought else "the folder of "
-            front = f"\t{target} looks for {folder}{name}, which the recipe of {name} makes later"
-            needed = shop.ancestors.any_before((target,), name)
-            yield f"{front}, and needs {target}" if needed else f"{front}: add {target}: {name}"
+    return {
+        name: shop.ancestors.any_before((target,), name)
+        for name in dict.fromkeys([*sought, *inside])
+        if name in shop.ancestors.bits and name in shop.absent and name != target
+    }
+
+
+def sought_by(accesses: Accesses, naming: Naming) -> tuple[list[Name], set[Name]]:
+    """The names for which a recipe looked in vain, and those of them that aren't there now."""
+    missing = [path for path in accesses.sought if accesses.tree.status(path) is None]
+    return named(accesses.sought, naming), set(named(missing, naming))
+
+
+def missed_targets(
+    recipe: Recipe, later: Mapping[str, bool], accesses: Accesses, naming: Naming, shop: Workshop
+) -> Iterator[str]:
+    """What is said of targets that are made later, as `later_targets` gives them; and of names with
+    rules that the goals don't reach."""
+    target = recipe.target
+    sought, absent = sought_by(accesses, naming)
+    for name, needed in later.items():
+        folder = "" if name in sought else "the folder of "
+        front = f"\t{target} looks for {folder}{name}, which the recipe of {name} makes later"
+        yield f"{front}, and needs {target}" if needed else f"{front}: add {target}: {name}"
     own = [name for name in sought if name in absent and is_own(name)]
     for name in shop.ruled([name for name in own if name not in shop.ancestors.bits], target):
         front = f"\t{target} looks for {name}, which has a rule that the goals don't reach"

@@ -32,6 +32,9 @@ class Request:
     strict: bool = False
     answer: str | None = None
     """Where what it came to is written for another program."""
+    stops: bool = False
+    """Whether a command that fails ends it."""
+
     keep: str | None = None
     """The folder in which what the build is made from is kept."""
 

@@ -27,7 +27,7 @@ from typing import Any
 from mkcheck_tools.replay.alike import Way, way_of
 from mkcheck_tools.replay.halves import size_of_target
 from mkcheck_tools.replay.replays import WAITING, Begun, Replay, Started, processors
-from mkcheck_tools.replay.runs import Ahead, seconds_left, wait_for_clock
+from mkcheck_tools.replay.runs import Ahead, Lookahead, wait_for_clock
 from mkcheck_tools.replay.worlds import Trial, World
 from mkcheck_tools.run import places
 from mkcheck_tools.run.memory import Memory, memory
@@ -56,7 +56,9 @@ class Early:
     replay: Callable[[World, Writers, Early], Replay]
     targets: frozenset[Name]
     pool: ThreadPoolExecutor
-    memory: Memory | None
+    found: Future[Memory | None]
+    """The file system in memory for replays, which is made while the first recipe runs."""
+
     slots: threading.Semaphore
     is_failing: bool
     """Whether recipes are run where writes fail."""
@@ -78,6 +80,9 @@ class Early:
     """Runs of recipes where writes fail that began, of those whose target is the largest so far of
     all that are made alike; by the place of the recipe."""
 
+    looking: dict[int, Future[Ahead]] = field(default_factory=dict)
+    """What recipes show ahead of their replays, and beside these."""
+
     largest: dict[Way, tuple[int, int]] = field(default_factory=dict)
     """The largest target so far, by the way in which recipes make it: its size, and the place of
     its recipe."""
@@ -93,6 +98,11 @@ class Early:
     """Whether none is started any more."""
 
     @property
+    def memory(self) -> Memory | None:
+        """The file system in memory, where there is one."""
+        return self.found.result()
+
+    @property
     def begun(self) -> Begun:
         """What began, for the replays in the end."""
         return Begun(self.started, self.failing, frozenset(self.alike))
@@ -100,6 +110,7 @@ class Early:
     def begin(self) -> None:
         """The recording begins, for the first time or anew."""
         begun: list[Future[Any]] = [*self.started.values(), *self.failing.values()]
+        begun += self.looking.values()
         left = {one for one in begun if not one.cancel()}
         with Progress(len(left), title="early") as progress:
             while left:
@@ -110,6 +121,7 @@ class Early:
                     progress.goes_on(EARLY)
         self.started.clear()
         self.failing.clear()
+        self.looking.clear()
         self.largest.clear()
         self.alike.clear()
         self.writers.clear()
@@ -134,6 +146,9 @@ class Early:
         if asks_alone(accesses, trial):
             self.alike.add(number)
         lean = number in self.alike and not is_largest
+        if not lean:
+            self.looking[number] = Future()
+            self.pool.submit(self.look_ahead, world, trial, number, self.looking[number])
         self.started[number] = self.pool.submit(self.replayed, world, trial, number, lean)
 
     def is_largest(self, world: World, trial: Trial, number: int) -> bool:
@@ -159,22 +174,35 @@ class Early:
             premises = own.layout.premises(trial)
             return Ahead(premises, half=own.halves.half(trial, number, frozenset()))
 
+    def look_ahead(
+        self, world: World, trial: Trial, number: int, found: Future[Ahead]
+    ) -> None:
+        """Makes the runs that needn't wait for the clock, unless the replay is done by then."""
+        with self.slots:
+            if found.set_running_or_notify_cancel():
+                try:
+                    found.set_result(self.replay_of(world).look_ahead(trial, number))
+                except BaseException as error:
+                    found.set_exception(error)
+
     def replayed(self, world: World, trial: Trial, number: int, lean: bool) -> Started:
         """A replay, which waits for the clock and a free processor, and takes the world as it is
-        then. What needn't wait for the clock is run before. The processor is free meanwhile: no
-        replay holds a turn then, since those that take turns begin in the end."""
-        ahead = None
-        if not lean and seconds_left(trial) > 0:
+        then. What needn't wait for the clock is run before, or beside it. The processor is free
+        while it waits: no replay holds a turn then, since those that take turns begin in the end.
+        """
+        ahead = self.looking.get(number)
+        try:
+            wait_for_clock(trial)
             with self.slots:
-                ahead = self.replay_of(world).look_ahead(trial, number)
-        wait_for_clock(trial)
-        with self.slots:
-            own = self.replay_of(world)
-            own.lean = lean
-            premises = own.layout.premises(trial)
-            if ahead is not None and ahead.premises == premises:
-                own.ahead = ahead
-            return Started(premises, own.replay_safely(trial, number, frozenset()))
+                own = self.replay_of(world)
+                own.lean = lean
+                premises = own.layout.premises(trial)
+                own.ahead = None if ahead is None else Lookahead(premises, ahead)
+                return Started(premises, own.replay_safely(trial, number, frozenset()))
+        finally:
+            # Nothing of it goes on when it has ended.
+            if ahead is not None and not ahead.cancel():
+                futures.wait([ahead])
 
     def replay_of(self, world: World) -> Replay:
         """What replays a recipe in the world as it is now."""
@@ -211,7 +239,8 @@ def early_replays(
     processor is left for the recording."""
     os.makedirs(scratch, exist_ok=True)
     jobs = processors()
-    with memory(unbound(scratch)) as found, ThreadPoolExecutor(WAITING * jobs) as pool:
+    with contextlib.ExitStack() as stack, ThreadPoolExecutor(WAITING * jobs) as pool:
+        found = pool.submit(lambda: stack.enter_context(memory(unbound(scratch))))
         slots = threading.Semaphore(jobs - 1)
         early = Early(replay, targets, pool, found, slots, failing)
         try:

@@ -95,7 +95,9 @@ class Glances:
         size: int,
     ) -> Outcome:
         """A run beside other versions of some files, the newest ones or the oldest ones, and beside
-        others as they were."""
+        others as they were; none where there are no others."""
+        if not others:
+            return Outcome(trial)
         # Later stamps, since files beside these keep theirs.
         tried = with_other_stamps(self.runner.layout.world, trial.with_reads(same), True)
         oldest: frozenset[Name] = frozenset()
@@ -107,8 +109,6 @@ class Glances:
     def looking(self, trial: Trial, look: Look) -> Outcome:
         """A run beside other versions of some files."""
         others, first, place = look.others, look.first, self.place
-        if not others:
-            return Outcome(trial)
         self.runner.layout.furnish(trial, place.folder, self.folders)
         found = [
             (name, *self.runner.layout.world.material(name, version))

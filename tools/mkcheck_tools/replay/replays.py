@@ -51,6 +51,7 @@ from mkcheck_tools.replay.runs import (
     VARIED,
     Ahead,
     Followed,
+    Lookahead,
     Outcome,
     Run,
     Runner,
@@ -154,8 +155,8 @@ class Replay:
     """One for each processor, held by the replays that run."""
     later_ones: bool = False
     """Whether made files get later stamps, also where these have to be waited for."""
-    ahead: Ahead | None = None
-    """What the one recipe that is replayed showed before."""
+    ahead: Lookahead | None = None
+    """What the one recipe that is replayed shows ahead."""
     lean: bool = False
     """Whether it is run once, unless that run shows something."""
     whole: frozenset[int] = frozenset()
@@ -569,7 +570,8 @@ class Replay:
                         return outcome
                     if not seen and way_of(trial) is not None:
                         return replace(outcome, half=None)
-                    half = None if self.ahead is None or seen or folders else self.ahead.half
+                    ahead = None if self.ahead is None or seen or folders else self.ahead.shown()
+                    half = None if ahead is None else ahead.half
                     if half is None:
                         half = self.halves.leaves_half(tried, place, folders)
                     return replace(outcome, half=half)
@@ -858,7 +860,7 @@ class Bench:
     trial: Trial
     place: Place
     folders: frozenset[Name]
-    ahead: Ahead | None = None
+    ahead: Lookahead | None = None
 
     def tried(self, order: str, amid: Surroundings = AS_RECORDED) -> Outcome:
         """The runs of the recipe in a folder that is made for them, with this order of stamps.
@@ -868,7 +870,7 @@ class Bench:
         layout, outcome = self.runner.layout, None
         if layout.joins(self.trial, self.folders):
             layout.furnish(self.trial, self.place.folder, self.folders)
-            passed = self.ahead is not None and self.ahead.passed == self.run(order, amid)
+            passed = functools.partial(self.has_passed, self.run(order, amid))
             outcome = self.runner.joined(self.trial, self.place, order, amid, passed)
             remove(self.place.folder)
         if outcome is None:
@@ -876,6 +878,11 @@ class Bench:
             outcome = self.runner.runs(self.trial, self.place, order, amid)
             remove(self.place.folder)
         return outcome
+
+    def has_passed(self, run: Run) -> bool:
+        """Whether it passed this run ahead."""
+        found = None if self.ahead is None else self.ahead.shown()
+        return found is not None and found.passed == run
 
     def bare(self) -> Outcome:
         """Its run without its outputs."""

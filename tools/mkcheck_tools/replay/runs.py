@@ -6,7 +6,8 @@ import contextlib
 import os
 import threading
 import time
-from collections.abc import Mapping, Sequence
+from collections.abc import Callable, Mapping, Sequence
+from concurrent.futures import Future
 from dataclasses import dataclass, field, replace
 from pathlib import Path
 
@@ -140,6 +141,23 @@ class Ahead:
 
 
 @dataclass(frozen=True)
+class Lookahead:
+    """What a replay takes from runs that begin before it and may go on beside it, if they have
+    these premises."""
+
+    premises: str
+    found: Future[Ahead]
+
+    def shown(self) -> Ahead | None:
+        """What they show. They aren't made any more where they haven't begun, so that no replay
+        waits for one that waits for a processor."""
+        if self.found.cancel() or self.found.exception() is not None:
+            return None
+        ahead = self.found.result()
+        return ahead if ahead.premises == self.premises else None
+
+
+@dataclass(frozen=True)
 class Run:
     """What decides a run over outputs: what the recipe reads, the further folders, the order of
     stamps, and what else is another one."""
@@ -208,18 +226,23 @@ class Runner:
         return Outcome(trial, folders=folders_in(place)) if outcome.passed else outcome
 
     def joined(
-        self, trial: Trial, place: Place, order: str, amid: Surroundings, ahead: bool = False
+        self,
+        trial: Trial,
+        place: Place,
+        order: str,
+        amid: Surroundings,
+        passed_ahead: Callable[[], bool] = lambda: False,
     ) -> Outcome | None:
         """The same by two runs, where `Layout.joins` allows that: the bare one and the damaged one
         are one, which comes first. None where that one shows something: then each has to be run by
-        itself. The other one isn't made where it passed `ahead`."""
+        itself. The other one isn't made where it passed ahead."""
         wait_for_clock(trial)
         laid = self.reordered(trial, place, order, amid.among(APART))
         outputs = list(trial.writes)
         if not self.damaged(trial, place, laid, outputs).passed:
             return None
         outcome = Outcome(trial, folders=folders_in(place))
-        if ahead:
+        if passed_ahead():
             return outcome
         laid = self.reordered(trial, place, order, amid.among(BACK))
         found = self.again(trial, place, laid, outputs, amid)

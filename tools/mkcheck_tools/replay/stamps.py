@@ -90,11 +90,13 @@ def moved(trial: Trial, made: dict[Name, Version], time_passed: int) -> Trial:
 
 def stamps_around(world: World, trial: Trial) -> Iterator[int]:
     """The stamps that a recipe may compare with those of made files, besides what it reads in the
-    project: of the project's folders, and of what it used or looked at elsewhere."""
+    project: of the project's folders, and of what it used or looked at elsewhere. Recipes run in
+    the copy of the project's folder, so the stamp of that one counts."""
     paths = [real_in(world.place, name) for name in (Name(""), *trial.known)]
     if trial.effects is not None:
         outside = (*trial.effects.reads, *trial.effects.looked, *trial.effects.listed)
-        paths += [real_in(world.folder, name) for name in outside if not is_own(name)]
+        others = (real_in(world.folder, name) for name in outside if not is_own(name))
+        paths += [path for path in others if path != world.folder]
     for path in paths:
         with contextlib.suppress(OSError):
             status = os.stat(path)

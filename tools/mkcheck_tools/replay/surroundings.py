@@ -13,6 +13,7 @@ import contextlib
 import functools
 import glob
 import os
+import re
 import subprocess
 import tempfile
 import time
@@ -22,7 +23,7 @@ from dataclasses import dataclass
 from mkcheck_tools.answers.graphs import Command
 from mkcheck_tools.replay.orders import KEPT
 from mkcheck_tools.replay.worlds import OTHER_BYTES
-from mkcheck_tools.run.machines import elsewhere
+from mkcheck_tools.run.machines import elsewhere, other_user
 from mkcheck_tools.run.places import Place
 from mkcheck_tools.run.terminals import Terminal, has_terminals, terminal
 
@@ -37,6 +38,11 @@ LISTING, MEMORY = "listing", "memory"
 SEEDS = ("PYTHONHASHSEED", "PERL_HASH_SEED")
 # What else a user may have: a name, a time zone that is no other's, and a language.
 OF_USER = {"USER": "mkcheck", "LOGNAME": "mkcheck", "TZ": "MKC-13:07"}
+# Words of commands that ask who the user is. Others run as the same user, whose number is that of
+# their files, which archives hold.
+ASKS = re.compile(r"(?<![\w./-])(?:/usr/bin/)?(?:id|whoami|logname|groups)(?![\w./=-])")
+# The user's folder, which gets another spelling, so that programs find there what they need.
+HOME = "HOME"
 LANGUAGES = ("LC_ALL", "LC_COLLATE", "LANG")
 # The languages that sort by bytes, without their encodings.
 PLAIN = ("", "C", "POSIX")
@@ -82,7 +88,8 @@ class Surroundings:
             words[-2] = "-c" if command.strict else "-ec"
         if CLOCK in self.others:
             words = ["env", *later(library() or ""), *words]
-        return words
+        is_asked = VARIABLES in self.others and ASKS.search(command.text) is not None
+        return [*other_user(), *words] if is_asked else words
 
     def environment(self, given: Mapping[str, str], source: int | Terminal) -> dict[str, str]:
         """The variables of a run with this input. Macro operands stay in MAKEFLAGS."""
@@ -92,6 +99,8 @@ class Surroundings:
             given = {**dict.fromkeys(SEEDS, str(self.seed)), **given}
         if VARIABLES in self.others:
             others = {**OF_USER, LANGUAGES[0]: other_language()}
+            if os.environ.get(HOME, "").startswith("/"):
+                others[HOME] = f"{os.environ[HOME]}/."
             own = {name for name in others if given.get(name) == os.environ.get(name)}
             given = {**given, **{name: others[name] for name in own}}
         if JOBS not in self.others:

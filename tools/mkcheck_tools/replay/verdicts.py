@@ -90,7 +90,8 @@ AMID = {
     ),
     MACHINE: (
         Kind.MACHINE,
-        "on a machine with another name, fewer processors, and another limit of open files",
+        "on a machine with another name, an older kernel, fewer processors, and another limit of"
+        " open files",
         "no make notices when that changes; let it take what it needs from a file",
     ),
     MEMORY: (
@@ -117,7 +118,8 @@ AMID = {
     ),
     VARIABLES: (
         Kind.VARIABLES,
-        "in another language, another time zone and by another user (LC_ALL, TZ, USER, LOGNAME)",
+        "in another language, another time zone and by another user (LC_ALL, TZ, USER, LOGNAME,"
+        " HOME, id)",
         "let it set these itself (LC_ALL=C sort, TZ=UTC0 date)",
     ),
 }

@@ -3,11 +3,14 @@
 from __future__ import annotations
 
 import contextlib
+import errno
 import hashlib
 import os
 import stat
 import time
+from collections.abc import Iterator
 from dataclasses import dataclass, field
+from io import FileIO
 
 from mkcheck_tools.faults import Fault
 from mkcheck_tools.run import stopping
@@ -26,6 +29,9 @@ KINDS = {
     stat.S_IFSOCK: "socket",
 }
 CHUNK = 1 << 20
+ZEROS = memoryview(bytes(CHUNK))
+# The unit in which a status tells how much of a file is no hole.
+BLOCK = 512
 NOWHERE = RealPath("")
 # In nanoseconds: a file that changed less than this ago may change again and keep its stamp, since
 # the clocks of file systems go on in steps.
@@ -109,30 +115,78 @@ def digest_of(path: RealPath) -> str:
 
 
 def digest_of_bytes(path: RealPath) -> str:
-    """A digest of the bytes of a file, which is read."""
+    """A digest of the bytes of a file, which is read, but for its holes."""
     digest = hashlib.sha256()
     with open(path, "rb", buffering=0) as file:
-        while chunk := file.read(CHUNK):
+        for chunk in chunks_of(file):
             digest.update(chunk)
             stopping.go_on()
     return digest.hexdigest()
 
 
+def chunks_of(file: FileIO) -> Iterator[bytes | memoryview]:
+    """The bytes of a file. Those of holes aren't read."""
+    status, at = os.fstat(file.fileno()), 0
+    is_sparse = status.st_blocks * BLOCK < status.st_size
+    for begin, end in parts_of(file.fileno(), status.st_size) if is_sparse else ():
+        yield from zeros(begin - at)
+        while begin < end and (chunk := os.pread(file.fileno(), min(CHUNK, end - begin), begin)):
+            yield chunk
+            begin += len(chunk)
+        at = end
+    if is_sparse:
+        yield from zeros(status.st_size - at)
+        return
+    while chunk := file.read(CHUNK):
+        yield chunk
+
+
+def zeros(number: int) -> Iterator[memoryview]:
+    """This number of bytes that are zero."""
+    for at in range(0, number, CHUNK):
+        yield ZEROS[: min(CHUNK, number - at)]
+
+
 def copy_bytes(source: RealPath, goal: RealPath) -> None:
-    """Copies the bytes of a file to a new file, which shares them where the disk can."""
+    """Copies the bytes of a file to a new file, which shares them where the disk can, and whose
+    holes stay holes."""
     with open(source, "rb", buffering=0) as old, open(goal, "xb", buffering=0) as new:
+        size = os.fstat(old.fileno()).st_size
+        for begin, end in parts_of(old.fileno(), size):
+            copy_part(old.fileno(), new.fileno(), begin, end)
+        new.truncate(size)
+
+
+def parts_of(file: int, size: int) -> Iterator[tuple[int, int]]:
+    """The parts of a file that are no holes; all where the file system doesn't tell."""
+    end = 0
+    while end < size:
         try:
-            while os.copy_file_range(old.fileno(), new.fileno(), CHUNK):
-                stopping.go_on()
-        except (AttributeError, OSError):
-            new.seek(0)
-            new.truncate()
-            old.seek(0)
-            while chunk := old.read(CHUNK):
-                stopping.go_on()
-                written = 0
-                while written < len(chunk):
-                    written += new.write(chunk[written:])
+            begin = os.lseek(file, end, os.SEEK_DATA)
+            end = os.lseek(file, begin, os.SEEK_HOLE)
+        except OSError as error:
+            if error.errno != errno.ENXIO:
+                yield end, size
+            return
+        yield begin, end
+
+
+def copy_part(source: int, goal: int, begin: int, end: int) -> None:
+    """Copies a part of a file, by the file system where it can."""
+    at = begin
+    try:
+        while at < end:
+            copied = os.copy_file_range(source, goal, min(CHUNK, end - at), at, at)
+            if not copied:
+                return
+            at += copied
+            stopping.go_on()
+    except (AttributeError, OSError):
+        while chunk := os.pread(source, min(CHUNK, end - at), at):
+            stopping.go_on()
+            while chunk:
+                written = os.pwrite(goal, chunk, at)
+                chunk, at = chunk[written:], at + written
 
 
 def lay(source: RealPath, goal: RealPath, version: Version) -> None:

@@ -24,6 +24,18 @@ from mkcheck_tools.report.makefiles import Makefiles
 from mkcheck_tools.report.origins import Origins
 
 
+@dataclass(frozen=True)
+class Above:
+    """The answer of an audit, of which that to a makefile is a part."""
+
+    word: str
+    """`yes`, `no` or `refused`."""
+
+    text: str
+    is_plain: bool
+    """Whether it is a yes to all that was asked."""
+
+
 @dataclass
 class Judged:
     """A build and the answer to it."""
@@ -40,6 +52,14 @@ class Judged:
 
     origins: Origins | None = None
     """Where the names stand in the original makefiles, where the makefile is a translation."""
+
+    above: Above | None = None
+    """What an audit says of the whole build, of which the makefile may be a part."""
+
+    @property
+    def word(self) -> str:
+        """The word at the top of a page."""
+        return self.above.word if self.above is not None else self.answer
 
     @property
     def original(self) -> str:

@@ -19,10 +19,19 @@ def what_to_do(judged: Judged, repair: str, those: Sequence[Shared]) -> str:
     unmended = [one for one in those if not one.first.adds]
     parts = ["<h2>What to do</h2>\n"]
     lines = repair.split("\n") if repair else lines_of(those)
+    is_told = judged.above is not None and judged.origins is not None
+    if is_told:
+        parts.append("<p>The audit above says what to write, and where.</p>\n")
     for number, (makefile, own) in enumerate(judged.lines_by_makefile(lines).items()):
+        if is_told:
+            break
         if not own:
             continue
-        parts.append(f"<p>Add these lines to the end of <code>{markup(shortened(makefile))}</code>")
+        at = f"<code>{markup(shortened(makefile))}</code>"
+        if makefile.endswith(".ninja"):
+            parts.append(f"<p>Write what is behind colons as inputs (<code>| FILE</code>) in {at}")
+        else:
+            parts.append(f"<p>Add these lines to the end of {at}")
         parts.append("" if number else promised(judged, repair, len(those) - len(unmended)))
         parts.append(f'.</p>\n<pre class="add all">{clipped_lines(own)}</pre>\n')
     if unmended and not repair:
@@ -42,7 +51,7 @@ def promised(judged: Judged, repair: str, mended: int) -> str:
     if not repair:
         return f". They are for {counted(mended, 'problem')} below; check again then"
     if judged.origins is not None:
-        return ": with all lines to add the answer is yes"
+        return ". They are for makes after the first one: the import says what that needs too"
     return ": with them the answer is yes. <code>mkcheck repair</code> prints them"
 
 

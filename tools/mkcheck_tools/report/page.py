@@ -53,11 +53,13 @@ WAYS_BYTES = 2_000_000
 
 def page(judged: Judged, front: str = "") -> str:
     """The page. `front` is markup that stands before all but the head."""
-    title = f"mkcheck: {judged.answer}, {shortened(judged.original)}"
+    title = f"mkcheck: {judged.word}, {shortened(judged.original)}"
     if judged.refusal is not None:
         body = refusal(judged)
     elif judged.answer == "yes":
-        body = promise(judged) + notes(judged.noted) + ways(judged) + whole_graph(judged)
+        is_promised = judged.above is None or judged.above.is_plain
+        first = promise(judged) if is_promised else ""
+        body = first + notes(judged.noted) + ways(judged) + whole_graph(judged)
     else:
         body = findings(judged) + notes(judged.noted) + whole_graph(judged)
     return (
@@ -75,6 +77,8 @@ def head(judged: Judged) -> str:
         "no": judged.counts,
         "refused": "mkcheck gives no answer",
     }[judged.answer]
+    if judged.above is not None and not judged.above.is_plain:
+        said = judged.above.text
     operands = [word for word in judged.checker.words if "=" in word]
     goals = judged.graph.goals or [word for word in judged.checker.words if "=" not in word]
     left_out = ", without the default text" if "-r" in judged.checker.options else ""
@@ -88,12 +92,14 @@ def head(judged: Judged) -> str:
     if judged.graph.nodes:
         recipes = counted(len(judged.graph.recipes), "recipe")
         rows.append(("Reached", f"{counted(len(judged.graph.nodes), 'name')}, {recipes}"))
-    rows += [("Answer", judged.yes), ("Programs", f"{judged.version}, mkcheck-report {VERSION}")]
+    if judged.above is None or judged.above.is_plain:
+        rows.append(("Answer", judged.yes))
+    rows.append(("Programs", f"{judged.version}, mkcheck-report {VERSION}"))
     listed = "".join(
         f"<dt>{name}</dt><dd>{markup(clipped(value))}</dd>" for name, value in rows if value
     )
     return (
-        f'<h1><span class="answer {judged.answer}">{judged.answer}</span> {markup(said)}</h1>\n'
+        f'<h1><span class="answer {judged.word}">{judged.word}</span> {markup(said)}</h1>\n'
         f"<dl>{listed}</dl>\n"
     )
 

@@ -54,6 +54,7 @@ def ended(tool: str, called: str, work: Callable[[], int]) -> int:
         said = sentence_of(error, called)
         status = error.status if isinstance(error, Fault) else Fault.status
     except Stopped as stopped:
+        pass_over_signals()
         said, status = f"stopped by {stopped.name}, {stopped.rest}", stopped.status
     print(f"{tool}: {said}", file=sys.stderr)
     return status

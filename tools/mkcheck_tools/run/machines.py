@@ -1,5 +1,5 @@
-"""Another machine, as far as commands can be shown one: it has another name, fewer processors, and
-allows one open file less."""
+"""Another machine, as far as commands can be shown one: it has another name, an older kernel, fewer
+processors, and allows one open file less; and another user."""
 
 from __future__ import annotations
 
@@ -31,7 +31,7 @@ def elsewhere(place: Place) -> Place:
     first = limits() + fewer_online()
     if has_names():
         place, first = replace(place, spaces=NAMES), RENAMING + first
-    return replace(place, enter=processors_but_one(), first=first)
+    return replace(place, enter=(*older_kernel(), *processors_but_one()), first=first)
 
 
 @functools.cache
@@ -62,6 +62,35 @@ def processors_but_one() -> tuple[str, ...]:
     if program is None or len(numbers) < 2:
         return ()
     return (program, "-c", ",".join(str(number) for number in numbers[1:]))
+
+
+@functools.cache
+def older_kernel() -> tuple[str, ...]:
+    """The words that start a command which the kernel tells that it is one of version 2.6; none
+    where programs don't run then."""
+    words = (shutil.which("setarch") or "", "--uname-2.6")
+    own, other = said([*words, "uname", "-r"]), os.uname().release
+    return words if own and own != other else ()
+
+
+@functools.cache
+def other_user() -> tuple[str, ...]:
+    """The words that start a command as another user, who has the same files; none where the system
+    allows no user namespace."""
+    user, group = (2 if one == 1 else 1 for one in (os.geteuid(), os.getegid()))
+    words = (shutil.which("unshare") or "", "--user", f"--map-user={user}", f"--map-group={group}")
+    return (*words, "--") if said([*words, "--", "id", "-u"]) == str(user) else ()
+
+
+def said(words: list[str]) -> str:
+    """What a command prints that succeeds; nothing of another one."""
+    try:
+        done = subprocess.run(
+            words, stdin=subprocess.DEVNULL, capture_output=True, text=True, check=False
+        )
+    except OSError:
+        return ""
+    return done.stdout.strip() if done.returncode == 0 else ""
 
 
 @functools.cache

@@ -15,9 +15,9 @@ import threading
 from collections.abc import Iterator
 from dataclasses import dataclass, field
 
-from mkcheck_tools.run import stopping
+from mkcheck_tools.run.holders import Holder, held
 from mkcheck_tools.run.paths import RealPath, SeenPath, real_in
-from mkcheck_tools.run.places import Namespace, Place, mounter, namespace
+from mkcheck_tools.run.places import Place, mounter, shut
 
 # How much it holds at most: a part of what is free, and no more than this.
 PART = 4
@@ -26,8 +26,7 @@ LEAST = 256 << 20
 # What a replay needs for each byte that it reads or writes, and besides.
 TIMES = 4
 MORE = 16 << 20
-READY = b"ready\n"
-HOLD = ' -t tmpfs -o "$1" mkcheck-record "$2" && echo ready && exec cat > /dev/null'
+MOUNT = ' -t tmpfs -o "$1" mkcheck-record "$2"'
 # What a command says where the file system lacks something that disks have, or has no room.
 LACKS = ("Operation not supported", "Cannot allocate memory")
 NO_ROOM = "No space left on device"
@@ -35,34 +34,24 @@ NO_ROOM = "No space left on device"
 
 @dataclass
 class Memory:
-    """Such a file system, at `folder` in its namespace."""
+    """Such a file system, at `folder` in its namespace, in which all else is read-only where the
+    system allows that."""
 
     folder: SeenPath
     size: int
-    holder: subprocess.Popen[bytes]
+    holder: Holder
     taken: int = 0
     lock: threading.Lock = field(default_factory=threading.Lock)
 
     @property
     def path(self) -> RealPath:
         """Where this program finds the folder."""
-        return RealPath(f"/proc/{self.holder.pid}/root{self.folder}")
-
-    @property
-    def way(self) -> Namespace:
-        """How commands get a namespace in which the folder is."""
-        own = namespace()
-        assert own is not None
-        enter = shutil.which("nsenter") or "nsenter"
-        user = ("--user", "--preserve-credentials") if "--user" in own.enter else ()
-        # It keeps the folder where it stands, since shells take PWD only if that leads there.
-        words = (enter, "--wd=.", "--target", str(self.holder.pid), "--mount", *user, "--")
-        return Namespace((*words, own.enter[0], "--mount", "--ipc", "--"), own.user)
+        return RealPath(f"/proc/{self.holder.number}/root{self.folder}")
 
     def place(self, name: str, seen: SeenPath) -> Place:
         """A place in it that is shut."""
         inner = os.path.join(self.folder, name)
-        return Place(real_in(self.path, name), seen, True, self.way, inner)
+        return Place(real_in(self.path, name), seen, True, self.holder.way(), inner)
 
     @contextlib.contextmanager
     def room(self, size: int) -> Iterator[bool]:
@@ -92,30 +81,14 @@ def free_memory() -> int:
 def memory(folder: SeenPath) -> Iterator[Memory | None]:
     """A file system in memory at this folder, which is there; None where the system allows none, or
     has little memory."""
-    own, size = namespace(), min(free_memory() // PART, MOST)
-    if own is None or shutil.which("nsenter") is None or size < LEAST:
+    size = min(free_memory() // PART, MOST)
+    if size < LEAST:
         yield None
         return
-    enter = [word for word in own.enter if word != "--ipc"]
     options = f"size={size},mode=700"
-    words = [*enter, "/bin/sh", "-c", mounter() + HOLD, "sh", options, folder]
-    with stopping.held():
-        holder = subprocess.Popen(
-            words,
-            stdin=subprocess.PIPE,
-            stdout=subprocess.PIPE,
-            stderr=subprocess.DEVNULL,
-            start_new_session=True,
-        )
-    try:
-        assert holder.stdout is not None
-        found = Memory(folder, size, holder)
-        there = holder.stdout.readline() == READY and works(found)
-        yield found if there else None
-    finally:
-        holder.kill()
-        with holder:
-            pass
+    with held((shut() or "") + mounter() + MOUNT, (options, folder)) as holder:
+        found = None if holder is None else Memory(folder, size, holder)
+        yield found if found is not None and works(found) else None
 
 
 def works(found: Memory) -> bool:

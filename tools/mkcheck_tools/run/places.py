@@ -213,9 +213,10 @@ class Place:
 
     Both are real paths. In one that is `shut` commands can write nowhere else, where the system
     allows that and the two paths differ; but for folders for temporary files and devices. Where the
-    folder lies in another mount namespace, `way` leads there, and `inner` is its path there.
-    Commands of a bound place begin in further `spaces`, as unshare names them, after further words
-    (`enter`) and commands of the shell (`first`).
+    folder lies in another mount namespace, which is shut already, `way` leads there, and `inner` is
+    its path there. In one that `is_ready` it is also bound there already, and the way leads into
+    it. Commands of other bound places begin in further `spaces`, as unshare names them, after
+    further words (`enter`) and commands of the shell (`first`).
     """
 
     folder: RealPath
@@ -226,6 +227,7 @@ class Place:
     spaces: tuple[str, ...] = ()
     enter: tuple[str, ...] = ()
     first: str = ""
+    is_ready: bool = False
 
     @property
     def is_bound(self) -> bool:
@@ -242,9 +244,11 @@ class Place:
                 f"the system allows no mount namespace, so {self.folder} can't appear at"
                 f" {self.seen}"
             )
+        if self.is_ready:
+            return [*way.enter, *way.user, *command]
         # The words of a way end with those of unshare.
         way = replace(way, enter=(*way.enter[:-1], *self.spaces, "--", *self.enter))
-        front = self.first + ((shut() if self.shut else None) or "")
+        front = self.first + ((shut() if self.shut and self.way is None else None) or "")
         return way.words(self.inner or self.folder, self.seen, command, front)
 
     @classmethod

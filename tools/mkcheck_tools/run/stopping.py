@@ -46,11 +46,21 @@ def pass_over_signals() -> None:
 
 
 def stop(number: int, _frame: FrameType | None) -> None:
-    """Raises `Stopped`, or has that done later where the end is put off."""
-    pass_over_signals()
+    """Raises `Stopped`, or has that done later where the end is put off.
+
+    Python would say in a traceback that it ignores a second signal that came at the same moment, if
+    both were ignored from here on. So the second one has a function that does nothing.
+    """
+    for other in SIGNALS:
+        if signal.getsignal(other) is stop:
+            signal.signal(other, do_nothing)
     if not _held:
         raise Stopped(number)
     _came.append(number)
+
+
+def do_nothing(_number: int, _frame: FrameType | None) -> None:
+    """What a signal does that comes after one by which the program ends."""
 
 
 def end_threads() -> None:

@@ -14,8 +14,6 @@ from dataclasses import dataclass, field
 PIECE = 1 << 16
 # How many pieces are taken at most when commands are over: a process that is left may go on.
 MOST_PIECES = 256
-# How often it is asked whether commands are over, in seconds.
-MOMENT = 0.02
 # How long what was typed may take to come through.
 PATIENCE = 1.0
 # The places of flags in what termios tells of a terminal.
@@ -30,7 +28,8 @@ class Terminal:
     outer: int
     inner: int
     said: bytearray = field(default_factory=bytearray)
-    ending: threading.Event = field(default_factory=threading.Event)
+    ends: list[int] = field(default_factory=list)
+    """The end of a pipe that is closed when the commands are over."""
 
     @property
     def name(self) -> str:
@@ -38,16 +37,18 @@ class Terminal:
         return os.ttyname(self.inner)
 
     def __post_init__(self) -> None:
+        self.over, end = os.pipe()
+        self.ends.append(end)
         self.listening = threading.Thread(target=self.listen, daemon=True)
 
     def listen(self) -> None:
         """Takes what commands say, until they are over and nothing more comes."""
         left = MOST_PIECES
         while left:
-            over = self.ending.is_set()
+            there, _, _ = select.select([self.outer, self.over], [], [])
+            over = self.over in there
             left -= over
-            there, _, _ = select.select([self.outer], [], [], 0.0 if over else MOMENT)
-            if there:
+            if self.outer in there:
                 try:
                     self.said += os.read(self.outer, PIECE)
                 except OSError:
@@ -57,7 +58,8 @@ class Terminal:
 
     def text(self) -> str:
         """What the commands said, which are over."""
-        self.ending.set()
+        while self.ends:
+            os.close(self.ends.pop())
         if self.listening.ident is not None:
             self.listening.join()
         return self.said.decode("utf-8", "replace")
@@ -78,8 +80,8 @@ def terminal(typed: bytes = b"") -> Iterator[Terminal]:
         yield found
     finally:
         found.text()
-        os.close(inner)
-        os.close(outer)
+        for descriptor in (inner, outer, found.over):
+            os.close(descriptor)
 
 
 def set_up(inner: int) -> None:

@@ -20,6 +20,7 @@ from mkcheck_tools.trace.calls import (
     READ_ONLY,
     REMOVALS,
     SAME,
+    WRITES,
     WRITINGS,
     Call,
     path_of,
@@ -391,6 +392,9 @@ class Follower:
                 if call.name in CONNECTIONS:
                     self.asked(call)
                 continue
+            if call.name in WRITES:
+                self.written(call)
+                continue
             taken = getattr(self, f"on_{SAME.get(call.name, call.name)}", None)
             if taken is not None:
                 taken(call)
@@ -420,13 +424,14 @@ class Follower:
         """Notes the files that processes wrote side by side."""
         for path, processes in self.opening.items():
             pairs = zip(processes.items(), [*processes.items()][1:])
-            if path in self.accesses.writes and any(self.are_beside(*pair) for pair in pairs):
+            is_own = path in self.accesses.touched and path not in self.accesses.locked
+            if is_own and any(self.are_beside(*pair) for pair in pairs):
                 self.accesses.beside.setdefault(path)
 
     def are_beside(self, one: tuple[int, int], other: tuple[int, int]) -> bool:
         """Whether two processes wrote side by side. Of those that started them and have a parent in
-        common, each began before the other ended; or the one started the other, and opened the file
-        while that went on."""
+        common, each began before the other ended, or nobody waited for the one of the first; or the
+        one started the other, and opened the file while that went on."""
         first, second = self.line_of(one[0]), self.line_of(other[0])
         front, behind = (
             next((process for process in reversed(line) if process not in others), 0)
@@ -435,8 +440,16 @@ class Follower:
         if not front or not behind:
             opened, child = (other[1], front) if front else (one[1], behind)
             return self.begun.get(child, 0) < opened < self.ended.get(child, 0)
+        if self.is_left_alone(first[: first.index(front) + 1]):
+            return True
         is_later = self.begun.get(behind, 0) > self.ended.get(front, 0)
         return not is_later and self.begun.get(front, 0) <= self.ended.get(behind, 0)
+
+    def is_left_alone(self, line: list[int]) -> bool:
+        """Whether one of some processes, each of which the next one started, went on when that had
+        ended."""
+        ends = [self.ended.get(process, 0) for process in line]
+        return any(end > above for end, above in zip(ends, ends[1:]))
 
     def line_of(self, process: int) -> list[int]:
         """A process, the one by which it was started, and so on."""
@@ -452,6 +465,17 @@ class Follower:
         is_own = self.writers.get(path) == process
         self.writers[path] = process if is_first or is_own else None
         self.accesses.assembled.pop(path, None)
+
+    def wrote(self, path: SeenPath, call: Call) -> None:
+        """A process opens a file to write it, writes to it, or gives another one its name."""
+        leader = self.leaders.get(call.process, call.process)
+        self.opening.setdefault(path, {})[leader] = call.order
+
+    def written(self, call: Call) -> None:
+        """A process writes to what it has open, which another one may have opened."""
+        path = self.descriptor(call.arguments[WRITES[call.name]])
+        if path is not None and self.accesses.tree.has(path):
+            self.wrote(path, call)
 
     def hand_on(self, process: int) -> None:
         """A process starts another one or a program, which may write to what it has open."""
@@ -627,8 +651,7 @@ class Follower:
             self.accesses.read(real)
         if written or new:
             self.opened_to_write(real, call.process)
-            leader = self.leaders.get(call.process, call.process)
-            self.opening.setdefault(real, {})[leader] = call.order
+            self.wrote(real, call)
             self.accesses.write(real)
 
     def on_getdents(self, call: Call) -> None:
@@ -683,14 +706,15 @@ class Follower:
                 waiting.append(self.accesses.reach(seen_in(self.standing(call).path, other)))
 
     def on_rename(self, call: Call) -> None:
-        self.renamed(self.itself(call, 0), self.itself(call, 1), "")
+        self.renamed(call, self.itself(call, 0), self.itself(call, 1), "")
 
     def on_renameat(self, call: Call) -> None:
         flags = call.arguments[4] if len(call.arguments) > 4 else ""
-        self.renamed(self.itself(call, 1, 0), self.itself(call, 3, 2), flags)
+        self.renamed(call, self.itself(call, 1, 0), self.itself(call, 3, 2), flags)
 
-    def renamed(self, old: SeenPath, new: SeenPath, flags: str) -> None:
+    def renamed(self, call: Call, old: SeenPath, new: SeenPath, flags: str) -> None:
         """A file gets another name. Two that are exchanged are read and written both."""
+        self.wrote(new, call)
         if EXCHANGE not in flags:
             self.accesses.rename(old, new)
             for standing in self.standings.values():

@@ -105,6 +105,12 @@ WRITINGS: dict[str, tuple[int | None, int | None]] = {
     **dict.fromkeys(("fchmod", "fchown", "fchown32", "fsetxattr", "fremovexattr"), (0, None)),
 }
 READ_ONLY = "EROFS"
+# Calls that write to a file that is open, with the argument that has it.
+WRITES = {
+    **dict.fromkeys(("write", "pwrite64", "writev", "pwritev", "pwritev2"), 0),
+    **dict.fromkeys(("sendfile", "sendfile64"), 0),
+    **dict.fromkeys(("copy_file_range", "splice"), 2),
+}
 # How many arguments tell the name of a look, and of a call that fails.
 NAMES_AT_MOST = 2
 NAMES_IN_VAIN = 3

@@ -26,6 +26,7 @@ from mkcheck_tools.trace.calls import (
     LOOKS,
     OF_LINKS,
     TRACED,
+    WRITES,
     WRITINGS,
     Call,
     Trace,
@@ -40,6 +41,8 @@ OF_MAKE = (
 )
 # A variable of this name that no macro changes, by POSIX.
 SHELL = "SHELL"
+# The variable that `cd` sets.
+OLD_FOLDER = "OLDPWD"
 STOPPED = (
     "the trace ends before the command does: strace was killed, or couldn't go on, so nothing is"
     " recorded; record again"
@@ -48,13 +51,15 @@ STOPPED = (
 KILLING = re.compile(r"\d+ +t?g?kill\(")
 # What would end a word of MAKEFLAGS.
 SPECIAL = re.compile(r"[\s\\]")
+# What lets ccache start the compiler alone: what its cache holds decides nothing.
+UNCACHED = {"CCACHE_DISABLE": "1"}
 # Calls by which files could be opened and read unseen. Programs that are told that there are none
 # do without.
 REFUSED = ("io_uring_setup",)
-# Calls that write to a file that is open.
-WRITES = (
-    *("write", "pwrite64", "writev", "pwritev", "pwritev2"),
-    *("copy_file_range", "sendfile", "sendfile64", "splice"),
+# The words of a command by which its processes go on side by side: what runs in the background, and
+# programs that start several others at once.
+BESIDE = re.compile(
+    r"(?<![&<>|\\])&(?![&>])|\bxargs\b.*\s(?:-\w*P|--max-procs)|\bparallel\b", re.DOTALL
 )
 # fcntl's number for the size of a pipe, which Python 3.9 has no name for, and the most that users
 # may ask for.
@@ -93,36 +98,49 @@ class Watch:
     texts: bool = False
     """Whether it has the words of commands, and tells where their output goes."""
 
+    writes: bool = False
+    """Whether it has the calls that write to what is open, as a process that others started may."""
+
 
 @functools.cache
-def strace(watch: Watch = Watch()) -> tuple[str, ...]:
-    """The words by which strace is started, before the file of its output."""
+def first_words() -> tuple[str, ...]:
+    """The program strace, and the options by which it follows processes, and stops them at traced
+    calls alone if it can."""
     program = shutil.which("strace")
     if program is None:
         raise Fault(
             "strace isn't there, by which recipes are traced (Debian: apt-get install strace)"
         )
     asked = subprocess.run([program, "-h"], capture_output=True, text=True, check=False).stdout
-    quick = ("--seccomp-bpf",) if "--seccomp-bpf" in asked else ()
+    return (program, "-f", *(("--seccomp-bpf",) if "--seccomp-bpf" in asked else ()))
+
+
+@functools.cache
+def strace(watch: Watch = Watch()) -> tuple[str, ...]:
+    """The words by which strace is started, before the file of its output."""
     names = [*TRACED, *REFUSED, *(LOOKS if watch.looking else ())]
     names += DUPLICATIONS if watch.texts else ()
+    names += WRITES if watch.writes else ()
     calls = ",".join(f"?{name}" for name in names if watch.links or name not in OF_LINKS)
     refused = ",".join(f"?{name}" for name in REFUSED)
     return (
-        *(program, "-f", *quick, "-y", "-q", "-s", TEXT_AT_MOST if watch.texts else "0"),
+        *(*first_words(), "-y", "-q", "-s", TEXT_AT_MOST if watch.texts else "0"),
         *("-e", f"trace={calls}"),
         *("-e", f"inject={refused}:error=ENOSYS", "-o"),
     )
 
 
+def is_side_by_side(text: str) -> bool:
+    """Whether processes of a command may go on side by side, as far as its words tell."""
+    return BESIDE.search(text) is not None
+
+
 @functools.cache
 def failing(path: SeenPath) -> tuple[str, ...]:
     """The words by which a command is started whose writes to a file fail, as on a full disk."""
-    program, *words = strace()[: strace().index("-f") + 1]
-    quick = [word for word in strace() if word == "--seccomp-bpf"]
     calls = ",".join(f"?{name}" for name in WRITES)
     return (
-        *(program, *words, *quick, "-qq", "-o", os.devnull, "-P", path),
+        *(*first_words(), "-qq", "-o", os.devnull, "-P", path),
         *("-e", f"trace={calls}", "-e", f"inject={calls}:error=ENOSPC"),
     )
 
@@ -135,7 +153,8 @@ def environment(
     other values.
 
     SHELL stays as it is, also where it isn't set: no macro changes it. PWD stays as it is where it
-    names the folder, be it over a link, as a make started there would leave it.
+    names the folder, be it over a link, as a make started there would leave it. In a bound place
+    there is no OLDPWD, since shells may set that on the way into it.
     """
     kept = {name: value for name, value in os.environ.items() if name not in OF_MAKE}
     handed = {name: value for name, value in operands.items() if name != SHELL}
@@ -145,7 +164,11 @@ def environment(
     except OSError:
         same = False
     flags = {"MAKEFLAGS": flags_of(operands)} if operands else {}
-    return {**kept, **(macros or {}), **handed, **flags, "PWD": named if same else place.seen}
+    own = {**UNCACHED, "PWD": named if same else place.seen}
+    found = {**kept, **(macros or {}), **handed, **flags, **own}
+    if place.is_bound:
+        found.pop(OLD_FOLDER, None)
+    return found
 
 
 def flags_of(operands: dict[str, str]) -> str:

@@ -58,6 +58,9 @@ class Tree:
     elsewhere: dict[SeenPath, str | None] = field(default_factory=dict)
     """The texts of other links elsewhere, each read once; None where a path is no link."""
 
+    outside: dict[SeenPath, str] = field(default_factory=dict)
+    """Files elsewhere that recipes wrote which have no footprint, each with the target."""
+
     followed: dict[SeenPath, tuple[SeenPath, tuple[SeenPath, ...]]] = field(default_factory=dict)
     """What `follow` gave for a path."""
 
