@@ -65,11 +65,11 @@ folder was made from, as `mkcheck-record --keep DIR` writes it.
 
     mkcheck since DIR -b BOOK > old && xargs -d '\\n' rm -f -- < old && make
 
-Where a build has findings that stand in the way, or is refused, that is said
-on standard error, and nothing is named. Makes are right after the removal if
-all that recipes wrote is the old build's, from a clean start or after such a
-removal before, its last make made all its goals, and nobody changed what
-recipes wrote.
+Nothing is named, and standard error says why, where the new build has a
+finding, the old one has another finding than races and stale reads, or one of
+them is refused. Makes are right after the removal if all that recipes wrote
+is the old build's, from a clean start or after such a removal before, its last
+make made all its goals, and nobody changed what recipes wrote.
 ";
 
 /// The text of the word, if it is one of these.
