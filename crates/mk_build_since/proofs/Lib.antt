@@ -10,4 +10,5 @@ mod OtherCommands
 mod ReadText
 mod OtherWrites
 mod OtherReads
+mod Race
 mod Adding

@@ -14,7 +14,7 @@ use Rattle.mk_build_behaviours.specs.StepsBy.{after_all_by}
 use Rattle.mk_build_behaviours.proofs.Coherence.{start_is_coherent_by}
 use Rattle.mk_build_behaviours.proofs.Traces.{sound_without_reads}
 use Rattle.mk_build_since.specs.Named.{Build, Rule, NewRecipe, OtherCommands, OtherWrites, OtherReads, ReadText, HoldsOf, IsNamed}
-use Rattle.mk_build_since.specs.Next.{IsNext}
+use Rattle.mk_build_since.specs.Next.{IsAccepted, IsNext}
 use Rattle.mk_build_since.specs.Needed.{FallShort}
 use Rattle.mk_build_since.proofs.OneNode.{target, one, only_recipe, only_writes, accepted, present, can_start, is_part, passes, not_built, making_in, in_one}
 
@@ -94,12 +94,12 @@ abbrev end : FileName → Option ℕ
 end = changed (λ f. None) target (Some 1)
 
 -- a make of the new build passes the recipe
-pub without_new_recipe : FallShort rules
+pub without_new_recipe : FallShort IsAccepted rules
 without_new_recipe = record {
   old = old;
   new = new;
   alike = λ o t same_recipe. absurd (no_recipe o same_recipe.0.0);
-  old_accepted = accepted source false (λ e. absurd (false≢true e)) (λ f wrote. absurd wrote) (λ f read. absurd read) (λ f read can. read) (λ f. []) writing;
+  old_kind = accepted source false (λ e. absurd (false≢true e)) (λ f wrote. absurd wrote) (λ f read. absurd read) (λ f read can. read) (λ f. []) writing;
   new_accepted = accepted made true (λ e. inl refl) (λ f wrote. refl) (λ f read. absurd read) (λ f read can. read) (λ f. []) writing;
   first = disk;
   before = disk;

@@ -74,12 +74,12 @@ next = record {
 }
 
 -- a make of the new build passes the recipe
-pub without_other_commands : FallShort rules
+pub without_other_commands : FallShort IsAccepted rules
 without_other_commands = record {
   old = old;
   new = new;
   alike = λ o t same_recipe. let same = same_recipe.1 in absurd (cc);
-  old_accepted = is_accepted old.commands old.behaviours;
+  old_kind = is_accepted old.commands old.behaviours;
   new_accepted = is_accepted new.commands new.behaviours;
   first = empty;
   before = before;

@@ -147,12 +147,12 @@ next = record {
 }
 
 -- a make of the new build passes the recipe
-pub without_other_reads : FallShort rules
+pub without_other_reads : FallShort IsAccepted rules
 without_other_reads = record {
   old = old;
   new = new;
   alike = λ o t same_recipe. gone lacks (ends (hold_at with_header without_header o t (0 ∷ []) (0 ∷ []) (only_named true o t same_recipe.0.0 same_recipe.0.1) (λ at e. e)));
-  old_accepted = old_accepted;
+  old_kind = old_accepted;
   new_accepted = new_accepted;
   first = first;
   before = before;

@@ -122,12 +122,12 @@ abbrev both : FileName → Contents
 both second = changed (changed (λ f. None) target (Some 0)) second (Some 1)
 
 -- a make of the new build passes the recipe
-pub without_other_writes : FallShort rules
+pub without_other_writes : FallShort IsAccepted rules
 without_other_writes = record {
   old = writing was;
   new = writing is;
   alike = λ o t same_recipe. absurd (not_same o t (only_named true o t same_recipe.0.0 same_recipe.0.1) same_recipe.2);
-  old_accepted = is_accepted was;
+  old_kind = is_accepted was;
   new_accepted = is_accepted is;
   first = empty;
   before = before;

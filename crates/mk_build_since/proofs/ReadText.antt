@@ -121,12 +121,12 @@ next = record {
 }
 
 -- a make passes the recipe
-pub without_read_text : FallShort rules
+pub without_read_text : FallShort IsAccepted rules
 without_read_text = record {
   old = build;
   new = build;
   alike = λ o t same_recipe. both (λ c. ends (hold_at made made o t (unwrap_or c 0 ∷ []) (unwrap_or c 0 ∷ []) (only_named true o t same_recipe.0.0 same_recipe.0.1) (λ at e. e)));
-  old_accepted = is_accepted;
+  old_kind = is_accepted;
   new_accepted = is_accepted;
   first = first;
   before = before;

@@ -2,7 +2,7 @@
 //! gives the law.
 
 ghost use Rattle.mk_build_since.specs.Adding.{AddedPrerequisitesKeepCoherence, PrerequisitesMayBeAdded};
-ghost use Rattle.mk_build_since.specs.Needed.{RulesAreNeeded};
+ghost use Rattle.mk_build_since.specs.Needed.{RulesAreNeeded, TrustIsNeeded};
 ghost use Rattle.mk_build_since.specs.SinceLaws.{NextIsCoherent, NextBuildsAreRight, NextIsCoherentTrusting, NextBuildsAreRightTrusting, TrustNamesNoMore, PrerequisitesNameNothing, WaysAreDecided};
 
 /// After a finished make of all goals of an accepted build, any edits, new and deleted sources, and
@@ -56,6 +56,13 @@ pub fn prerequisites_may_be_added()
 /// make may end without having built its goal.
 pub fn rules_are_needed()
     ensures { RulesAreNeeded }
+{}
+
+/// Where the old build has races, all rules together fall short, though each of its reads has a
+/// way: a recipe in a race may have left a file that is newer than what it read, and wrong. So not
+/// each recipe of such a build can be trusted.
+pub fn trust_is_needed()
+    ensures { TrustIsNeeded }
 {}
 
 /// Where footprints are sound, a recipe has a way for a file or has none.
