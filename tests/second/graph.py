@@ -2,7 +2,7 @@
 
 from __future__ import annotations
 
-from collections.abc import Container, Iterable, Iterator
+from collections.abc import Callable, Container, Iterable, Iterator
 from typing import NamedTuple
 
 from lines import Refused, Unplaced, place, tested_name
@@ -268,3 +268,36 @@ class Graph:
             for text in self.rules.expanded(node, self.there).texts if commands else []:
                 lines.append(b"\t" + text)
         return b"".join(line + b"\n" for line in lines)
+
+
+def cycle_from(
+    goals: Iterable[bytes], needs: Callable[[bytes], Iterable[bytes]]
+) -> list[bytes]:
+    """The names of the first cycle that a walk from the goals closes, the first one repeated; empty
+    where there is none."""
+    done: set[bytes] = set()
+    path: list[bytes] = []
+    waiting = [iter(goals)]
+    while waiting:
+        name = next(waiting[-1], None)
+        if name is None:
+            waiting.pop()
+            if path:
+                done.add(path.pop())
+        elif name in path:
+            return [*path[path.index(name) :], name]
+        elif name not in done:
+            path.append(name)
+            waiting.append(iter(needs(name)))
+    return []
+
+
+def cycle_with(graph: Graph, steps: Iterable[tuple[bytes, bytes]]) -> list[bytes]:
+    """The same of the graph, where the first name of each step has the second one as a
+    prerequisite, too, if both are nodes."""
+    nodes = graph.nodes
+    needed = {name: list(node.prerequisites) for name, node in nodes.items()}
+    for target, prerequisite in steps:
+        if target in nodes and prerequisite in nodes:
+            needed[target].append(prerequisite)
+    return cycle_from(graph.goals, needed.__getitem__)

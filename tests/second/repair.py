@@ -4,7 +4,7 @@ from __future__ import annotations
 
 from typing import NamedTuple
 
-from graph import Node
+from graph import Node, cycle_from, cycle_with
 from judge import Finding, Subject
 from lines import Refused, is_make_name
 from reading import Files, Found
@@ -224,9 +224,21 @@ def seen_later(subject: Subject, findings: list[Finding]) -> list[Finding]:
     return subject.hidden(findings, phony)
 
 
+def without_cycles(subject: Subject, words: list[Word]) -> list[Word]:
+    """The words without those whose lines would close a cycle with the makefile or one another: as
+    long as there is one, the lines on the first one go."""
+    steps = [(target, needed) for target, needed in words if needed is not None]
+    while cycle := cycle_with(subject.graph, steps):
+        on_it = set(zip(cycle, cycle[1:]))
+        steps = [step for step in steps if step not in on_it]
+    return [word for word in words if word.prerequisite is None or tuple(word) in steps]
+
+
 def other_lines(subject: Subject, findings: list[Finding]) -> list[bytes]:
-    """The lines of the findings that give some, and of the races and stale reads that they hide."""
-    return lines_of(some_words(subject, findings + seen_later(subject, findings)))
+    """The lines of the findings that give some, and of the races and stale reads that they hide, but
+    for lines on cycles."""
+    words = some_words(subject, findings + seen_later(subject, findings))
+    return lines_of(without_cycles(subject, words))
 
 
 # What nodes need.
@@ -241,26 +253,6 @@ def needs(subject: Subject, node: Node) -> list[bytes]:
     for file in subject.reads(node.name):
         needed += [writer for writer in subject.writers.get(file, []) if writer != node.name]
     return needed
-
-
-def first_cycle(subject: Subject) -> list[bytes] | None:
-    """The names of the first cycle that a walk from the goals closes, the first one repeated; or
-    None."""
-    done: set[bytes] = set()
-    for goal in subject.graph.goals:
-        path = [] if goal in done else [goal]
-        rest = [iter(needs(subject, subject.node(goal)))] if path else []
-        while path:
-            name = next(rest[-1], None)
-            if name is None:
-                done.add(path.pop())
-                rest.pop()
-            elif name in path:
-                return path[path.index(name) :] + [name]
-            elif name not in done:
-                path.append(name)
-                rest.append(iter(needs(subject, subject.node(name))))
-    return None
 
 
 # Rounds.
@@ -285,7 +277,7 @@ def repaired(request: Request, files: Files) -> Repair:
     if words is None:
         said = printed(findings) + obstacle(subject, findings)
         return tried_once(request, files, name, other_lines(subject, findings), said)
-    cycle = first_cycle(subject)
+    cycle = cycle_from(subject.graph.goals, lambda name: needs(subject, subject.node(name)))
     if cycle:
         return Repair(b"", printed(findings) + b" ".join([CYCLE] + cycle) + b"\n")
     lines, text, reason = mended(request, files, name, words)

@@ -6,7 +6,7 @@ import re
 from pathlib import Path
 from typing import NamedTuple, TypeVar
 
-from graph import Graph, goal_names
+from graph import Graph, cycle_with, goal_names
 from judge import Finding, Subject
 from lines import Refused
 from reading import Files, Makefile
@@ -141,35 +141,10 @@ def wider(subject: Subject, claims: list[Claim]) -> Graph:
     return graph
 
 
-def first_cycle(graph: Graph, claims: list[Claim]) -> list[bytes]:
-    """The names along the first path that a walk from the goals closes where the lines of the claims
-    are added, the first one repeated; empty where there is none."""
-    nodes = graph.nodes
-    needed = {name: list(node.prerequisites) for name, node in nodes.items()}
-    for line in (claim.line() for claim in claims):
-        if line and line[0] in nodes and line[1] in nodes:
-            needed[line[0]].append(line[1])
-    done: set[bytes] = set()
-    path: list[bytes] = []
-    waiting = [iter(graph.goals)]
-    while waiting:
-        name = next(waiting[-1], None)
-        if name is None:
-            waiting.pop()
-            if path:
-                done.add(path.pop())
-        elif name in path:
-            return [*path[path.index(name) :], name]
-        elif name not in done:
-            path.append(name)
-            waiting.append(iter(needed[name]))
-    return []
-
-
 def without_cycles(subject: Subject, claims: list[Claim]) -> list[Claim]:
     """The claims, without the lines that would close cycles."""
     graph = wider(subject, claims)
-    while cycle := first_cycle(graph, claims):
+    while cycle := cycle_with(graph, [line for line in (claim.line() for claim in claims) if line]):
         steps = set(zip(cycle, cycle[1:]))
         told = b" ".join(cycle)
         claims = [

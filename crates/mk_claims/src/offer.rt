@@ -54,7 +54,7 @@ pub fn word_of_claim<'a>(claim: &Claim<'a>) -> Option<Word<'a>>
 }
 
 /// What the line of an offer says; `None` where it has none, or where that would close a cycle.
-fn open_word<'a>(offer: &Offer<'a>) -> Option<Word<'a>>
+pub fn open_word<'a>(offer: &Offer<'a>) -> Option<Word<'a>>
     ensures { option_map word_view result ≡ open_word (offer_view offer.now) }
 {
     if offer.cycle.is_empty() {

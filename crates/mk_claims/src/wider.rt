@@ -200,8 +200,9 @@ fn settled_on<'a>(
     settled(alloc, graph, &names, claims)
 }
 
-/// The same with the graph of the goals.
-fn settled_alone<'a>(
+/// The claims with their lines, without those that would close a cycle with the other lines and the
+/// graph of the goals. The only error is out of memory.
+pub fn offers_alone<'a>(
     alloc: Global,
     subject: &Subject<'_>,
     claims: &[Claim<'a>],
@@ -295,7 +296,7 @@ fn offers_over<'a>(
 {
     let made = made_among(alloc, choices, unreached)?;
     if made.is_empty() {
-        return settled_alone(alloc, subject, claims);
+        return offers_alone(alloc, subject, claims);
     }
     if let Some(offers) = settled_with(alloc, subject, choices, &made, claims)? {
         return Ok(offers);
@@ -304,7 +305,7 @@ fn offers_over<'a>(
     if let Some(offers) = settled_with(alloc, subject, choices, &targets, claims)? {
         return Ok(offers);
     }
-    settled_alone(alloc, subject, claims)
+    offers_alone(alloc, subject, claims)
 }
 
 /// The claims with their lines, without those that would close a cycle with the other lines, the
@@ -320,7 +321,7 @@ pub fn offers_of<'a>(
 {
     let unreached = unreached_names(alloc, subject, claims)?;
     if unreached.as_slice().is_empty() {
-        return settled_alone(alloc, subject, claims);
+        return offers_alone(alloc, subject, claims);
     }
     let targets = line_targets(alloc, claims)?;
     let there = subject.there();

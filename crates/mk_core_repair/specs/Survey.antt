@@ -14,8 +14,9 @@ use Rattle.mk_repair.specs.FindingWords as findings
 use Rattle.mk_repair.specs.Lines.{lines_text}
 use Rattle.mk_repair.specs.Obstacle.{first_wordless, why_stuck}
 use Rattle.mk_repair.specs.Word.{Word, with_word}
-use Rattle.mk_claims.specs.Offers.{words_of}
+use Rattle.mk_claims.specs.Offers.{Offer, open_words}
 use Rattle.mk_claims.specs.Shown.{all_claims, is_static}
+use Rattle.mk_claims.specs.Wider.{AreOn}
 use Rattle.mk_repair.specs.declared.obstacle.Obstacle.{Obstacle}
 use Rattle.mk_core_repair.specs.declared.surveying.Survey.{Survey}
 use Rattle.mk_core_repair.specs.declared.surveying.First.{First}
@@ -43,16 +44,14 @@ IsCycleFor x (No found) (Some words) cycle =
     IsFirstCycle (needs_graph x.graph (footprints x.setting)) cycle
 IsCycleFor x verdict words cycle = Unit {0}
 
--- The text of the lines for these findings and for those that they hide, but for what mending the
--- findings touches.
-abbrev pub other_lines : Subject → (found hidden : List Finding) → List ℕ
-other_lines x found hidden = lines_text (fold with_word [] (words_of (all_claims x found hidden)))
-
--- The lines are those of the findings, and of the races and stale reads that they hide.
+-- The lines are those of the findings, and of the races and stale reads that they hide, but for what
+-- mending the findings touches, and for lines that would close a cycle with the graph or with one
+-- another.
 abbrev pub AreOtherLines : Subject → List Finding → (lines : List ℕ) → Type 0
 AreOtherLines x found lines =
     (hidden : List Finding) × (list_any is_static found ≡ true → AreHidden x hidden) ×
-    (lines ≡ other_lines x found hidden)
+    ((offers : List Offer) × AreOn x.graph (all_claims x found hidden) offers ×
+    (lines ≡ lines_text (fold with_word [] (open_words offers))))
 
 -- Why the first of the findings without a word has none; and the lines for others.
 pub record IsStuck (x : Subject) (found : List Finding) (o : Obstacle) : Type 0 where

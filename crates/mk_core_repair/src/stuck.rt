@@ -1,83 +1,64 @@
 //! What stops a repair, and the lines for the findings that don't.
 
-ghost use Rattle.std.specs.Prelude.{◌≡◌, [], fold, map, option_map, option_to_list, IfOk, OnOk};
+ghost use Rattle.std.specs.Prelude.{◌≡◌, List, [], fold, map, option_to_list, IfOk, OnOk};
 ghost use Rattle.std.specs.String.{string_bytes};
+ghost use Rattle.mk_repair.specs.Lines.{lines_text};
 ghost use Rattle.mk_repair.specs.Word.{with_word};
-ghost use Rattle.mk_repair.specs.Words.{word_view};
-ghost use Rattle.mk_claims.specs.Claims.{claim_view};
-ghost use Rattle.mk_claims.specs.Offers.{word_of_claim, words_of};
-ghost use Rattle.mk_core_repair.specs.Survey.{AreOtherLines, IsStuck, other_lines};
+ghost use Rattle.mk_claims.specs.Offers.{Offer, offer_view, open_word, open_words};
+ghost use Rattle.mk_claims.specs.Shown.{all_claims};
+ghost use Rattle.mk_claims.specs.Wider.{AreOn};
+ghost use Rattle.mk_core_repair.specs.Survey.{AreOtherLines, IsStuck};
 
-use mk_claims::{Claim, Kind, all_claims, has_static};
+use mk_claims::{Offer, all_claims, has_static, offers_alone, open_word};
 use mk_find::{Finding, hidden_findings};
-use mk_repair::{Obstacle, Word, Words, lines_text, obstacle_of};
+use mk_repair::{Obstacle, Words, lines_text, obstacle_of};
 use mk_subject::Subject;
 use std::alloc::{AllocError, Global};
 
-/// What the line that mends a claim says; `None` where no line does.
-fn word_of_claim<'a>(claim: &Claim<'a>) -> Option<Word<'a>>
-    ensures { option_map word_view result ≡ word_of_claim (claim_view claim.now) }
-{
-    if !claim.topic.has_line {
-        return None;
-    }
-    match claim.topic.kind {
-        Kind::NoTarget => Some(Word::Phony { target: claim.who }),
-        Kind::OutputRace | Kind::OutputStale | Kind::OutputRaceAndStale | Kind::UnreachedRead => {
-            Some(Word::Needs {
-                target: claim.who,
-                prerequisite: claim.topic.first,
-            })
-        }
-        _ => Some(Word::Needs {
-            target: claim.who,
-            prerequisite: claim.what,
-        }),
-    }
-}
-
-/// Adds what the line that mends a claim says, if a line does, unless it is there already. The only
-/// error is out of memory.
-fn insert_word(alloc: Global, words: &mut Words, claim: &Claim<'_>) -> Result<(), AllocError>
+/// Adds what the line of an offer says, if it has one, unless it is there already. The only error is
+/// out of memory.
+fn insert_word(alloc: Global, words: &mut Words, offer: &Offer<'_>) -> Result<(), AllocError>
     ensures { OnOk result (words.new ≡
-        fold with_word words.old (option_to_list (word_of_claim (claim_view claim.now)))) }
+        fold with_word words.old (option_to_list (open_word (offer_view offer.now)))) }
 {
-    if let Some(word) = word_of_claim(claim) {
+    if let Some(word) = open_word(offer) {
         words.insert(alloc, word)?;
     }
     Ok(())
 }
 
-/// What the lines that mend claims say, each once. The only error is out of memory.
-fn words_in(alloc: Global, claims: &[Claim<'_>]) -> Result<Words, AllocError>
+/// What the lines of offers say, each once. The only error is out of memory.
+fn words_in(alloc: Global, offers: &[Offer<'_>]) -> Result<Words, AllocError>
     ensures { IfOk result (λ words. words ≡
-        fold with_word [] (words_of (map claim_view claims.now))) }
+        fold with_word [] (open_words (map offer_view offers.now))) }
 {
     let mut words = Words::new(alloc);
-    for claim in claims {
-        insert_word(alloc, &mut words, claim)?;
+    for offer in offers {
+        insert_word(alloc, &mut words, offer)?;
     }
     Ok(words)
 }
 
 /// The lines for these findings and for those that they hide, but for what mending the findings
-/// touches. The only error is out of memory.
+/// touches, and for lines on cycles. The only error is out of memory.
 fn other_lines(
     alloc: Global,
     subject: &Subject<'_>,
     found: &[Finding],
     hidden: &[Finding],
 ) -> Result<String, AllocError>
-    ensures { IfOk result (λ lines. string_bytes lines ≡
-        other_lines subject.now found.now hidden.now) }
+    ensures { IfOk result (λ lines. (offers : List Offer) ×
+        AreOn subject.now.graph (all_claims subject.now found.now hidden.now) offers ×
+        (string_bytes lines ≡ lines_text (fold with_word [] (open_words offers)))) }
 {
     let claims = all_claims(alloc, subject, found, hidden)?;
-    let words = words_in(alloc, &claims)?;
+    let offers = offers_alone(alloc, subject, &claims)?;
+    let words = words_in(alloc, &offers)?;
     lines_text(alloc, &words)
 }
 
-/// The lines for these findings, and for races and stale reads that they hide. The only error is out
-/// of memory.
+/// The lines for these findings, and for races and stale reads that they hide, but for lines on
+/// cycles. The only error is out of memory.
 fn all_lines(alloc: Global, subject: &Subject<'_>, found: &[Finding]) -> Result<String, AllocError>
     ensures { IfOk result (λ lines. AreOtherLines subject.now found.now (string_bytes lines)) }
 {
@@ -89,8 +70,8 @@ fn all_lines(alloc: Global, subject: &Subject<'_>, found: &[Finding]) -> Result<
 }
 
 /// Why the first of the findings without a word has none; and the lines for others, and for races
-/// and stale reads that the findings hide, as `check -w` has them. The only error is out of
-/// memory.
+/// and stale reads that the findings hide, without those that would close a cycle with the makefile
+/// or with one another. The only error is out of memory.
 pub fn stuck(
     alloc: Global,
     subject: &Subject<'_>,

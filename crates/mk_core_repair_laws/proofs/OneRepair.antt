@@ -29,8 +29,8 @@ use Rattle.mk_core_laws.specs.AnswerLaws.{IsSettled, VerdictIsOne}
 use Rattle.mk_repair.specs.Lines.{lines_text}
 use Rattle.mk_repair.specs.Word.{Word, with_word}
 use Rattle.mk_claims.specs.Claims.{Claim, claim_of}
-use Rattle.mk_claims.specs.Offers.{words_of}
-use Rattle.mk_claims.specs.Shown.{is_static}
+use Rattle.mk_claims.specs.Offers.{Offer, Settles, stays, goes_on, graph_with, offer_of, open_words, without_step}
+use Rattle.mk_claims.specs.Shown.{all_claims, is_static}
 use Rattle.mk_claims.specs.Untouched.{untouched}
 use Rattle.mk_repair.specs.declared.obstacle.Obstacle.{Obstacle}
 use Rattle.mk_core_repair.specs.declared.outcome.Repair.{Repair}
@@ -75,10 +75,23 @@ later_one : (x : Subject) (found hidden again : List Finding) (hides : Bool) →
 later_one x found hidden again true same = ap (λ (l : List Finding). untouched (map (claim_of x) found) (map (claim_of x) l)) (same refl)
 later_one x found hidden again false same = refl
 
-lines_one : ListIsOne → (x : Subject) (found : List Finding) (one other : List ℕ) → AreOtherLines x found one → AreOtherLines x found other → one ≡ other
-lines_one listed x found one other (hidden, are, a) (again, those, b) =
+-- lines on cycles are taken back in one way
+settled_one : (walks : WalkHasOneEnd) (g : Graph) (offers one other : List Offer) → Settles g offers one → Settles g offers other → one ≡ other
+settled_one walks g offers one other (stays none) (stays no) = refl
+settled_one walks g offers one other (stays none) (goes_on {names = names} some rest) =
+    let k : None ≡ Some names = cycle_one walks (graph_with g (open_words offers)) None (Some names) none some in absurd cc
+settled_one walks g offers one other (goes_on {names = names} some rest) (stays none) =
+    let k : Some names ≡ None = cycle_one walks (graph_with g (open_words offers)) (Some names) None some none in absurd cc
+settled_one walks g offers one other (goes_on {names = names} some rest) (goes_on {names = others} again more) =
+    let k : Some names ≡ Some others = cycle_one walks (graph_with g (open_words offers)) (Some names) (Some others) some again in
+    let same : others ≡ names = cc in
+    settled_one walks g (map (without_step names) offers) one other rest (subst (λ (l : List (List ℕ)). Settles g (map (without_step l) offers) other) same more)
+
+lines_one : ListIsOne → WalkHasOneEnd → (x : Subject) (found : List Finding) (one other : List ℕ) → AreOtherLines x found one → AreOtherLines x found other → one ≡ other
+lines_one listed walks x found one other (hidden, are, offers, on, a) (again, those, others, also, b) =
     let later = later_one x found hidden again (list_any is_static found) (λ hides. same_hidden listed x hidden again (are hides) (those hides)) in
-    a ∙ (ap (λ (l : List Claim). lines_text (fold with_word [] (words_of (map (claim_of x) found ++ l)))) later ∙ sym b)
+    let same = settled_one walks x.graph (map offer_of (all_claims x found hidden)) offers others on (subst (λ (l : List Claim). Settles x.graph (map offer_of (map (claim_of x) found ++ l)) others) (sym later) also) in
+    a ∙ (ap (λ (l : List Offer). lines_text (fold with_word [] (open_words l))) same ∙ sym b)
 
 module _ (verdicts : VerdictIsOne) (listed : ListIsOne) (selection : SelectionIsOne) (walks : WalkHasOneEnd) (files : Told) (request : Request) where
   -- ---- one round
@@ -157,7 +170,7 @@ module _ (verdicts : VerdictIsOne) (listed : ListIsOne) (selection : SelectionIs
     first_one (Yes certificate recipes reads) words path again stuck also is it of on a b = a ∙ sym b
     first_one (No found) None path again stuck also is it of on a b =
         let why = of.is_why ∙ sym on.is_why in
-        let lines = lines_one listed x found (string_bytes stuck.lines) (string_bytes also.lines) of.is_lines on.is_lines in
+        let lines = lines_one listed walks x found (string_bytes stuck.lines) (string_bytes also.lines) of.is_lines on.is_lines in
         trial_one names found one other s t found (string_bytes stuck.why) (string_bytes stuck.lines) a
         (subst (λ (w : List ℕ). Trial names files request (with_part found w) (string_bytes stuck.lines) other) (sym why)
         (subst (λ (l : List ℕ). Trial names files request (with_part found (string_bytes also.why)) l other) (sym lines) b))

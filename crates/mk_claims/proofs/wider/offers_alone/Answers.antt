@@ -3,7 +3,7 @@ use Rattle.mk_graph.specs.Graph.{Graph}
 use Rattle.mk_claims.specs.Claims.{claim_view}
 use Rattle.mk_claims.specs.Offers.{names_in, offer_view}
 use Rattle.mk_claims.specs.Wider.{AreOn}
-use Rattle.mk_claims.proofs.wider.settled_alone.Goals as goal
+use Rattle.mk_claims.proofs.wider.offers_alone.Goals as goal
 
 pub settled-requires : goal.settled-requires
 settled-requires c = c.names.ensures ∙ sym (ap names_in c.graph.ensures.value)

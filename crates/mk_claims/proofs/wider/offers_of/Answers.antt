@@ -11,4 +11,4 @@ returns-then-is_empty c =
     let claims = map claim_view c.args.claims.now in
     let names = c.as_slice.result.now in
     let none : unreached_names x claims ≡ [] = none_left names (length names) _ c.if-is_empty.ensures refl (c.as_slice.ensures ∙ c.in_ok-unreached.ensures) in
-    IfOk-weaker c.settled_alone.result _ _ (λ offers s. (x.graph, no_names (ap (filter (is_made x.makefile (there_with x claims))) none), s)) c.settled_alone.ensures
+    IfOk-weaker c.offers_alone.result _ _ (λ offers s. (x.graph, no_names (ap (filter (is_made x.makefile (there_with x claims))) none), s)) c.offers_alone.ensures

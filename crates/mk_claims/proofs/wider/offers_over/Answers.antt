@@ -17,7 +17,7 @@ returns-then-is_empty c =
     let are = far_are x claims _ _ _ _ c.requires.makefile c.requires.exists c.requires.names c.in_ok-made.ensures in
     let many : length made.items ≡ vec_len made = let ok = made.ok.0 in omega (arith, ok) in
     let none = none_left made.items (vec_len made) (far_names x claims) c.if-is_empty.ensures many are in
-    IfOk-weaker c.settled_alone.result _ _ (λ offers s. (x.graph, no_names none, s)) c.settled_alone.ensures
+    IfOk-weaker c.offers_alone.result _ _ (λ offers s. (x.graph, no_names none, s)) c.offers_alone.ensures
 
 pub returns-in-Some : goal.returns-in-Some
 returns-in-Some c =
@@ -49,4 +49,4 @@ returns c =
     let nowhere = subst (LeadsNowhere x claims) (ap names_view c.deref.ensures.value ∙ are) (MatchOption-at_none _ _ c.in_default.is c.in_ok-offers.ensures) in
     let targets = ap names_view c.deref-2.ensures.value ∙ targets_are x claims _ _ _ (c.table.ensures ∙ c.requires.makefile) c.requires.names c.in_ok-targets.ensures in
     let none = subst (LeadsNowhere x claims) targets (MatchOption-at_none _ _ c.in_default-2.is c.in_ok-offers-2.ensures) in
-    IfOk-weaker c.settled_alone-2.result _ _ (λ offers s. (x.graph, alone nowhere none, s)) c.settled_alone-2.ensures
+    IfOk-weaker c.offers_alone-2.result _ _ (λ offers s. (x.graph, alone nowhere none, s)) c.offers_alone-2.ensures
