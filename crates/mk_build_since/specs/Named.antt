@@ -77,31 +77,27 @@ CantStay rules old new t = (rule : Rule) × Has rules rule × HoldsOf rule old n
 abbrev pub IsLeftOver : (old new : Build) → FileName → Type 0
 IsLeftOver old new f = IsWritten old f × (¬ (HasFile new f))
 
--- By these rules the file is made anew: a recipe of the new build writes it that isn't made in
--- every make, and what that wrote before can't stay.
-abbrev pub IsMadeAnew : List Rule → (old new : Build) → FileName → Type 0
-IsMadeAnew rules old new f =
-    (t : ℕ) × Has (writes new.graph new.setting t) f × (¬ (IsAlwaysMade new.graph t)) ×
-    CantStay rules old new t
-
--- These rules name the file: the old build has it itself, and it is left over or made anew.
-abbrev pub IsNamed : List Rule → (old new : Build) → FileName → Type 0
-IsNamed rules old new f = OwnsFile old f × (IsLeftOver old new f ⊎ IsMadeAnew rules old new f)
-
 -- What the recipe t of the new build wrote before can't stay where only these recipes of the old
 -- build are trusted: one of the rules holds of it, or the old recipe isn't trusted.
 abbrev pub CantStayTrusting : Trust → (old new : Build) → ℕ → Type 0
 CantStayTrusting trusted old new t =
     CantStay all_rules old new t ⊎ (trusted (name new.graph t) ≡ false)
 
--- The file is made anew where only these are trusted.
-abbrev pub IsMadeAnewTrusting : Trust → (old new : Build) → FileName → Type 0
-IsMadeAnewTrusting trusted old new f =
-    (t : ℕ) × Has (writes new.graph new.setting t) f × (¬ (IsAlwaysMade new.graph t)) ×
-    CantStayTrusting trusted old new t
+-- The file is made anew: a recipe of the new build writes it that isn't made in every make, and what
+-- that wrote before can't stay.
+abbrev pub IsMadeAnew : (CantStayOf : ℕ → Type 0) → (new : Build) → FileName → Type 0
+IsMadeAnew CantStayOf new f =
+    (t : ℕ) × Has (writes new.graph new.setting t) f × (¬ (IsAlwaysMade new.graph t)) × CantStayOf t
 
--- The file is named where only these are trusted: the old build has it itself, and it is left over
--- or made anew.
+-- The file is named: the old build has it itself, and it is left over or made anew.
+abbrev pub IsNamedWhere : (CantStayOf : ℕ → Type 0) → (old new : Build) → FileName → Type 0
+IsNamedWhere CantStayOf old new f =
+    OwnsFile old f × (IsLeftOver old new f ⊎ IsMadeAnew CantStayOf new f)
+
+-- These rules name the file.
+abbrev pub IsNamed : List Rule → (old new : Build) → FileName → Type 0
+IsNamed rules old new = IsNamedWhere (CantStay rules old new) old new
+
+-- The file is named where only these recipes of the old build are trusted.
 abbrev pub IsNamedTrusting : Trust → (old new : Build) → FileName → Type 0
-IsNamedTrusting trusted old new f =
-    OwnsFile old f × (IsLeftOver old new f ⊎ IsMadeAnewTrusting trusted old new f)
+IsNamedTrusting trusted old new = IsNamedWhere (CantStayTrusting trusted old new) old new

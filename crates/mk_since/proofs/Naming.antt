@@ -22,7 +22,7 @@ use Rattle.mk_graph.specs.Serial.{serial_order}
 use Rattle.mk_build.specs.BuildLaws.{NamesHaveOneNumber}
 use Rattle.mk_build.specs.Setting.{IsAlwaysMade}
 use Rattle.mk_build_behaviours.specs.Behaviours.{Behaviours}
-use Rattle.mk_build_since.specs.Named.{CantStayTrusting, IsLeftOver, IsMadeAnewTrusting, IsNamedTrusting, OwnsFile}
+use Rattle.mk_build_since.specs.Named.{CantStayTrusting, IsLeftOver, IsMadeAnew, IsNamedTrusting, OwnsFile}
 use Rattle.mk_subject.specs.Laws.{AllWritesExactly}
 use Rattle.mk_subject.specs.NodeRow.{NodeRow, AreRows, IsRow, row_reads, row_writes}
 use Rattle.mk_subject.specs.Subject.{Subject, all_writes, commands_of, name_of, reads_of, writes_of}
@@ -149,14 +149,14 @@ module _ (doubted : List (List ℕ)) (x y : Subject) (b c : Behaviours) (is_x : 
 
   module _ (always : List Bool) (made : (t : ℕ) → (get_or always t false ≡ true) ↔ IsAlwaysMade y.graph t) (rows : List NodeRow) (entries : AreRows y rows) where
     -- rows of the new build lead to what is made anew
-    anew_from : (f : List ℕ) → Among (Renews (past_of doubted x) y always) rows f → OwnsFile (build_of x b) f × IsMadeAnewTrusting (trust_without doubted) (build_of x b) (build_of y c) f
+    anew_from : (f : List ℕ) → Among (Renews (past_of doubted x) y always) rows f → OwnsFile (build_of x b) f × IsMadeAnew (CantStayTrusting (trust_without doubted) (build_of x b) (build_of y c)) (build_of y c) f
     anew_from f (e, among, (wrote, own, anew)) =
         let both = and_parts (not (get_or always e.number false)) (cant_stay (past_of doubted x) y e) anew in (
           (owns_is doubted x is_x exact b f).0 own,
           (e.number, row_wrote y is_y reaches rows entries e f among wrote, (λ m. not_from (get_or always e.number false) both.0 ((made e.number).1 m)), (stay_decides x y b c is_x is_y reaches exact one doubted e (is_entry y is_y reaches rows entries e among)).0 both.1),
         )
 
-    anew_for : (f : List ℕ) → OwnsFile (build_of x b) f → IsMadeAnewTrusting (trust_without doubted) (build_of x b) (build_of y c) f → Among (Renews (past_of doubted x) y always) rows f
+    anew_for : (f : List ℕ) → OwnsFile (build_of x b) f → IsMadeAnew (CantStayTrusting (trust_without doubted) (build_of x b) (build_of y c)) (build_of y c) f → Among (Renews (past_of doubted x) y always) rows f
     anew_for f own (t, wrote, once, cant) =
         let row = writer_row y is_y reaches rows entries t f wrote in
         let e = row.0 in
