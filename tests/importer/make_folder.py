@@ -9,11 +9,12 @@ import shutil
 import subprocess
 import sys
 import tempfile
-import time
 import unittest
 from dataclasses import dataclass, field
 from pathlib import Path
 from typing import Any
+
+from waits import wait_for_later_stamps
 
 ROOT = Path(__file__).resolve().parents[2]
 IMPORTER = ROOT / "bin" / "mkcheck-import"
@@ -267,7 +268,7 @@ class MakeFolderTest(unittest.TestCase):
         """Whether make makes one of the outputs anew when files are touched."""
         folder = self.copied("tried", built)
         before = self.stamps(folder, outputs)
-        time.sleep(0.02)  # The clock of the file system is that coarse.
+        wait_for_later_stamps(folder)
         for name in touched:
             os.utime(folder / name)
         done = self.make(folder, *words)

@@ -9,11 +9,11 @@ from __future__ import annotations
 import re
 import shutil
 import subprocess
-import time
 import unittest
 from pathlib import Path
 
 from importer.make_folder import Answer, MakeFolderTest, can_judge
+from waits import wait_for_later_stamps
 
 A_FUNCTION = "a function, as $(if ..) or $(shell ..), or a computed name"
 
@@ -28,7 +28,7 @@ class UnseenTestCase(MakeFolderTest):
         of the edited sources. `first` and `goal` are the goals of the two builds."""
         folder = self.copied("edited")
         self.run_make(folder, first)
-        time.sleep(0.02)  # The clock of the file system is that coarse.
+        wait_for_later_stamps(folder)
         self.edit(folder, edits)
         self.run_make(folder, goal or first)
         clean = self.copied("clean")
@@ -261,7 +261,7 @@ class WhileReadingTest(UnseenTestCase):
         built = self.built()
         self.edit(built, {"b": "z\n"})
         for left in ("a\n0\n", "a\n1\n"):
-            time.sleep(0.02)  # The clock of the file system is that coarse.
+            wait_for_later_stamps(built)
             self.run_make(built, "")
             self.assertEqual((built / "x").read_text(), left)
         self.refused("    version: it is made when make reads its makefiles")
@@ -724,7 +724,7 @@ class ReadOutputTest(UnseenTestCase):
         self.add_lines("v := $(shell grep -c 2 gen 2> /dev/null || :)\nv += $(if $v,,0)\n")
         built = self.built()
         for edits, text in (({"b": "2\n"}, "0\n"), ({"a": "b\n"}, "1\n")):
-            time.sleep(0.02)  # The clock of the file system is that coarse.
+            wait_for_later_stamps(built)
             self.edit(built, edits)
             self.run_make(built, "")
             self.assertEqual((built / "x").read_text(), text)

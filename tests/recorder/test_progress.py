@@ -9,7 +9,6 @@ import pty
 import subprocess
 import sys
 import threading
-import time
 import unittest
 from collections.abc import Callable
 from concurrent import futures
@@ -24,6 +23,7 @@ from mkcheck_tools.replay.runs import BARE
 from mkcheck_tools.run import progress as progress_module
 from mkcheck_tools.run.progress import CLEAR, SECONDS_APART, Progress, duration
 from recorder.project import MKCHECK, RECORDER, ProjectTest, traced
+from waits import SECONDS_AT_MOST, wait_for
 
 
 HOUR = 3600.0
@@ -38,13 +38,6 @@ def read_all(terminal: int) -> str:
     except OSError:
         pass
     return text.decode()
-
-
-def wait_for(is_so: Callable[[], bool]) -> None:
-    """Waits until something is so; a test that waits for too long fails behind it."""
-    until = time.monotonic() + 600.0
-    while not is_so() and time.monotonic() < until:
-        time.sleep(0.01)
 
 
 class Told(io.StringIO):
@@ -62,7 +55,7 @@ class Told(io.StringIO):
 
     def wait(self) -> None:
         """Takes as long as nothing is written, so a run that waits here is a long one."""
-        self.is_told.wait(600.0)
+        self.is_told.wait(SECONDS_AT_MOST)
 
 
 class LinesTest(unittest.TestCase):
@@ -189,11 +182,14 @@ class FailingWritesTest(unittest.TestCase):
         """What is written of runs: long ones end when a line is written, the others before they
         are waited for."""
         stream = Told()
+
+        def run(is_long: bool) -> None:
+            """Goes on until a line is written, if it is a long one."""
+            if is_long:
+                stream.wait()
+
         with ThreadPoolExecutor() as pool, mock.patch.object(halves, "SECONDS_SHOWN", 0.1):
-            runs = {
-                number: pool.submit(stream.wait if one else int)
-                for number, one in enumerate(long)
-            }
+            runs = {number: pool.submit(run, one) for number, one in enumerate(long)}
             futures.wait(runs[number] for number, one in enumerate(long) if not one)
             names = {number: f"{number}.o" for number in runs}
             halves.watch(runs, names, Progress(len(runs), stream, HOUR, title="failing"))
