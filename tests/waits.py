@@ -7,7 +7,11 @@ import tempfile
 import time
 from collections.abc import Callable, Iterator
 from pathlib import Path
+from typing import TypeVar
 
+Found = TypeVar("Found")
+# How often something is tried that a busy machine may hide.
+TRIES = 8
 # What hasn't come after so many seconds doesn't come at all.
 SECONDS_AT_MOST = 600.0
 MOMENT = 0.02
@@ -19,6 +23,15 @@ def wait_for(is_so: Callable[[], bool], seconds: float = SECONDS_AT_MOST) -> boo
     while not (found := is_so()) and time.monotonic() < until:
         time.sleep(MOMENT)
     return found
+
+
+def found_once(look: Callable[[], Found], wanted: Found) -> Found:
+    """What is found in one of some tries, if that is what is wanted, and else in the last one: for
+    what shows only where a process isn't kept waiting."""
+    for _ in range(TRIES - 1):
+        if look() == wanted:
+            return wanted
+    return look()
 
 
 def wait_for_later_stamps(folder: Path) -> None:

@@ -633,6 +633,7 @@ class NotTranslatedTest(NinjaFolderTest):
         self.assertEqual((answer.findings, len(answer.problems)), ([], 1))
         self.assertIn("build.ninja:6: the recipe of b writes b otherwise", answer.problems[0])
         built = self.built()
+        wait_for_later_stamps(built)
         (built / "a.in").write_text("no\n")
         self.ninja(folder=built)
         self.assertEqual((built / "b").read_text(), "b\n")

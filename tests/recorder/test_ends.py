@@ -19,7 +19,7 @@ from mkcheck_tools.replay.versions import CHUNK, copy_bytes
 from mkcheck_tools.run import places, stopping
 from mkcheck_tools.run.paths import RealPath
 from recorder.project import MKCHECK, OF_MAKE, RECORDER, ROOT, ProjectTest, traced
-from waits import SECONDS_AT_MOST, wait_for
+from waits import SECONDS_AT_MOST, TRIES, wait_for
 
 namespaces = unittest.skipUnless(places.namespace(), "no mount namespace is allowed")
 MAKEFILE = "all: a b c\na: s\n\tcp s a\nb: s\n\tcat s > b\nc: a\n\tcp a c\n"
@@ -63,8 +63,6 @@ def work():
     return 0
 sys.exit(ending.ended("tool", "tool", work))
 """
-# How often a recorder may take long to end.
-TRIES = 8
 # How much a full disk holds.
 SMALL = 4 << 20
 ON_A_SMALL_DISK = """\

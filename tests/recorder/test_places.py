@@ -476,7 +476,8 @@ class SignalTest(ProjectTest):
             text=True,
             preexec_fn=take_signals,
         ) as run:
-            self.assertTrue(wait_for(lambda: processes_with(f"sleep 1234; echo > {self.mark}")))
+            recipe = f"sleep 1234; echo > {self.mark}"
+            self.assertTrue(wait_for(lambda: bool(processes_with(recipe))))
             run.send_signal(number)
             output, errors = run.communicate(timeout=600)
         # What is large is removed behind the end of the recorder.
