@@ -14,7 +14,7 @@ from pathlib import Path
 from case_file import Answer, Case, CaseError, Section
 from json_answers import OTHERS, misprinted, misspoken
 
-SECONDS = 60
+SECONDS = 600
 FOOTPRINTS = "footprint.json"
 CERTIFICATE = "certificate.json"
 # The options of commands that have a value.

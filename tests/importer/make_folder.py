@@ -9,11 +9,12 @@ import shutil
 import subprocess
 import sys
 import tempfile
-import time
 import unittest
 from dataclasses import dataclass, field
 from pathlib import Path
 from typing import Any
+
+from waits import wait_for_later_stamps
 
 ROOT = Path(__file__).resolve().parents[2]
 IMPORTER = ROOT / "bin" / "mkcheck-import"
@@ -28,12 +29,15 @@ ENVIRONMENT = {
 SLOW = """#!/bin/sh
 for last; do :; done
 echo "begin $last" >> @LOG@
-case $last in (*'@WORD@'*) sleep 0.6;; esac
+case $last in (*'@WORD@'*) sleep @SECONDS@;; esac
 /bin/sh "$@"
 status=$?
 echo "end $last" >> @LOG@
 exit $status
 """
+
+# How long such a command takes: longer where the machine is busy.
+SECONDS_OF_SLOW = (0.6, 3, 15, 60)
 
 
 def gnu_make() -> str | None:
@@ -267,7 +271,7 @@ class MakeFolderTest(unittest.TestCase):
         """Whether make makes one of the outputs anew when files are touched."""
         folder = self.copied("tried", built)
         before = self.stamps(folder, outputs)
-        time.sleep(0.02)  # The clock of the file system is that coarse.
+        wait_for_later_stamps(folder)
         for name in touched:
             os.utime(folder / name)
         done = self.make(folder, *words)
@@ -293,7 +297,12 @@ class MakeFolderTest(unittest.TestCase):
                     touched = self.sources(answer, names[0])[:1]
                     self.assertFalse(self.rebuilds(built, touched, outputs, *words))
                 elif kind == "race":
-                    self.assertTrue(self.begins_early(answer, recipe, names[0], *words))
+                    self.assertTrue(
+                        any(
+                            self.begins_early(answer, recipe, names[0], seconds, *words)
+                            for seconds in SECONDS_OF_SLOW
+                        )
+                    )
         for recipe, file, *_ in answer.ways:
             outputs = [one for one in answer.records[recipe].writes if (built / one).exists()]
             if outputs:
@@ -301,14 +310,16 @@ class MakeFolderTest(unittest.TestCase):
                     touched = self.sources(answer, file)[:1]
                     self.assertTrue(self.rebuilds(built, touched, outputs, *words))
 
-    def begins_early(self, answer: Answer, recipe: str, writer: str, *words: str) -> bool:
-        """Whether make with jobs begins a recipe before a slow writer has ended."""
+    def begins_early(
+        self, answer: Answer, recipe: str, writer: str, seconds: float, *words: str
+    ) -> bool:
+        """Whether make with jobs begins a recipe before a writer has ended that takes so long."""
         folder = self.copied("raced")
         log, shell = self.scratch / "shell.log", self.scratch / "shell"
         log.write_text("")
         word = command_of(answer, writer)
-        text = SLOW.replace("@LOG@", str(log)).replace("@WORD@", word.replace("'", "'\\''"))
-        shell.write_text(text)
+        text = SLOW.replace("@LOG@", str(log)).replace("@SECONDS@", str(seconds))
+        shell.write_text(text.replace("@WORD@", word.replace("'", "'\\''")))
         shell.chmod(0o755)
         self.make(folder, "-j8", f"SHELL={shell}", *words)
         lines = log.read_text().splitlines()

@@ -8,7 +8,6 @@ import re
 import shutil
 import subprocess
 import tempfile
-import time
 import unittest
 from dataclasses import dataclass
 from pathlib import Path
@@ -17,6 +16,7 @@ from mkcheck_tools.imports.builds import Build
 from mkcheck_tools.imports.ninja import NinjaBuild, read_ninja
 from mkcheck_tools.run.paths import RealPath, SeenPath
 from mkcheck_tools.run.places import Place
+from waits import wait_for_later_stamps
 
 ROOT = Path(__file__).resolve().parents[2]
 IMPORTER = ROOT / "bin" / "mkcheck-import"
@@ -217,7 +217,7 @@ class NinjaFolderTest(unittest.TestCase):
     def rebuilds(self, folder: Path, touched: list[str], outputs: list[str], *words: str) -> bool:
         """Whether ninja makes one of the outputs anew when files are touched."""
         before = self.stamps(folder, outputs)
-        time.sleep(0.02)  # The clock of the file system is that coarse.
+        wait_for_later_stamps(folder)
         for name in touched:
             if (folder / name).exists():  # Ninja takes dependency files away.
                 os.utime(folder / name)

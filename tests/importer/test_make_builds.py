@@ -7,6 +7,7 @@ import subprocess
 import unittest
 
 from importer.make_folder import MKCHECK, MakeFolderTest, can_judge
+from waits import found_once
 
 
 @can_judge
@@ -764,8 +765,12 @@ class VaryingTest(MakeFolderTest):
         found = ["no race y x x", "no stale y x"]
         self.assertEqual(answer.findings, found, answer.output + answer.errors)
         self.assertEqual(answer.status, 1)
-        done = self.make(self.copied("parallel"), "-j2")
-        self.assertIn("No rule to make target", done.stderr)
+        told = "No rule to make target"
+
+        def is_told() -> bool:
+            return told in self.make(self.copied("parallel"), "-j2").stderr
+
+        self.assertTrue(found_once(is_told, True))
 
     def test_names_that_posix_lacks(self) -> None:
         self.write(

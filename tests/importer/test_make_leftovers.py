@@ -13,6 +13,7 @@ from pathlib import Path
 
 from importer.make_folder import ENVIRONMENT, IMPORTER, Answer, MakeFolderTest, can_judge
 from mkcheck_tools.run.places import namespace
+from waits import wait_for
 
 # The object lacks the header that it reads; the program is made from the object.
 MAKEFILE = "prog: a.o\n\tcat a.o > prog\na.o: a.in\n\tcat a.in h > a.o\n"
@@ -245,8 +246,10 @@ class CleanTest(LeftoversTestCase):
         self.assertEqual(done.returncode, 2, done.stderr)
         self.assertIn(" 2 files (a.o, prog) with rules are there already", done.stderr)
         self.assertIn("(GNU make didn't end in 2 seconds)", done.stderr)
-        commands = [content(path) for path in Path("/proc").glob("[0-9]*/cmdline")]
-        self.assertNotIn(f"sleep\0006{os.getpid()}\0".encode(), commands)
+        command = f"sleep\0006{os.getpid()}\0".encode()
+        there = Path("/proc").glob
+        # What was killed may take a moment to end.
+        self.assertTrue(wait_for(lambda: command not in map(content, there("[0-9]*/cmdline"))))
 
 
 def content(path: Path) -> bytes:

@@ -28,6 +28,7 @@ from mkcheck_tools.imports.views import Subject
 from mkcheck_tools.judge.refusals import started_make
 from mkcheck_tools.run.paths import RealPath, SeenPath
 from mkcheck_tools.run.places import Place
+from waits import SECONDS_AT_MOST
 
 A_FUNCTION = "a function, as $(if ..) or $(shell ..), or a computed name"
 
@@ -454,7 +455,7 @@ class WrapperTest(unittest.TestCase):
             env={**os.environ, "MKIMPORT_OUT": str(self.scratch / "top.out"), **more},
             capture_output=True,
             text=True,
-            timeout=120,
+            timeout=SECONDS_AT_MOST,
             check=False,
         )
 

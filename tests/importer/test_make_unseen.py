@@ -9,11 +9,11 @@ from __future__ import annotations
 import re
 import shutil
 import subprocess
-import time
 import unittest
 from pathlib import Path
 
 from importer.make_folder import Answer, MakeFolderTest, can_judge
+from waits import found_once, wait_for_later_stamps
 
 A_FUNCTION = "a function, as $(if ..) or $(shell ..), or a computed name"
 
@@ -28,7 +28,6 @@ class UnseenTestCase(MakeFolderTest):
         of the edited sources. `first` and `goal` are the goals of the two builds."""
         folder = self.copied("edited")
         self.run_make(folder, first)
-        time.sleep(0.02)  # The clock of the file system is that coarse.
         self.edit(folder, edits)
         self.run_make(folder, goal or first)
         clean = self.copied("clean")
@@ -42,7 +41,8 @@ class UnseenTestCase(MakeFolderTest):
         self.assertEqual(done.returncode, 0, done.stdout + done.stderr)
 
     def edit(self, folder: Path, edits: dict[str, str]) -> None:
-        """Writes sources anew."""
+        """Writes sources anew, which get later stamps than what is built."""
+        wait_for_later_stamps(folder)
         for name, text in edits.items():
             (folder / name).write_text(text)
 
@@ -261,7 +261,7 @@ class WhileReadingTest(UnseenTestCase):
         built = self.built()
         self.edit(built, {"b": "z\n"})
         for left in ("a\n0\n", "a\n1\n"):
-            time.sleep(0.02)  # The clock of the file system is that coarse.
+            wait_for_later_stamps(built)
             self.run_make(built, "")
             self.assertEqual((built / "x").read_text(), left)
         self.refused("    version: it is made when make reads its makefiles")
@@ -724,7 +724,6 @@ class ReadOutputTest(UnseenTestCase):
         self.add_lines("v := $(shell grep -c 2 gen 2> /dev/null || :)\nv += $(if $v,,0)\n")
         built = self.built()
         for edits, text in (({"b": "2\n"}, "0\n"), ({"a": "b\n"}, "1\n")):
-            time.sleep(0.02)  # The clock of the file system is that coarse.
             self.edit(built, edits)
             self.run_make(built, "")
             self.assertEqual((built / "x").read_text(), text)
@@ -1087,7 +1086,7 @@ class WithoutRuleTest(UnseenTestCase):
 
     def test_phony_recipe(self) -> None:
         self.header("gen", "\n.PHONY: gen\ngen:")
-        self.assertEqual(self.after_edit(), "a\n1\n")
+        self.assertEqual(found_once(self.after_edit, "a\n1\n"), "a\n1\n")
         answer = self.imported()
         self.assertEqual((answer.status, answer.findings), (1, ["no stale x gen.h"]))
         self.assertIn(

@@ -3,12 +3,12 @@
 from __future__ import annotations
 
 import os
-import time
 import unittest
 
 from importer.ninja_folder import NinjaFolderTest, can_judge, has_ninja
 from mkcheck_tools.faults import Fault
 from mkcheck_tools.run.places import namespace
+from waits import wait_for_later_stamps
 
 COPY = "rule copy\n  command = cat $in $more > $out\n"
 # A compiler of one line: it copies its input and the files named in it, and writes a depfile.
@@ -351,10 +351,10 @@ class DepfileTest(NinjaFolderTest):
             answer.text,
         )
         self.assertEqual(self.ninja().returncode, 0)
-        time.sleep(0.02)  # The clock of the file system is that coarse.
+        wait_for_later_stamps(self.folder)
         self.write({"g.txt": "2\n"})
         for text in ("a\n1\n", "a\n2\n"):
-            time.sleep(0.02)
+            wait_for_later_stamps(self.folder)
             self.assertEqual(self.ninja().returncode, 0)
             self.assertEqual((self.folder / "x").read_text(), text)
         for name in ("x", "g.h", ".ninja_log", ".ninja_deps"):
@@ -618,7 +618,7 @@ class NotTranslatedTest(NinjaFolderTest):
     def left_by_edit(self) -> str:
         """What b holds when s says `t` after a build."""
         built = self.built()
-        time.sleep(0.02)  # The clock of the file system is that coarse.
+        wait_for_later_stamps(built)
         (built / "s").write_text("t\n")
         self.ninja(folder=built)
         return (built / "b").read_text()
@@ -633,6 +633,7 @@ class NotTranslatedTest(NinjaFolderTest):
         self.assertEqual((answer.findings, len(answer.problems)), ([], 1))
         self.assertIn("build.ninja:6: the recipe of b writes b otherwise", answer.problems[0])
         built = self.built()
+        wait_for_later_stamps(built)
         (built / "a.in").write_text("no\n")
         self.ninja(folder=built)
         self.assertEqual((built / "b").read_text(), "b\n")

@@ -51,7 +51,9 @@ class TellingTest(unittest.TestCase):
             return text
 
         Telling(stream, apart=0.2).during("build", look, ended.wait)
-        self.assertRegex(stream.getvalue(), r"building a second time, 0:0\d, 1 of 2, 0:0\d left\n")
+        self.assertRegex(
+            stream.getvalue(), r"building a second time, \d+:\d\d, 1 of 2, \d+:\d\d left\n"
+        )
 
     def test_commands_of_a_whole_that_is_not_known(self) -> None:
         line = "mkcheck-import: building, 0:10, 9 so far\n"

@@ -10,6 +10,7 @@ import unittest
 from importer.make_folder import MakeFolderTest, can_judge
 from importer.ninja_folder import ENVIRONMENT, IMPORTER, NinjaFolderTest
 from importer.ninja_folder import can_judge as can_judge_ninja
+from waits import wait_for_later_stamps
 
 # A line of a makefile for a tool that runs a recipe which failed again, whatever it left.
 AGAIN = "# Recipes that failed run again, whatever they left.\n"
@@ -86,6 +87,7 @@ class NinjaTest(NinjaFolderTest):
         runs: list[tuple[dict[str, str], int]] = [({}, 0), ({"s": "2\n", "fail": ""}, 1), ({}, 0)]
         for files, status in runs:
             (copy / "fail").unlink(missing_ok=True)
+            wait_for_later_stamps(copy)
             for name, text in files.items():
                 (copy / name).write_text(text)
             done = self.ninja(folder=copy)

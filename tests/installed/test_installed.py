@@ -233,7 +233,7 @@ def test_vim_lists_findings(project: Project) -> None:
         ["vim", "-u", "NONE", "-es", *words],
         cwd=project.folder,
         stdin=subprocess.DEVNULL,
-        timeout=60,
+        timeout=600,
         check=False,
     )
     (line,) = project.text("listed").splitlines()

@@ -11,7 +11,7 @@ from pathlib import Path
 
 ROOT = Path(__file__).resolve().parents[2]
 PROGRAM = Path(os.environ.get("MKCHECK", ROOT / "bin" / "mkcheck")).resolve()
-SECONDS = 60
+SECONDS = 600
 # The most bytes that a file may have.
 MOST = 16_777_216
 

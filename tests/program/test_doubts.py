@@ -11,18 +11,21 @@ import pytest
 
 from program.runs import SECONDS, Run, assert_answers, footprints
 
-LIST = "head -n 1 names > list && sleep 2 && tail -n 2 names >> list"
-COUNT = "sleep 1 && wc -l < list > seen && sleep 2 && cp seen count"
+LIST = "head -n 1 names > list && : && tail -n 2 names >> list"
+COUNT = ": && wc -l < list > seen && : && cp seen count"
 REPORT = "sed s/^/names:/ count > report"
 SIZE = "wc -c < names > size"
 # With one job the list is whole before the count begins. With several jobs the count sees half of
-# it, and ends when the list is whole, so that it is newer.
+# it, and ends when the list is whole, so that it is newer: macros have each wait for the other.
 MAKEFILE = f"""\
+COUNTED = :
+BEGUN = :
+WHOLE = :
 all: list report size
 list: names
-\t{LIST}
+\t{LIST.replace(":", "$(COUNTED)")}
 count:
-\t{COUNT}
+\t{COUNT.replace(":", "$(BEGUN)", 1).replace(" : ", " $(WHOLE) ")}
 report: count
 \t{REPORT}
 size: names
@@ -35,6 +38,11 @@ BOOK = footprints(
     f"report: count > report = {REPORT}; size: names > size = {SIZE}",
 )
 NAMES = "one\ntwo\nthree\n"
+RACE = (
+    "COUNTED=until test -s seen; do sleep 0.1; done",
+    "BEGUN=until test -s list; do sleep 0.1; done",
+    "WHOLE=until test `wc -l < list` = 3; do sleep 0.1; done",
+)
 FOUND = "no race count list list\nno stale count list\n"
 
 
@@ -58,7 +66,7 @@ def test_what_since_names_mends_what_a_race_left(tmp_path: Path) -> None:
     right = built(clean)
     assert right["report"].split() == ["names:3"]
     (folder / "makefile").write_text(MAKEFILE)
-    assert built(folder, "-j4")["report"].split() == ["names:1"]
+    assert built(folder, "-j4", *RACE)["report"].split() == ["names:1"]
     (folder / "makefile").write_text(MENDED)
     assert built(folder, "-j4")["report"].split() == ["names:1"]
 

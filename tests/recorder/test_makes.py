@@ -50,7 +50,7 @@ class SubMakeTest(ProjectTest):
     @unittest.skipUnless(shutil.which("make"), "no make")
     def test_one_is_ended_as_it_begins_to_work(self) -> None:
         mark = self.scratch / "mark"
-        sub = {"sub/makefile": f"x: y\n\tsleep 2; echo > {mark}; cp y x\n", "sub/y": ""}
+        sub = {"sub/makefile": f"x: y\n\tsleep 120; echo > {mark}; cp y x\n", "sub/y": ""}
         self.assertEqual(self.said("all:\n\t$(MAKE) -C sub\n", sub), self.in_sub("make"))
         self.assertFalse(mark.exists())
 

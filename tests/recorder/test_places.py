@@ -8,7 +8,6 @@ import signal
 import subprocess
 import sys
 import tempfile
-import time
 import unittest
 from dataclasses import replace
 from pathlib import Path
@@ -26,6 +25,7 @@ from mkcheck_tools.run.places import Place
 from outside import assert_untouched, folder_outside
 from recorder.project import MKCHECK, RECORDER, ProjectTest, traced
 from recorder.test_unseen import left_with, processes_with
+from waits import wait_for
 
 namespaces = unittest.skipUnless(places.namespace(), "no mount namespace is allowed")
 SCRATCH = "mkcheck-record-"
@@ -84,21 +84,24 @@ class PlaceTest(ProjectTest):
             process.communicate(b"\n")
 
     def test_time_that_is_up(self) -> None:
-        ended = self.run_here("echo begun; sleep 60", 0.5)
+        """It is up as soon as the command has said something."""
+        begun = self.other / "begun"
+        with mock.patch("time.monotonic", lambda: 100.0 * begun.exists()):
+            ended = self.run_here("echo begun; echo > begun; sleep 600", 50)
         self.assertEqual((ended.timed_out, ended.output), (True, "begun\n"))
 
     def test_waiting_for_a_time(self) -> None:
-        with subprocess.Popen(["sleep", "60"]) as process:
+        with subprocess.Popen(["sleep", "600"]) as process:
             for seconds in (0, 0.01):
                 with self.assertRaises(subprocess.TimeoutExpired):
                     places.waited(process, seconds)
             process.kill()
-            self.assertEqual(places.waited(process, 60), -signal.SIGKILL)
+            self.assertEqual(places.waited(process, 600), -signal.SIGKILL)
 
     def test_what_stays_in_the_background_is_killed(self) -> None:
         mark = str(self.scratch / "mark")
         self.assertEqual(
-            self.run_here(f"sh -c 'sleep 60; echo > {mark}' & echo begun").output, "begun\n"
+            self.run_here(f"sh -c 'sleep 600; echo > {mark}' & echo begun").output, "begun\n"
         )
         self.assertEqual(left_with(mark), [])
 
@@ -152,26 +155,23 @@ class ScratchFolderTest(ProjectTest):
 
     def test_a_signal_does_not_wait_for_all_that_is_there(self) -> None:
         """A folder that takes long to remove goes on being removed, and isn't waited for."""
-        remove = folders.remove
+        remove, go = folders.remove, self.scratch / "go"
 
         def slowly(folder: str) -> None:
-            time.sleep(4)
+            wait_for(go.exists)
             remove(folder)
 
-        begun = time.monotonic()
         with mock.patch.object(folders, "remove", slowly), self.assertRaises(stopping.Stopped):
             with folders.temporary_folder(str(self.scratch)) as scratch:
                 (Path(scratch) / "a").touch()
                 raise stopping.Stopped(signal.SIGTERM)
-        self.assertLess(time.monotonic() - begun, 3)
         self.assertTrue(os.path.exists(scratch))
-        while os.path.exists(scratch) and time.monotonic() - begun < 60:
-            time.sleep(0.1)
-        self.assertFalse(os.path.exists(scratch))
+        go.touch()
+        self.assertTrue(wait_for(lambda: not os.path.exists(scratch)))
 
     def left_after_signals(self, name: str, early: bool) -> list[str]:
         """What is left of a folder where a function gets a signal each time, at its begin if
-        `early`, else at its end.
+        `early`, else at its end; after some time, in which it may still be removed.
         """
         module = {"mkdtemp": tempfile, "remove": folders}[name]
         function = getattr(module, name)
@@ -189,7 +189,12 @@ class ScratchFolderTest(ProjectTest):
         with mock.patch.object(module, name, signalled), self.assertRaises(stopping.Stopped):
             with folders.temporary_folder(str(self.scratch)) as scratch:
                 (Path(scratch) / "a").touch()
-        return [path.name for path in self.scratch.iterdir() if path != self.folder]
+
+        def left() -> list[str]:
+            return [path.name for path in self.scratch.iterdir() if path != self.folder]
+
+        wait_for(lambda: not left())
+        return left()
 
     def test_signals_while_it_is_made_or_removed(self) -> None:
         for number in stopping.SIGNALS:
@@ -437,7 +442,7 @@ class BeginTest(unittest.TestCase):
         stopping.catch_signals()
         with open(os.devnull, "wb") as output, mock.patch.object(subprocess, "Popen", popen):
             with self.assertRaises(stopping.Stopped) as raised:
-                with places.started(["sleep", "77"], "/", os.environ, output.fileno()):
+                with places.started(["sleep", "1234"], "/", os.environ, output.fileno()):
                     self.fail("the signal was lost")
         self.assertEqual(raised.exception.status, 128 + signal.SIGTERM)
         self.assertEqual([process.returncode for process in begun], [-signal.SIGKILL])
@@ -471,12 +476,12 @@ class SignalTest(ProjectTest):
             text=True,
             preexec_fn=take_signals,
         ) as run:
-            until = time.monotonic() + 120
-            while not processes_with(f"sleep 77; echo > {self.mark}") and time.monotonic() < until:
-                time.sleep(0.05)
+            recipe = f"sleep 1234; echo > {self.mark}"
+            self.assertTrue(wait_for(lambda: bool(processes_with(recipe))))
             run.send_signal(number)
-            output, errors = run.communicate(timeout=120)
-        self.assertEqual([path.name for path in temporary.iterdir()], [])
+            output, errors = run.communicate(timeout=600)
+        # What is large is removed behind the end of the recorder.
+        self.assertTrue(wait_for(lambda: not list(temporary.iterdir())))
         self.assertEqual(left_with(self.mark), [])
         self.assertFalse(self.book.exists())
         return subprocess.CompletedProcess(command, run.returncode, output, errors)
@@ -484,25 +489,25 @@ class SignalTest(ProjectTest):
     def test_each_signal_ends_all(self) -> None:
         for number in (signal.SIGINT, signal.SIGTERM, signal.SIGHUP):
             for words in ((), ("--in-place",)):
-                done = self.stopped(number, "sh -c 'sleep 77; echo > {mark}'; echo > out", *words)
+                done = self.stopped(number, "sh -c 'sleep 1234; echo > {mark}'; echo > out", *words)
                 said = f"mkcheck-record: stopped by {number.name}, nothing is written\n"
                 self.assertEqual((done.returncode, done.stdout), (128 + number, ""))
                 self.assertTrue(done.stderr.endswith(said), done.stderr)
 
     @unittest.skipUnless(shutil.which("setsid"), "no setsid")
     def test_a_process_of_its_own_session_is_ended_too(self) -> None:
-        recipe = "trap : TERM INT HUP; setsid sh -c 'sleep 77; echo > {mark}'; echo > out"
+        recipe = "trap : TERM INT HUP; setsid sh -c 'sleep 1234; echo > {mark}'; echo > out"
         self.assertEqual(self.stopped(signal.SIGTERM, recipe).returncode, 143)
 
     def test_a_recipe_that_ignores_signals(self) -> None:
-        recipe = "trap \"\" TERM INT HUP; sh -c 'sleep 77; echo > {mark}'; echo > out"
+        recipe = "trap \"\" TERM INT HUP; sh -c 'sleep 1234; echo > {mark}'; echo > out"
         self.assertEqual(self.stopped(signal.SIGTERM, recipe).returncode, 143)
 
     @namespaces
     def test_a_replay_is_ended_too(self) -> None:
         recipe = (
-            "test -f a && test ! -s a; if test -f ready; then sh -c 'sleep 77; echo > {mark}'; fi;"
-            " echo > out"
+            "test -f a && test ! -s a; if test -f ready; then sh -c 'sleep 1234; echo > {mark}';"
+            " fi; echo > out"
         )
         # The recording finds no `ready`; the recipe makes it for the replay of its own outputs.
         recipe = recipe.replace("echo > out", "echo > ready; echo > out")

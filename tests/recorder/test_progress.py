@@ -8,9 +8,10 @@ import os
 import pty
 import subprocess
 import sys
-import time
+import threading
 import unittest
 from collections.abc import Callable
+from concurrent import futures
 from concurrent.futures import ThreadPoolExecutor
 from types import SimpleNamespace
 from typing import Any
@@ -22,6 +23,10 @@ from mkcheck_tools.replay.runs import BARE
 from mkcheck_tools.run import progress as progress_module
 from mkcheck_tools.run.progress import CLEAR, SECONDS_APART, Progress, duration
 from recorder.project import MKCHECK, RECORDER, ProjectTest, traced
+from waits import SECONDS_AT_MOST, wait_for
+
+
+HOUR = 3600.0
 
 
 def read_all(terminal: int) -> str:
@@ -35,11 +40,22 @@ def read_all(terminal: int) -> str:
     return text.decode()
 
 
-def wait_for(is_so: Callable[[], bool]) -> None:
-    """Waits until something is so; a test that waits for too long fails behind it."""
-    until = time.monotonic() + 60.0
-    while not is_so() and time.monotonic() < until:
-        time.sleep(0.01)
+class Told(io.StringIO):
+    """A stream with an event that is set as soon as something is written."""
+
+    def __init__(self) -> None:
+        super().__init__()
+        self.is_told = threading.Event()
+
+    def write(self, text: str) -> int:
+        """Takes a text."""
+        count = super().write(text)
+        self.is_told.set()
+        return count
+
+    def wait(self) -> None:
+        """Takes as long as nothing is written, so a run that waits here is a long one."""
+        self.is_told.wait(SECONDS_AT_MOST)
 
 
 class LinesTest(unittest.TestCase):
@@ -129,7 +145,7 @@ class LinesTest(unittest.TestCase):
                 progress.begin("b.o")
         lines = stream.getvalue().splitlines()
         self.assertEqual(lines[0], "[1/2] a.o: cc -c a.c")
-        self.assertRegex(lines[1], r"^\[1/2\] a\.o goes on, 0:0\d$")
+        self.assertRegex(lines[1], r"^\[1/2\] a\.o goes on, \d+:\d\d$")
         self.assertEqual([line for line in lines if "b.o" in line], [])
 
     def test_a_long_command(self) -> None:
@@ -162,36 +178,46 @@ class LinesTest(unittest.TestCase):
 class FailingWritesTest(unittest.TestCase):
     """The runs where writes fail, behind a count of replays that was shown just before."""
 
-    def told(self, seconds: list[float]) -> str:
-        """What is written of runs that end by themselves after these seconds."""
-        stream = io.StringIO()
+    def told(self, long: list[bool]) -> str:
+        """What is written of runs: long ones end when a line is written, the others before they
+        are waited for."""
+        stream = Told()
+
+        def run(is_long: bool) -> None:
+            """Goes on until a line is written, if it is a long one."""
+            if is_long:
+                stream.wait()
+
         with ThreadPoolExecutor() as pool, mock.patch.object(halves, "SECONDS_SHOWN", 0.1):
-            runs = {number: pool.submit(time.sleep, one) for number, one in enumerate(seconds)}
+            runs = {number: pool.submit(run, one) for number, one in enumerate(long)}
+            futures.wait(runs[number] for number, one in enumerate(long) if not one)
             names = {number: f"{number}.o" for number in runs}
-            halves.watch(runs, names, Progress(len(runs), stream, title="failing"))
+            halves.watch(runs, names, Progress(len(runs), stream, HOUR, title="failing"))
         return stream.getvalue()
 
     def test_a_long_run_is_told_at_once(self) -> None:
-        self.assertEqual(self.told([0.6, 0.6]), "[failing 0/2] 0.o goes on\n")
+        self.assertEqual(self.told([True, True]), "[failing 0/2] 0.o goes on\n")
 
     def test_short_runs_are_not_told(self) -> None:
-        self.assertEqual(self.told([0.0, 0.0]), "")
+        self.assertEqual(self.told([False, False]), "")
         self.assertEqual(self.told([]), "")
 
     def test_a_run_that_has_ended_is_told_where_another_goes_on(self) -> None:
-        self.assertRegex(self.told([1.5, 0.0]), r"^\[failing 1/2 0:0\d left\] 1\.o\n$")
+        self.assertRegex(self.told([True, False]), r"^\[failing 1/2 \d+:\d\d left\] 1\.o\n$")
 
 
 class RunsBehindTest(unittest.TestCase):
     """The replays that are run once more when all have ended: they are counted too."""
 
+    def setUp(self) -> None:
+        self.stream = Told()
+
     def told(self, run: Callable[[ThreadPoolExecutor], object]) -> str:
-        """What is written while replays are run once more."""
-        stream = io.StringIO()
-        with ThreadPoolExecutor() as pool, contextlib.redirect_stderr(stream):
+        """The first line that is written while replays are run once more."""
+        with ThreadPoolExecutor() as pool, contextlib.redirect_stderr(self.stream):
             with mock.patch.object(halves, "SECONDS_SHOWN", 0.1):
                 run(pool)
-        return stream.getvalue()
+        return self.stream.getvalue().partition("\n")[0]
 
     def outcome(self, name: str, **more: object) -> Any:
         """An outcome of a recipe, and a replay that takes a while."""
@@ -199,17 +225,17 @@ class RunsBehindTest(unittest.TestCase):
         return SimpleNamespace(trial=trial, lean=True, shows_nothing=False, **more)
 
     def replay(self) -> Any:
-        """What replays, where each replay takes a while."""
+        """What replays, where each replay goes on until a line is written."""
         layout = SimpleNamespace(folders_of=lambda _: (), taken_away=lambda _: ())
         ancestors = SimpleNamespace(any_before=lambda above, own: above == ("a",) and own == "b")
         return SimpleNamespace(
-            in_turn=lambda *_: time.sleep(0.5), layout=layout, ancestors=ancestors
+            in_turn=lambda *_: self.stream.wait(), layout=layout, ancestors=ancestors
         )
 
     def test_recipes_that_are_alike(self) -> None:
         outcomes = [self.outcome("a.o"), self.outcome("b.o")]
         told = self.told(lambda pool: Replay.with_alike(self.replay(), pool, outcomes, [[0, 1]]))
-        self.assertEqual(told, "[alike 0/2] a.o goes on\n")
+        self.assertEqual(told, "[alike 0/2] a.o goes on")
 
     def test_recipes_that_fail_without_folders_of_others(self) -> None:
         outcomes = [
@@ -217,7 +243,7 @@ class RunsBehindTest(unittest.TestCase):
             self.outcome("b", run=BARE, passed=False, folders=frozenset()),
         ]
         told = self.told(lambda pool: Replay.with_folders(self.replay(), pool, outcomes))
-        self.assertEqual(told, "[folders 0/1] b goes on\n")
+        self.assertEqual(told, "[folders 0/1] b goes on")
 
 
 @traced
@@ -234,22 +260,24 @@ class TerminalTest(ProjectTest):
         )
         reader, writer = pty.openpty()
         self.addCleanup(os.close, reader)
-        done = subprocess.run(
+        with subprocess.Popen(
             [sys.executable, str(RECORDER), "-C", str(self.folder), "-o", str(self.book)],
             env={**os.environ, "MKCHECK": MKCHECK, "COLUMNS": "40"},
             stdout=subprocess.PIPE,
             stderr=writer,
-            check=False,
-        )
-        os.close(writer)
-        self.assertEqual((done.returncode, done.stdout), (0, b""))
-        lines = [line for line in read_all(reader).split(CLEAR) if line]
+        ) as run:
+            os.close(writer)
+            # It is read all the time, since a terminal takes no more than some kB unread.
+            told = read_all(reader)
+            output, _ = run.communicate()
+        self.assertEqual((run.returncode, output), (0, b""))
+        lines = [line for line in told.split(CLEAR) if line]
         lines = [line for line in lines if " goes on" not in line]
         self.assertEqual(len(lines), 4, lines)
         self.assertEqual(lines[0], "[1/2] a: echo > a; echo a long line > /"[:39])
-        self.assertRegex(lines[1], r"^\[2/2 0:0\d left\] b: cp a b; echo unseen$")
+        self.assertRegex(lines[1], r"^\[2/2 \d+:\d\d left\] b: cp a b; echo unseen$")
         # They are replayed side by side, so either may end first.
-        self.assertRegex(lines[2], r"^\[replay 1/2 0:0\d left\] [ab]$")
+        self.assertRegex(lines[2], r"^\[replay 1/2 \d+:\d\d left\] [ab]$")
         other = "b" if lines[2].endswith("a") else "a"
         self.assertEqual(lines[3], f"[replay 2/2] {other}")
 

@@ -6,13 +6,13 @@ from __future__ import annotations
 import os
 import shutil
 import subprocess
-import time
 import unittest
 
 from mkcheck_tools.replay.remains import after, counted
 from mkcheck_tools.run.paths import Name
 from recorder.project import OF_MAKE, compiled, traced
 from recorder.test_surroundings import SurroundingsTest, namespaces
+from waits import wait_for_later_stamps
 
 # A recipe that makes a file for each line of `a`, and then `st`.
 PIECES = "st: a\n\t{before}split -l 1 {options}a {front}; touch st\n"
@@ -37,7 +37,7 @@ class RemainsTest(SurroundingsTest):
         """What `out` holds where `a` gets shorter after a build, and in a clean build of that."""
         sources = {path.name for path in self.folder.iterdir()}
         self.built()
-        time.sleep(0.05)  # The clock of files goes on in steps.
+        wait_for_later_stamps(self.folder)
         self.write({"a": "1\n2\n"})
         found = self.built()
         for path in self.folder.iterdir():

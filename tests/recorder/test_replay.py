@@ -3,6 +3,7 @@
 from __future__ import annotations
 
 import hashlib
+import math
 import os
 import shutil
 import subprocess
@@ -15,12 +16,12 @@ from pathlib import Path
 from unittest import mock
 
 from mkcheck_tools.answers.graphs import Ancestors, Recipe
-from mkcheck_tools.replay import runs
+from mkcheck_tools.replay import runs, stamps
 from mkcheck_tools.replay.differences import Difference, lines_that_differ
 from mkcheck_tools.replay.orders import DAY
 from mkcheck_tools.replay.replays import Bench, Replay
 from mkcheck_tools.replay.runs import AGAIN, BARE, DAMAGED, ORDERED, Outcome
-from mkcheck_tools.replay.stamps import LEAST, made_since, with_other_stamps
+from mkcheck_tools.replay.stamps import LEAST, SECOND, made_since, with_other_stamps
 from mkcheck_tools.replay.versions import (
     Store,
     Version,
@@ -28,8 +29,8 @@ from mkcheck_tools.replay.versions import (
     digest_of_bytes,
     version_of,
 )
-from mkcheck_tools.replay.worlds import Effects, World
-from mkcheck_tools.run import places
+from mkcheck_tools.replay.worlds import Effects, Trial, World
+from mkcheck_tools.run import places, stopping
 from mkcheck_tools.run.paths import Name, RealPath, SeenPath, real_in
 from mkcheck_tools.run.places import Place
 from recorder.project import Environment
@@ -437,26 +438,39 @@ class StampsTest(unittest.TestCase):
         (project / "s").write_text("1\n")
         (self.scratch / "elsewhere").write_text("1\n")
         shutil.copytree(project, place)
-        now = time.time_ns()
+        now = time.time_ns() - 60 * SECOND
         for path, age in ((place / "s", source), (self.scratch / "elsewhere", outside)):
             os.utime(path, ns=(now - age, now - age))
         for path in (place / "d", place):
             os.utime(path, ns=(now - folder, now - folder))
         store = Store(RealPath(str(self.scratch / "store")))
-        world = World.of(RealPath(str(project)), RealPath(str(place)), store)
+        with mock.patch("time.time", return_value=now / SECOND):
+            world = World.of(RealPath(str(project)), RealPath(str(place)), store)
         s, a, out = Name("s"), Name("a"), Name("out")
         (place / "a").write_text("1\n")
+        os.utime(place / "a", ns=(now, now))
         world.took(Recipe("a", ["cp s a"]), Effects((s,), (a,)), time.time())
         (place / "out").write_text("1\n")
         effects = Effects((s, a), (out,), looked=(Name("../elsewhere"),))
         trial = world.took(Recipe("out", ["cp a out"]), effects, time.time())
-        found = with_other_stamps(world, trial)
+        found = self.at_once(world, trial, now)
         self.assertIs(with_other_stamps(world, found), found)
         self.assertEqual(set(made_since(world, found, time.time_ns())), {"a"})
         self.assertEqual(found.after[a], found.before[a])
         shutil.rmtree(project)
         shutil.rmtree(place)
         return found.before[a].stamp - trial.before[a].stamp
+
+    def at_once(self, world: World, trial: Trial, now: int) -> Trial:
+        """The recipe with other stamps, by a clock that goes on only where it is waited for."""
+        clock = [now]
+
+        def pause(seconds: float) -> None:
+            clock[0] += math.ceil(seconds * SECOND)
+
+        with mock.patch.object(stamps, "latest", lambda: clock[0]):
+            with mock.patch.object(stopping, "pause", pause):
+                return with_other_stamps(world, trial)
 
     def test_they_are_earlier_where_nothing_is_in_between(self) -> None:
         self.assertEqual(self.moved(DAY), -LEAST)
@@ -815,7 +829,7 @@ class UntracedTest(ReplayTest):
         self.assertEqual(outcome.run, BARE)
         self.assertRegex(
             outcome.failed,
-            r"^it didn't end in \d+ seconds, where it took 0\.\d when it was recorded, at ",
+            r"^it didn't end in \d+ seconds, where it took \d+\.\d when it was recorded, at ",
         )
 
     def test_lines_that_differ(self) -> None:

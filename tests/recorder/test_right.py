@@ -11,6 +11,7 @@ from pathlib import Path
 
 from mkcheck_tools.run import places
 from recorder.project import OF_MAKE, Environment, Outcome, ProjectTest, compiled, traced
+from waits import wait_for_later_stamps
 
 namespaces = unittest.skipUnless(places.namespace(), "no mount namespace is allowed")
 C = "int main(void) { return 0; }\n"
@@ -49,6 +50,8 @@ class RightTest(ProjectTest):
         folder = self.scratch / name
         if not folder.exists():
             shutil.copytree(self.folder, folder)
+        elif files:
+            wait_for_later_stamps(folder)
         for path, text in files.items():
             (folder / path).write_text(text)
         given: Environment = {**os.environ, **OF_MAKE}
@@ -312,18 +315,20 @@ class ProcessTest(RightTest):
     def test_one_that_the_recipe_ends(self) -> None:
         """The shell doesn't wait for it, but it writes nothing any more."""
         for way in ("kill $$!", "kill -9 $$!", "kill -INT -$$! 2>/dev/null || kill $$!"):
-            self.yes({"makefile": f"out: a\n\tsleep 60 & cat a > out; {way}\n", "a": "1\n"})
+            self.yes({"makefile": f"out: a\n\tsleep 600 & cat a > out; {way}\n", "a": "1\n"})
 
     def test_one_that_writes_when_it_is_ended_is_refused(self) -> None:
-        script = "#!/bin/sh\ntrap 'sleep 1; echo > late; exit' TERM\nwhile :; do sleep 0.1; done\n"
-        self.write({"makefile": "out:\n\t./server & sleep 0.5; echo > out; kill $$!\n"})
+        script = "#!/bin/sh\ntrap 'sleep 5; echo > late; exit' TERM\necho > ready\n"
+        script += "while :; do sleep 0.1; done\n"
+        ready = "until test -s ready; do sleep 0.1; done; rm ready"
+        self.write({"makefile": f"out:\n\t./server & {ready}; echo > out; kill $$!\n"})
         self.write({"server": script})
         outcome = self.record()
         self.assertEqual(outcome.status, 1)
         self.assertIn("running when its command has ended", outcome.errors)
 
     def test_one_that_goes_on_is_refused_with_what_the_recipe_put_out(self) -> None:
-        self.write({"makefile": "out:\n\techo hello; echo > out; sleep 60 > /dev/null 2>&1 &\n"})
+        self.write({"makefile": "out:\n\techo hello; echo > out; sleep 600 > /dev/null 2>&1 &\n"})
         outcome = self.record()
         self.assertEqual(outcome.status, 1)
         self.assertIn("running when its command has ended", outcome.errors)

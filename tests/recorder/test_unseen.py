@@ -8,13 +8,13 @@ import socket
 import subprocess
 import sys
 import tempfile
-import time
 import unittest
 from pathlib import Path
 
 from mkcheck_tools.judge.sharing import matches
 from mkcheck_tools.run import places
 from recorder.project import Outcome, ProjectTest, compiled, traced
+from waits import wait_for
 
 OLD = (
     "the recipe of NAME gives NAME an old stamp, as cp -p, touch -r and tar do: after a change of"
@@ -673,7 +673,7 @@ class ContentTest(Refusals):
             self.assertEqual(said, warnings, way)
 
     def test_a_stamp_of_the_future(self) -> None:
-        outcome = self.of("b: a\n\tcp a b; touch -d '10 seconds' b\n", {"a": ""})
+        outcome = self.of("b: a\n\tcp a b; touch -d '10 hours' b\n", {"a": ""})
         self.assertEqual(
             outcome.warnings(),
             [
@@ -966,10 +966,14 @@ class ProcessTest(Refusals):
     """Processes that a trace doesn't follow, or that go on."""
 
     def test_a_process_in_the_background(self) -> None:
-        said = self.refused("out:\n\t(sleep 60; echo > late) > /dev/null 2>&1 & echo > out\n")
+        # Tail shows what it reads, and goes on; the command ends as soon as that is there.
+        ready = "until test -s c; do sleep 0.1; done"
+        said = self.refused(
+            f"out: a\n\t(tail -f a; echo > late) > c 2>&1 & {ready}; echo > out\n", {"a": "1\n"}
+        )
         self.assertRegex(
             said,
-            r"^mkcheck-record: the recipe of out leaves /bin/sh, \S+/sleep running when its command"
+            r"^mkcheck-record: the recipe of out leaves /bin/sh, \S+/tail running when its command"
             r" has ended:"
             " make doesn't wait for that, so nothing tells when its files are whole; let the"
             " command"
@@ -980,7 +984,7 @@ class ProcessTest(Refusals):
     def test_a_process_of_its_own_session(self) -> None:
         mark = str(self.scratch / "mark")
         said = self.refused(
-            f"out:\n\tsetsid sh -c 'sleep 60; echo > {mark}' > /dev/null 2>&1 & echo > out\n"
+            f"out:\n\tsetsid sh -c 'sleep 600; echo > {mark}' > /dev/null 2>&1 & echo > out\n"
         )
         self.assertRegex(said, r"leaves \S+/.* running when its command has ended")
         self.assertEqual(left_with(mark), [])
@@ -1451,11 +1455,10 @@ class ReplayedTest(Refusals):
 
 
 def left_with(text: str) -> list[str]:
-    """The command lines of processes that hold a text, after a moment for killed ones to end."""
-    until = time.monotonic() + 2
-    while (found := processes_with(text)) and time.monotonic() < until:
-        time.sleep(0.02)
-    return found
+    """The command lines of processes that hold a text, after some time for killed ones to end. It
+    is far less than what they would sleep."""
+    wait_for(lambda: not processes_with(text), 120)
+    return processes_with(text)
 
 
 def processes_with(text: str) -> list[str]:
