@@ -18,6 +18,7 @@ from mkcheck_tools.trace.calls import (
     SIGNALS,
     TRACED,
     Trace,
+    WAITS,
     path_of,
     read_calls,
     text_of,
@@ -175,7 +176,7 @@ class CallsTest(unittest.TestCase):
 
 
 # Calls that the trace itself takes.
-OTHERS = (*FORKS, *SIGNALS)
+OTHERS = (*FORKS, *SIGNALS, *WAITS)
 
 
 class RepeatedLooksTest(unittest.TestCase):

@@ -40,6 +40,11 @@ def json_text(judgement: Judgement) -> str:
             {"kind": note.kind.word, "target": note.target, "sentence": note.text}
             for note in audited.doubts
         ],
+        "hints": [
+            {"kind": note.kind.word, "target": note.target, "sentence": note.text}
+            for note in audited.hints
+        ],
+        "remarks": list(audited.remarks),
         "unused": [
             {"kind": one.kind, "target": one.target, "file": one.file, "origin": one.origin}
             for one in judgement.unused

@@ -36,6 +36,7 @@ from mkcheck_tools.audit.recording import audit_of_makefile
 from mkcheck_tools.audit.recording import judged as judged_makefile
 from mkcheck_tools.audit.settings import NAME, Settings, settings_in
 from mkcheck_tools.audit.texts import Paint, headline, is_in_ci
+from mkcheck_tools.audit.unreached import unreached
 from mkcheck_tools.audit.verdicts import Audited, number_of
 from mkcheck_tools.audit.writing import patch, write_all
 from mkcheck_tools.faults import Fault
@@ -237,8 +238,10 @@ def audited_by(asked: Asked, reader: Reader) -> Audited:
         audited = audit_of_makefile(asked, reader)
     else:
         audited = audit_of_build(asked, reader)
-    presumed = (one.sentence for one in environments_in(asked.root))
-    return replace(audited, remarks=(*audited.remarks, *presumed))
+    presumed = [one.sentence for one in environments_in(asked.root)]
+    left_out = "" if audited.refused else unreached(asked.wanted_by(reader), reader)
+    more = [*presumed, left_out] if left_out else presumed
+    return replace(audited, remarks=(*audited.remarks, *more))
 
 
 def audited_before(asked: Asked, reader: Reader) -> Audited:

@@ -11,10 +11,11 @@ from typing import TextIO
 from mkcheck_tools.audit.judgements import Judgement
 from mkcheck_tools.audit.makefile_lines import mark_of
 from mkcheck_tools.audit.verdicts import Audited, Finding, number_accepted, number_of
-from mkcheck_tools.judge.notes import Note
+from mkcheck_tools.judge.notes import Kind, Note
 from mkcheck_tools.report.escaping import counted, shortened, visible
 
 NAMES_AT_MOST = 6
+HALF_CURE = "add .DELETE_ON_ERROR: for GNU make, or write to another name and end with mv"
 # What is said of entries on accepted findings that fit none, where all was judged, and else.
 GONE = "found no more, so remove these entries"
 UNSEEN = "not found now, which may be since not all is judged yet"
@@ -58,7 +59,7 @@ class Writer:
         unused = self.judgement.unused
         entries = (f"{entry.origin}: {entry.text} ({entry.reason})" for entry in unused)
         self.listed(f"Accepted, and {UNSEEN if audited.hides else GONE}:", entries)
-        self.listed("To know:", audited.remarks)
+        self.listed("To know:", [*hints(audited.hints), *audited.remarks])
         self.lines.append(self.paint(visible(headline(audited)), BOLD, colour_of(audited)))
         self.lines += [self.judgement.next_step] if self.judgement.next_step else []
         return "".join(f"{line}\n" for line in self.lines)
@@ -132,6 +133,20 @@ def grouped(notes: Iterable[Note]) -> list[str]:
             continue
         names = list(dict.fromkeys(note.target for note in those if note.target))
         lines.append(f"{those[0].kind.about} ({listing(names, len(those))})")
+    return lines
+
+
+def hints(notes: Iterable[Note]) -> list[str]:
+    """Notes by which no answer is wrong, as a line for each kind."""
+    notes = [note for note in notes if note.kind is not Kind.ALIKE]
+    lines = grouped(note for note in notes if note.kind is not Kind.HALF_WRITTEN)
+    names = list(dict.fromkeys(note.target for note in notes if note.kind is Kind.HALF_WRITTEN))
+    if names:
+        leave = "1 recipe leaves" if len(names) == 1 else f"{len(names):,} recipes leave"
+        lines.append(
+            f"where a write fails, {leave} a part of a target ({listing(names, len(names))}), which"
+            f" the next make takes for done: {HALF_CURE}"
+        )
     return lines
 
 

@@ -194,6 +194,11 @@ class Audited:
         return [note for note in self.notes if note.is_doubt]
 
     @property
+    def hints(self) -> list[Note]:
+        """The other notes."""
+        return [note for note in self.notes if not note.is_doubt]
+
+    @property
     def hides(self) -> bool:
         """Whether there may be races and stale reads that aren't seen yet."""
         kinds = {finding.kind for finding in self.findings}

@@ -84,6 +84,7 @@ class Kind(Enum):
     UNREACHED = ("unreached", HINT, "the goals reach no recipe")
     UNREPLAYED = ("unreplayed", DOUBT, "no recipe was run again")
     UNTESTED = ("untested", DOUBT, "a recipe wasn't run beside files that are made later")
+    UNWAITED = ("unwaited", DOUBT, "a recipe doesn't wait for a process that writes its files")
     VARIABLES = ("variables", DOUBT, "a recipe goes by the user's name, language or time zone")
     VPATH = ("vpath", DOUBT, "GNU make takes a file of another folder by VPATH")
     WAIT = ("wait", DOUBT, "the make that is there doesn't know `.WAIT`")

@@ -82,6 +82,7 @@ def unsteady(recipe: Recipe, accesses: Accesses) -> Iterator[Note]:
             " write a file of its own, and join these in a fixed order"
         )
         yield Note(target, Kind.BESIDE, text)
+    yield from of_unwaited(recipe, accesses)
     yield from of_machine(recipe, accesses)
     asked = words_of_bash(recipe, CLOCK)
     if asked:
@@ -97,6 +98,21 @@ def unsteady(recipe: Recipe, accesses: Accesses) -> Iterator[Note]:
             " which two runs needn't show; let it begin with a fixed seed"
         )
         yield Note(target, Kind.RANDOM, text)
+
+
+def of_unwaited(recipe: Recipe, accesses: Accesses) -> Iterator[Note]:
+    """A note on a recipe for whose processes nobody waits, though they write files that stay, or
+    take away some."""
+    root = accesses.tree.root
+    lasting = {*accesses.writes, *accesses.lost}
+    names = [path[len(root) + 1 :] for path in accesses.unwaited if path in lasting]
+    if names:
+        text = (
+            f"the recipe of {recipe.target} doesn't wait for the process that writes"
+            f" {listed(names)}: it ended in time here, and may still write in another make when"
+            " the recipe has ended; let the shell wait for it (`wait`), or start it without `&`"
+        )
+        yield Note(recipe.target, Kind.UNWAITED, text)
 
 
 def of_machine(recipe: Recipe, accesses: Accesses) -> Iterator[Note]:

@@ -413,7 +413,9 @@ def run(
         watch = Watch(links, looking=True, writes=is_side_by_side(command.text))
         done = tracer.run(command.words, watch, own)
         output += done.output
-        Follower(accesses, shop.place.seen, ended=done.ended).follow(done.calls)
+        follower = Follower(accesses, shop.place.seen, ended=done.ended)
+        follower.minded, follower.text = done.minded, command.text
+        follower.follow(done.calls)
         with showing("" if accesses.makes else output):
             refuse_unseen(recipe, accesses, done.left, shop)
             refuse_forbidden(recipe, accesses, naming)

@@ -8,15 +8,17 @@ from collections.abc import Iterable, Mapping
 from dataclasses import dataclass, field
 
 from mkcheck_tools.run import stopping
-from mkcheck_tools.run.paths import SeenPath, seen_in
+from mkcheck_tools.run.paths import RealPath, SeenPath, seen_in
 from mkcheck_tools.trace.calls import (
     CONNECTIONS,
     FORKS,
+    LINKINGS,
     LOOKS,
     LOOKS_IN_VAIN,
     NOT_EMPTY,
     NOTHING_THERE,
     OF_LINKS,
+    OPENS,
     READ_ONLY,
     REMOVALS,
     SAME,
@@ -29,8 +31,11 @@ from mkcheck_tools.trace.calls import (
 from mkcheck_tools.trace.makes import is_make, is_part, is_system
 from mkcheck_tools.trace.programs import interpreters_of
 from mkcheck_tools.trace.trees import ROOT, Owner, Tree, moved_to
+from mkcheck_tools.trace.waiting import Waiting
 
 INTERPRETERS_AT_MOST = 4
+# How large a text may be that is looked through for a word.
+SCRIPT_AT_MOST = 1 << 20
 # Programs in which what they read decides nothing of what they do where a write fails.
 ASSEMBLERS = re.compile(r"(?:.+-)?as")
 EXCHANGE = "RENAME_EXCHANGE"
@@ -157,6 +162,9 @@ class Accesses:
 
     beside: dict[SeenPath, None] = field(default_factory=dict)
     """Files that two processes opened to write them of which neither waited for the other's end."""
+
+    unwaited: dict[SeenPath, str] = field(default_factory=dict)
+    """Files that a process wrote for whose end nobody waited, each with its program."""
 
     asking: dict[SeenPath, set[int]] = field(default_factory=dict)
     """By the path of a file of the project the processes that opened it or looked at it, but for
@@ -376,10 +384,23 @@ class Follower:
     opening: dict[SeenPath, dict[int, int]] = field(default_factory=dict)
     """The processes that opened a file to write it, each with its last call that did so."""
 
+    changing: dict[int, dict[SeenPath, None]] = field(default_factory=dict)
+    """By a process the files of the project that it made, changed or took away."""
+
+    minded: frozenset[int] = frozenset()
+    """Processes to which another one sent a signal, or of which it asked whether they are there."""
+
+    text: str = ""
+    """The words of the command."""
+
+    def __post_init__(self) -> None:
+        self.waiting = Waiting(self.leaders, self.running)
+
     def follow(self, calls: Iterable[Call]) -> None:
         """Takes the calls, in their order."""
         for call in calls:
             stopping.go_on()
+            self.waiting.take(call)
             if call.name in FORKS:
                 self.fork(call)
                 continue
@@ -398,8 +419,11 @@ class Follower:
             taken = getattr(self, f"on_{SAME.get(call.name, call.name)}", None)
             if taken is not None:
                 taken(call)
+            if call.name in WRITINGS and call.name not in OPENS:
+                self.change(self.written_by(call), call)
         self.note_assembled()
         self.note_beside()
+        self.note_unwaited()
         for process, maker in self.makers.items():
             read = self.makefiles.get(process, ())
             works = bool(read) or process in self.starters
@@ -427,6 +451,26 @@ class Follower:
             is_own = path in self.accesses.touched and path not in self.accesses.locked
             if is_own and any(self.are_beside(*pair) for pair in pairs):
                 self.accesses.beside.setdefault(path)
+
+    def note_unwaited(self) -> None:
+        """Notes the files that processes wrote for whose end nobody waited, but for those that were
+        killed. A process that went on when the command had ended is known otherwise."""
+        for process, paths in self.changing.items() if self.ended else ():
+            line = self.line_of(process)
+            if not self.minded.isdisjoint(line[:-1]) or all(map(self.is_waited_for, line[:-1])):
+                continue
+            program = os.path.basename(self.running.get(process, ROOT))
+            for path in paths:
+                self.accesses.unwaited.setdefault(path, program)
+
+    def is_waited_for(self, process: int) -> bool:
+        """Whether the process that started another one waits for its end."""
+        above = self.line_of(process)[1:]
+        if self.ended.get(process, 0) > self.ended.get(above[0], 0):
+            return False
+        scripts = (path for one in above for path in self.own_reads.get(one, ()))
+        texts = (text_at(self.accesses.tree.place.real(path)) for path in scripts)
+        return self.waiting.is_waited_for(process, self.text, texts)
 
     def are_beside(self, one: tuple[int, int], other: tuple[int, int]) -> bool:
         """Whether two processes wrote side by side. Of those that started them and have a parent in
@@ -470,6 +514,13 @@ class Follower:
         """A process opens a file to write it, writes to it, or gives another one its name."""
         leader = self.leaders.get(call.process, call.process)
         self.opening.setdefault(path, {})[leader] = call.order
+        self.change(path, call)
+
+    def change(self, path: SeenPath | None, call: Call) -> None:
+        """A process makes, changes or takes away a file."""
+        if path is not None and self.accesses.tree.has(path):
+            leader = self.leaders.get(call.process, call.process)
+            self.changing.setdefault(leader, {}).setdefault(path)
 
     def written(self, call: Call) -> None:
         """A process writes to what it has open, which another one may have opened."""
@@ -509,18 +560,21 @@ class Follower:
         elif path not in self.accesses.tree.there and not is_folder:
             self.accesses.missed.setdefault(path)
 
+    def written_by(self, call: Call) -> SeenPath | None:
+        """The real path at which a call writes."""
+        folder, name = WRITINGS[call.name]
+        if name is None or not text_of(call.arguments[name]):
+            return self.descriptor(call.arguments[folder or 0])
+        path = self.accesses.tree.own(self.path(call, name, folder))[0]
+        is_itself = call.name in (*REMOVALS, *LINKINGS)
+        return path if is_itself else self.accesses.tree.follow(path)[0]
+
     def forbidden(self, call: Call) -> None:
         """A call that would write to what is read-only here.
 
         It counts where the user could do that outside of the recording.
         """
-        folder, name = WRITINGS[call.name]
-        if name is None or not text_of(call.arguments[name]):
-            path = self.descriptor(call.arguments[folder or 0])
-        else:
-            path = self.accesses.tree.own(self.path(call, name, folder))[0]
-            if call.name not in REMOVALS:
-                path = self.accesses.tree.follow(path)[0]
+        path = self.written_by(call)
         if path is None or self.accesses.tree.has(path):
             return
         real = self.accesses.tree.place.real(path)
@@ -973,6 +1027,17 @@ class Follower:
 
     def on_keyctl(self, _: Call) -> None:
         self.accesses.channels.setdefault("keys that the kernel keeps")
+
+
+def text_at(path: RealPath) -> str:
+    """The text of a script; empty where it can't be read, or is too long for one."""
+    try:
+        if os.path.getsize(path) > SCRIPT_AT_MOST:
+            return ""
+        with open(path, encoding="utf-8", errors="surrogateescape") as file:
+            return file.read()
+    except OSError:
+        return ""
 
 
 def is_blind(flags: str) -> bool:

@@ -14,6 +14,8 @@ from mkcheck_tools.run.paths import SeenPath
 # and what is needed to follow relative paths. strace passes over those that a machine doesn't have.
 FORKS = ("clone", "clone3", "fork", "vfork")
 OF_LINKS = ("readlink", "readlinkat")
+# Calls by which a process learns of the end of another one.
+WAITS = ("wait4", "waitid", "waitpid")
 # Calls by which another machine or a server is asked, or told something. Those that fail are kept,
 # unless no such file is there: a connection may still be in progress.
 CONNECTIONS = ("connect", "sendto", "sendmsg", "sendmmsg")
@@ -60,6 +62,7 @@ TRACED = (
     ),
     *CHANNELS,
     *FORKS,
+    *WAITS,
 )
 # What only opens. Programs repeat such calls, and looks, hundreds of times.
 OPENS = ("open", "openat", "openat2")
@@ -117,11 +120,14 @@ NAMES_IN_VAIN = 3
 # Calls that take a name away. Where nothing stands there, or a folder that isn't empty, they fail,
 # and yet another time they might not: these failures are kept.
 REMOVALS = ("unlink", "unlinkat", "rmdir", "rename", "renameat", "renameat2")
+# Calls that give something a name, and fail where that is there.
+LINKINGS = ("link", "linkat", "symlink", "symlinkat")
 NOTHING_THERE = "ENOENT"
 NOT_EMPTY = ("ENOTEMPTY", "EEXIST")
 # Calls that send a signal, and what isn't meant to end a process.
 SIGNALS = ("kill", "tkill", "tgkill")
-HARMLESS = ("0", "SIGCONT", "SIGCHLD", "SIGWINCH", "SIGURG")
+ASKING = "0"
+HARMLESS = (ASKING, "SIGCONT", "SIGCHLD", "SIGWINCH", "SIGURG")
 # Calls that do what another one does, with the same arguments up to the last ones.
 SAME = {
     "openat2": "openat",
@@ -209,10 +215,11 @@ class Trace:
     """What the lines of a trace tell, which are fed in their order.
 
     `alive` has each process that was seen and hasn't ended, `ended` for each that has the line that
-    said so, `programs` the program that a process started last, or its parent did before, and
-    `signalled` each process to which another one sent a signal that ends it by default. A line that
-    strace wouldn't write is a fault, since it was cut. `looking` keeps calls that look in vain,
-    too; removals in vain and writings to what is read-only are always kept.
+    said so, `programs` the program that a process started last, or its parent did before,
+    `signalled` each process to which another one sent a signal that ends it by default, and `asked`
+    each one of which another one asked by a signal whether it is there. A line that strace wouldn't
+    write is a fault, since it was cut. `looking` keeps calls that look in vain, too; removals in
+    vain and writings to what is read-only are always kept.
 
     `repeated` has the looks since the last call that may change what a look finds, or where: such a
     line tells nothing when it comes again.
@@ -225,6 +232,7 @@ class Trace:
     ended: dict[int, int] = field(default_factory=dict)
     found: list[Call] = field(default_factory=list)
     signalled: set[int] = field(default_factory=set)
+    asked: set[int] = field(default_factory=set)
     pending: dict[int, tuple[int, str]] = field(default_factory=dict)
     lines: int = 0
     repeated: set[str] = field(default_factory=set)
@@ -328,9 +336,14 @@ class Trace:
         """A process sends a signal to another one, or to a group, which may have any."""
         sent = call.arguments[2 if call.name == "tgkill" else 1]
         goal = NUMBER.match(call.arguments[0])
-        if goal is not None and sent not in HARMLESS:
-            number = int(goal.group())
-            self.signalled |= {number} if number > 0 else self.alive - {call.process}
+        if goal is None:
+            return
+        number = int(goal.group())
+        goals = {number} if number > 0 else self.alive - {call.process}
+        if sent not in HARMLESS:
+            self.signalled |= goals
+        elif sent == ASKING:
+            self.asked |= goals
 
     def calls(self) -> list[Call]:
         """The calls that were kept, in order."""
@@ -350,8 +363,10 @@ def is_look(text: str) -> bool:
 
 
 def changes_nothing(text: str) -> bool:
-    """Whether a call opens a file and neither makes nor changes one."""
+    """Whether a call waits for a process, or opens a file and neither makes nor changes one."""
     name, _, rest = text.partition("(")
+    if name in WAITS:
+        return True
     return name in OPENS and not any(flag in rest for flag in WRITING)
 
 

@@ -84,6 +84,9 @@ class Done:
     ended: Mapping[int, int] = field(default_factory=dict)
     """For each process its end, among the orders of the calls."""
 
+    minded: frozenset[int] = frozenset()
+    """Processes to which another one sent a signal, or of which it asked whether they are there."""
+
 
 @dataclass(frozen=True)
 class Watch:
@@ -324,7 +327,8 @@ def ended(listener: Listener, output: str, status: int) -> Done:
     names = dict.fromkeys(
         trace.programs.get(process, "a process") for process in sorted(listener.left)
     )
-    return Done(trace.calls(), output, status, tuple(names), trace.ended)
+    minded = frozenset(trace.signalled | trace.asked)
+    return Done(trace.calls(), output, status, tuple(names), trace.ended, minded)
 
 
 def read_trace(path: Path, looking: bool = False) -> list[Call]:
