@@ -444,6 +444,19 @@ class JobsTest(MakeFolderTest):
                 top = f"all:\n\t$(MAKE) {option} -C sub\n"
                 self.assertEqual(self.judged(top, self.RULES), ["stale"])
 
+    def test_makes_of_one_makefile_with_one_job_and_with_several(self) -> None:
+        """What the first make has done the second one finds done."""
+        self.write({"sub/more.in": ""})
+        sub = f"{self.RULES}more: more.in\n\tcp more.in more\n"
+        one, several = "\t$(MAKE) -j1 -C sub {}\n", "\t$(MAKE) -j4 -C sub {}\n"
+        for lines, found in (
+            (one.format("all") + several.format("more"), ["stale"]),
+            (one.format("more") + several.format("all"), ["race", "stale"]),
+            (several.format("all") + one.format("more"), ["race", "stale"]),
+        ):
+            with self.subTest(lines):
+                self.assertEqual(self.judged(f"all:\n{lines}", sub), found)
+
     def test_one_job_holds_below(self) -> None:
         top = "all:\n\t$(MAKE) -j1 -C sub\n"
         self.assertEqual(self.judged(top, "all:\n\t$(MAKE) -C deep\n"), ["stale"])
