@@ -5,7 +5,7 @@ from __future__ import annotations
 import unittest
 
 from importer.make_folder import MakeFolderTest, can_judge
-from mkcheck_tools.imports.database import Database, Rule
+from mkcheck_tools.imports.database import Database, OwnMacro, Rule
 from mkcheck_tools.imports.expanded import names_in
 
 
@@ -28,6 +28,15 @@ class NameTest(unittest.TestCase):
         }.items():
             with self.subTest(recipe):
                 self.assertEqual(names_in(Rule("d/t", recipe=[recipe]), base), names)
+
+    def test_macros_of_the_target(self) -> None:
+        base = Database({"R": "other"}, {})
+        for text, names in (("$@.rsp", ["d/t.rsp"]), (None, [])):
+            for recipe in ("$(file >$R,$^)", "$(file >${R},$^)"):
+                with self.subTest(f"{recipe} {text}"):
+                    macros = [OwnMacro("R", "Makefile", 1, text=text)]
+                    rule = Rule("d/t", recipe=[recipe], macros=macros)
+                    self.assertEqual(names_in(rule, base), names)
 
 
 @can_judge
@@ -57,6 +66,40 @@ class FileTest(MakeFolderTest):
         for name in ("out", "out2", "out3"):
             text = answer.records[name].commands[0]
             self.assertEqual("printf" in text, name != "out")
+
+    def test_file_to_which_make_adds(self) -> None:
+        """A list that make begins anew and to which it adds a line for each prerequisite."""
+        lines = "$(file >$@.rsp)\n\t$(foreach one,$^,$(file >>$@.rsp,$(one)))\n"
+        self.write({"Makefile": f"out: a b\n\t{lines}\tcat `cat $@.rsp` > $@\n"})
+        self.write({"a": "a\n", "b": "b\n"})
+        answer = self.imported(replay=True)
+        self.assertEqual(answer.status, 0, answer.output + answer.errors)
+        self.assertIn("printf 'a\\nb\\n' > out.rsp", answer.rules())
+        built = self.built()
+        self.assertEqual((built / "out.rsp").read_text(), "a\nb\n")
+        self.assertEqual((built / "out").read_text(), "a\nb\n")
+        self.assertTrue(self.rebuilds(built, ["b"], ["out"]))
+
+    def test_file_that_only_grows(self) -> None:
+        """What an earlier build left stays in it."""
+        lines = "$(file >>$@.rsp,$^)cat $@.rsp > $@"
+        self.write({"Makefile": f"out: a\n\t{lines}\n", "a": "a\n"})
+        answer = self.imported()
+        self.assertNotEqual(answer.status, 0, answer.output + answer.errors)
+        self.assertIn("make reads out.rsp beside its makefiles", answer.output)
+
+    def test_name_by_a_macro_of_the_target(self) -> None:
+        self.write(
+            {
+                "Makefile": "all: out out2\nout: R = o1.rsp\nout2: R := o2.rsp\nout out2: a\n"
+                "\t$(file >$R,$^)\n\tcat `cat $R` > $@\n",
+                "a": "a\n",
+            }
+        )
+        answer = self.imported(replay=True)
+        self.assertEqual(answer.status, 0, answer.output + answer.errors)
+        for name in ("o1", "o2"):
+            self.assertIn(f"printf 'a\\n' > {name}.rsp", answer.rules())
 
     def test_a_race(self) -> None:
         """Who reads such a file has to wait for the recipe."""

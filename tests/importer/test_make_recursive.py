@@ -429,7 +429,9 @@ class JobsTest(MakeFolderTest):
     def judged(self, top: str, sub: str) -> list[str]:
         """The races and stale reads of makefiles in the folders that are above `deep`."""
         deep = "sub" if self.RULES in sub else "sub/deep"
-        self.write({f"{deep}/Makefile": self.RULES, f"{deep}/in": "in\n", f"{deep}/out.in": ""})
+        self.write({f"{deep}/in": "in\n", f"{deep}/out.in": ""})
+        if not (self.folder / deep / "Makefile").exists():
+            self.write({f"{deep}/Makefile": self.RULES})
         self.write({"Makefile": top, "sub/Makefile": sub})
         answer = self.imported()
         self.assertEqual(answer.status, 1, answer.output + answer.errors)
@@ -443,9 +445,48 @@ class JobsTest(MakeFolderTest):
                 top = f"all:\n\t$(MAKE) {option} -C sub\n"
                 self.assertEqual(self.judged(top, self.RULES), ["stale"])
 
+    def test_makes_of_one_makefile_with_one_job_and_with_several(self) -> None:
+        """What the first make has done the second one finds done."""
+        self.write({"sub/more.in": ""})
+        sub = f"{self.RULES}more: more.in\n\tcp more.in more\n"
+        one, several = "\t$(MAKE) -j1 -C sub {}\n", "\t$(MAKE) -j4 -C sub {}\n"
+        for lines, found in (
+            (one.format("all") + several.format("more"), ["stale"]),
+            (one.format("more") + several.format("all"), ["race", "stale"]),
+            (several.format("all") + one.format("more"), ["race", "stale"]),
+        ):
+            with self.subTest(lines):
+                self.assertEqual(self.judged(f"all:\n{lines}", sub), found)
+
     def test_one_job_holds_below(self) -> None:
         top = "all:\n\t$(MAKE) -j1 -C sub\n"
         self.assertEqual(self.judged(top, "all:\n\t$(MAKE) -C deep\n"), ["stale"])
+
+    def test_one_job_that_the_makefile_below_asks_for(self) -> None:
+        top = "all:\n\t$(MAKE) -C sub\n"
+        for line in ("MAKEFLAGS += -j1", "MAKEFLAGS += --jobs=1", "MAKEFLAGS = kj1"):
+            with self.subTest(line):
+                self.assertEqual(self.judged(top, f"{line}\n{self.RULES}"), ["stale"])
+
+    def test_one_job_that_a_condition_of_the_makefile_asks_for(self) -> None:
+        """The goals and the macros that the make is given decide."""
+        front = "ifeq ($(MAKECMDGOALS) $v,all 1)\nMAKEFLAGS += -j1\nendif\n"
+        for words, found in (("all v=1", ["stale"]), ("all v=2", ["race", "stale"])):
+            with self.subTest(words):
+                top = f"all:\n\t$(MAKE) -C sub {words}\n"
+                self.assertEqual(self.judged(top, front + self.RULES), found)
+
+    def test_words_come_before_what_the_makefile_asks_for(self) -> None:
+        top = "all:\n\t$(MAKE) -j4 -C sub\n"
+        found = self.judged(top, f"MAKEFLAGS += -j1\n{self.RULES}")
+        self.assertEqual(found, ["race", "stale"])
+
+    def test_several_jobs_that_the_makefile_below_one_job_asks_for(self) -> None:
+        top = "all:\n\t$(MAKE) -j1 -C sub\n"
+        self.write({"sub/deep/more.mk": "MAKEFLAGS += -j4\n"})
+        sub = "all:\n\t$(MAKE) -C deep\n"
+        self.write({"sub/deep/Makefile": f"include more.mk\n{self.RULES}"})
+        self.assertEqual(self.judged(top, sub), ["race", "stale"])
 
     def test_several_jobs_below_one_job(self) -> None:
         """The build by which the importer learns has one job, and so doesn't fail."""

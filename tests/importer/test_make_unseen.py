@@ -608,6 +608,22 @@ class ReadingTest(UnseenTestCase):
             " it by $(MAKE)"
         )
 
+    def test_make_by_its_name_in_a_folder(self) -> None:
+        for option in ("-C sub", "-Csub", "-kC sub", "--directory=sub", "--directory sub"):
+            with self.subTest(option):
+                self.version()
+                for name in ("Makefile", "a", "version"):
+                    text = (self.folder / name).read_text()
+                    self.write({f"sub/{name}": text})
+                self.write({"Makefile": f"all:\n\tmake {option}\n.PHONY: all\n"})
+                left = self.left({"sub/version": "2.0\n"}, "sub/x")
+                self.assertEqual(left, ["1.0\na\n", "2.0\na\n"])
+                self.refused(
+                    "    the make in sub reads sub/version beside its makefiles, and whether its"
+                    " commands depend on it can't be asked, since a recipe starts it by its name:"
+                    " start it by $(MAKE)"
+                )
+
     def test_make_by_its_name_that_reads_nothing(self) -> None:
         self.by_name()
         makefile = self.folder / "sub.mk"

@@ -11,7 +11,13 @@ from collections.abc import Callable
 from dataclasses import dataclass, field, replace
 
 from mkcheck_tools.imports.evaluated import Evaluated, evaluated_in
-from mkcheck_tools.imports.gnumake import Make, Start, option_words, own_environment
+from mkcheck_tools.imports.gnumake import (
+    Make,
+    Start,
+    option_words,
+    own_environment,
+    without_folder,
+)
 from mkcheck_tools.imports.inherited import Inherited, inherited_in
 from mkcheck_tools.imports.questions import TOO_LONG, Questions
 from mkcheck_tools.imports.rereading import changed, difference, place_of
@@ -113,7 +119,7 @@ class Asking:
     def asked_again(self, make: Make, more: list[str]) -> Make:
         """The same make, asked for other goals, or with more options."""
         words = [*make.words, *(word for word in self.start.words if "=" in word)]
-        options = [option for option in option_words(words) if not is_of_folder(option[0])]
+        options = option_words(without_folder(words))
         words = [word for option in options for word in option]
         own = own_environment(make.environment)
         start = replace(self.start, folder=make.folder, words=(*words, *more), more=own)
@@ -181,8 +187,3 @@ def free_of(found: list[Inherited]) -> list[str]:
 def owners_of(found: list[Inherited]) -> list[str]:
     """The targets whose macros files may get."""
     return list(dict.fromkeys(name for one in found for name in one.owners))
-
-
-def is_of_folder(option: str) -> bool:
-    """Whether an option of make names the folder in which it works."""
-    return option.startswith(("-C", "--directory"))

@@ -25,6 +25,7 @@ WORD = re.compile(r"[\w.+-]+")
 COMPUTED_NAME = r"\$[({][^(){}\s,]*\$"
 NOTHING = re.compile(r"[\s@+-]*(?::|true)?\s*")
 DEFINED = re.compile(r"(?ms)^define (\S+)[^\n]*\n(.*?)^endef$")
+ADDED = re.compile(r"(?:private )?\S+ \+=")
 TARGET_MACRO = re.compile(rf"(?:private )?{SET} ?(.*)")
 
 
@@ -55,6 +56,9 @@ class OwnMacro:
     """Whether what the target needs doesn't get it."""
 
     pattern: str = ""
+
+    text: str | None = None
+    """What it is set to; None where something is added to another value."""
 
 
 @dataclass
@@ -171,7 +175,8 @@ def read_entry(base: Database, entry: list[str]) -> None:
             if macro is not None:
                 is_private = line.partition("(from ")[0].rstrip().endswith(" private")
                 where = place.group(1), int(place.group(2))
-                rule.macros.append(OwnMacro(macro.group(1), *where, is_private))
+                text = None if ADDED.match(macro.group()) else macro.group(2)
+                rule.macros.append(OwnMacro(macro.group(1), *where, is_private, text=text))
         elif place := RECIPE.fullmatch(line):
             rule.recipe = joined_lines(entry[number + 1 :])
             rule.makefile = place.group(1) or ""

@@ -18,7 +18,7 @@ from mkcheck_tools.imports.gnumake import Make, content
 # The function with its name up to the comma, and a word that may be the name of a macro.
 FILE = re.compile(r"\$[({]file\s*>>?\s*((?:\$[({][^(){}]*[)}]|[^,(){}])*?)\s*[,)}]")
 WORD = re.compile(r"[\w.+-]+")
-MACRO = re.compile(r"\$(?:[({]([^(){}$\s:]+)[)}]|([@<]))")
+MACRO = re.compile(r"\$(?:[({]([^(){}$\s:]+)[)}]|([@<\w]))")
 DEEPEST = 20
 LONGEST = 1 << 14
 
@@ -90,6 +90,9 @@ def expand(text: str, rule: Rule, values: Mapping[str, str]) -> str:
     """A name without macros, as far as these are plain."""
     own = {"@": rule.name, "@D": os.path.dirname(rule.name) or ".", "<": (rule.needs or [""])[0]}
     own["@F"] = os.path.basename(rule.name)
+    for macro in rule.macros:
+        # Without a text the reference stays, and so the name isn't known.
+        own[macro.name] = f"$({macro.name})" if macro.text is None else macro.text
     for _ in range(DEEPEST):
         new = MACRO.sub(lambda found: value_of(found, own, values), text)
         if new == text:

@@ -25,7 +25,9 @@ from pathlib import Path
 
 from mkcheck_tools.faults import Fault
 from mkcheck_tools.imports.database import OWN, Database, Shown, joined
+from mkcheck_tools.imports.jobs import jobs_by_makefiles, jobs_of, may_say_jobs
 from mkcheck_tools.imports.transcripts import BEGINNING, MARK, Transcript, marking, read_transcript
+from mkcheck_tools.run.paths import SeenPath
 from mkcheck_tools.run.places import Place, run
 from mkcheck_tools.trace.tracing import UNCACHED
 
@@ -40,14 +42,14 @@ LONG_WITH_VALUE = (
     "--directory", "--file", "--makefile", "--include-dir", "--old-file", "--assume-old",
     "--what-if", "--new-file", "--assume-new", "--eval",
 )  # fmt: skip
+# An option that names the folder of a make, perhaps behind others without a value.
+FOLDER = re.compile(r"(-[^-CfIoWEl=]*)C(.*)|(--directory)(?:=(.*))?", re.DOTALL)
 # Options that change neither which rules a make knows nor what they do.
 HARMLESS = re.compile(
     r"-C.*|--directory.*|-[bmknpstwS]*(j\s*\d*)?|--(no-)?print-directory|--silent|--quiet"
     r"|--keep-going|--(jobs|output-sync|trace|debug)\S*|-[jlO]\S*|MAKE=.*|IFS=.*",
     re.DOTALL,
 )
-# An option that tells how many jobs a make has, perhaps behind others without a value.
-JOBS = re.compile(r"(?:-[^-CfIoWEl=]*?j|--jobs=?)(\d*)")
 # Options by which a make runs nothing, or takes files for up to date or for new.
 PASSING = re.compile(
     r"-[BbdeikmprRsSvw]*[tqnoW].*|--(touch|question|just-print|dry-run|recon|old-file|assume-old"
@@ -197,6 +199,9 @@ class Make:
     last_errors: str = ""
     """What stands in `errors` behind the output of all but the last command."""
 
+    jobs_by_makefiles: int | None = None
+    """How many jobs its makefiles say that it has, where its words don't."""
+
     call: str = ""
     """What tells its call from those of others, in each question the same."""
 
@@ -226,11 +231,12 @@ class Make:
     @functools.cached_property
     def has_one_job(self) -> bool:
         """Whether it, or else the nearest one above it that was told how many jobs to have, has one
-        alone. The make that is started first is told that by the user, who may say another number.
-        """
+        alone. Words come before what makefiles say. The make that is started first is told that by
+        the user, who may say another number."""
         if self.parent is None:
             return False
         jobs = jobs_of(self.words)
+        jobs = self.jobs_by_makefiles if jobs is None else jobs
         return self.parent.has_one_job if jobs is None else jobs == 1
 
     @functools.cached_property
@@ -269,18 +275,19 @@ def option_words(words: list[str]) -> list[list[str]]:
     return found
 
 
-def jobs_of(words: Sequence[str]) -> int | None:
-    """How many jobs a make has by its words: 0 where these are as many as there can be, and None
-    where no word tells that."""
-    found = None
-    waiting = False
-    for word in words:
-        if waiting and word.isdigit():
-            found = int(word)
-        match = JOBS.fullmatch(word)
-        waiting = match is not None and not match.group(1)
+def without_folder(words: Sequence[str]) -> list[str]:
+    """The words of a make without the options that name its folder: so it is started in there."""
+    found: list[str] = []
+    is_name = False
+    for at, word in enumerate(words):
+        if word == "--":
+            return [*found, *words[at:]]
+        match = None if is_name else FOLDER.fullmatch(word)
         if match is not None:
-            found = int(match.group(1) or 0)
+            found += [match.group(1)] if len(match.group(1) or "") > 1 else []
+        elif not is_name:
+            found.append(word)
+        is_name = match is not None and not (match.group(2) or match.group(4))
     return found
 
 
@@ -368,7 +375,22 @@ def run_make(start: Start, place: Place, scratch: str, asked: Question) -> list[
         for number, left_out in enumerate(words_of_first, 1)
     ]
     attach(makes, scratch)
+    for make in makes[1:]:
+        make.jobs_by_makefiles = jobs_said(make, start.program, place)
     return makes
+
+
+def jobs_said(make: Make, program: str, place: Place) -> int | None:
+    """How many jobs the makefiles of a make say that it has; None where its words say that, or
+    nothing does."""
+    paths = [place.real(SeenPath(os.path.join(make.folder, name))) for name in make.makefiles]
+    if jobs_of(make.words) is not None or not may_say_jobs(paths):
+        return None
+    words = without_folder(make.words)
+    options = [word for option in option_words(words) for word in option]
+    command = Start(program, make.folder, tuple(options)).command()
+    goals = make.base.values.get("MAKECMDGOALS", "")
+    return jobs_by_makefiles(command, goals, place, make.environment)
 
 
 def wrapper_in(scratch: str) -> str:

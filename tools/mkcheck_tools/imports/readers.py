@@ -35,11 +35,15 @@ class ByCommand(Accesses):
     is_recipe: bool = False
     """Whether the present call is one of a recipe, whose reads aren't those of a make."""
 
+    is_appended: bool = False
+    """Whether a make itself opens a file to add to it, as by `$(file >>NAME,..)`."""
+
     readers: dict[str, dict[Started | None, None]] = field(default_factory=dict)
 
     def read(self, path: SeenPath) -> None:
-        """A read by the present command."""
-        if self.is_recipe:
+        """A read by the present command. A make that adds to a file which was written from nothing
+        before in that trace reads nothing."""
+        if self.is_recipe or (self.is_appended and self.wrote(path)):
             return
         super().read(path)
         self.readers.setdefault(path, {}).setdefault(self.current)
@@ -127,6 +131,13 @@ class Reader(Follower):
             self.recipes.discard(call.process)
         if call.process in self.makers and call.process in self.commands:
             self.starting.add(self.commands.pop(call.process))
+
+    def opened(self, call: Call, name: SeenPath, flags: str) -> None:
+        """A file is opened."""
+        is_added_to = "O_APPEND" in flags and "O_WRONLY" in flags
+        self.accesses.is_appended = is_added_to and call.process in self.makers
+        super().opened(call, name, flags)
+        self.accesses.is_appended = False
 
     def looked_into(self, link: SeenPath) -> None:
         """The text of a link is read."""

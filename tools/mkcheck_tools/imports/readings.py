@@ -16,7 +16,7 @@ from mkcheck_tools.imports.commits import CURE, HEAD, SAYS
 from mkcheck_tools.imports.copies import Copies
 from mkcheck_tools.imports.database import Rule
 from mkcheck_tools.imports.environments import Trier, other_values
-from mkcheck_tools.imports.gnumake import Make, Start, own_environment
+from mkcheck_tools.imports.gnumake import Make, Start, own_environment, without_folder
 from mkcheck_tools.imports.inherited import needs_of, reached
 from mkcheck_tools.imports.questions import TOO_LONG, Questions
 from mkcheck_tools.imports.readers import ByCommand, Reader, Started
@@ -288,10 +288,9 @@ class Readings:
         start. In this place all that they make is out of date; `words` are macros for them."""
         for make in makes:
             own = own_environment(make.environment)
+            start = Start(program, make.folder, (*without_folder(make.words), *words), own)
             try:
-                names = self.read_in(
-                    place, Start(program, make.folder, (*make.words, *words), own)
-                )
+                names = self.read_in(place, start)
             except Fault as fault:
                 self.sentences.append(f"{UNKNOWN}: {fault}")
                 return

@@ -406,7 +406,7 @@ class Translation(Commands):
         for goal in make.goals:
             if any(rule.is_target for rule in view.rules.get(goal, [])):
                 edge = self.edge(view, goal)
-                if view.is_serial and groups[-1]:
+                if (view.is_serial or make.has_one_job) and groups[-1]:
                     groups.append([])
                 groups[-1] += [*edge.normal, *edge.order]
         node.groups += groups

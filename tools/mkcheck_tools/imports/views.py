@@ -30,8 +30,9 @@ class View:
     exported: set[str] = field(default_factory=set)
     """Macros that are exported for some targets alone."""
 
-    has_one_job: bool = False
-    """Whether each of these makes has one job alone (`$(MAKE) -j1`)."""
+    with_one_job: dict[str, bool] = field(default_factory=dict)
+    """For each target whether the first of these makes that came to it has one job alone
+    (`$(MAKE) -j1`). Makes that begin later find it done."""
 
     @functools.cached_property
     def also(self) -> dict[str, list[str]]:
@@ -51,14 +52,15 @@ class View:
 
     @property
     def is_serial(self) -> bool:
-        """Whether it has one job alone, or `.NOTPARALLEL` holds for all of it."""
+        """Whether `.NOTPARALLEL` holds for all of it."""
         rules = self.rules.get(".NOTPARALLEL", [])
-        return self.has_one_job or any(not rule.needs or not self.has_wait for rule in rules)
+        return any(not rule.needs or not self.has_wait for rule in rules)
 
     def is_serial_target(self, name: str) -> bool:
         """Whether the prerequisites of a target are made one after another."""
         rules = self.rules.get(".NOTPARALLEL", [])
-        return self.is_serial or any(name in rule.needs for rule in rules)
+        is_serial = self.is_serial or self.with_one_job.get(name, False)
+        return is_serial or any(name in rule.needs for rule in rules)
 
 
 @dataclass(frozen=True)
@@ -151,13 +153,11 @@ class Knowledge:
                 " and what that one does isn't judged; start it by $(MAKE)",
                 folder,
             )
-        view = self.views.setdefault(
-            make.key,
-            View(len(self.views), make, make.folder, has_one_job=make.has_one_job),
-        )
-        view.has_one_job = view.has_one_job and make.has_one_job
+        view = self.views.setdefault(make.key, View(len(self.views), make, make.folder))
         view.exported = self.exported.get(make.folder, set())
         for name, rules in make.base.rules.items():
+            if any(rule.ran or rule.is_done for rule in rules):
+                view.with_one_job.setdefault(name, make.has_one_job)
             known = view.rules.get(name)
             view.rules[name] = rules if known is None else self.merged(make, known, rules)
 
