@@ -97,6 +97,22 @@ class EarlyTest(ProjectTest):
         replayed = [one for one in events if one.startswith("replay of ")]
         self.assertEqual(sorted(replayed), ["replay of c", "replay of o", "replay of o/b"])
 
+    def test_recipes_with_the_same_commands_write_the_same_files(self) -> None:
+        """So what reads one of these is replayed once, also where the other recipe comes later."""
+        self.write(
+            {
+                "makefile": (
+                    "all: c d\nc: a\n\tcp a c\na b: s\n\tsleep 2; cp s a; cp s b\nd: b\n\tcp b d\n"
+                ),
+                "s": "1\n",
+            }
+        )
+        events = self.events()
+        recorded = [one for one in events if one.startswith("recorded ")]
+        self.assertEqual(recorded, ["recorded a", "recorded c", "recorded b", "recorded d"])
+        replayed = sorted(one for one in events if one.startswith("replay of "))
+        self.assertEqual(replayed, [f"replay of {name}" for name in "abcd"])
+
     def test_a_recipe_that_looks_through_processes(self) -> None:
         """It may have seen a replay, so all is recorded once more, and then replayed."""
         self.write(

@@ -57,6 +57,13 @@ class Recipe:
         ]
 
 
+def firsts_of(recipes: Iterable[Recipe]) -> dict[str, str]:
+    """The targets of some recipes, each with the first of them whose commands are the same, as
+    those of a rule with several targets are."""
+    firsts: dict[tuple[str, ...], str] = {}
+    return {one.target: firsts.setdefault(tuple(one.lines), one.target) for one in recipes}
+
+
 @dataclass(frozen=True)
 class Node:
     """A name of the graph, with the groups of its prerequisites, which `.WAIT` parts."""

@@ -244,6 +244,7 @@ class Updating:
         what it lacks, and else those whose files are left over.
         """
         assert self.world is not None
+        self.world.read_rest()
         trials = {trial.recipe.target: trial for trial in self.world.trials}
         before = {} if self.state is None else self.state.entries
         entries = {

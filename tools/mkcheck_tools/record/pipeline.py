@@ -11,7 +11,7 @@ from collections.abc import Mapping
 from contextlib import AbstractContextManager, nullcontext
 from dataclasses import dataclass, replace
 
-from mkcheck_tools.answers.graphs import Recipe
+from mkcheck_tools.answers.graphs import Recipe, firsts_of
 from mkcheck_tools.book import formats
 from mkcheck_tools.book.answer_files import RecordingAnswer
 from mkcheck_tools.book.books import make_book
@@ -234,9 +234,9 @@ def early_replays_of(shop: Workshop, build: Build) -> AbstractContextManager[Ear
         replays = replay_of(shop, build, world, {}, writers)
         return replace(replays, targets=early.targets, memory=early.memory, _stopped=early.stopped)
 
-    targets = frozenset(map(Name, shop.absent))
-    folder = real_in(shop.scratch, "replays")
-    return early_replays(replay_early, targets, folder, shop.failing)
+    firsts = firsts_of(build.graph.recipes)
+    made = {Name(name): first for name, first in firsts.items() if name in shop.absent}
+    return early_replays(replay_early, made, real_in(shop.scratch, "replays"), shop.failing)
 
 
 def replay_of(

@@ -14,12 +14,9 @@ from dataclasses import dataclass, field
 from queue import SimpleQueue
 
 from mkcheck_tools.faults import Fault
-from mkcheck_tools.replay.versions import digest_of
+from mkcheck_tools.replay.versions import LARGE, digest_of
 from mkcheck_tools.run.paths import RealPath, SeenPath
 from mkcheck_tools.trace.calls import OPENS, WRITING, Call, path_of, text_of
-
-# Files below this size are read as soon as one has looked whether they are known.
-LARGE = 1 << 16
 
 
 @dataclass

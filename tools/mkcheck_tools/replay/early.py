@@ -1,9 +1,10 @@
 """Replays recipes while others are still recorded.
 
 Such a replay takes what is known by then of the other recipes, and a guess of the rest: that each
-recipe writes its target, and nothing else. In the end it is compared with what is known then, and a
-replay for which anything differs counts for nothing. So the outcomes are those of replays that
-begin when all is recorded.
+recipe writes its target, and what another one with the same commands wrote, as those of a rule with
+several targets do. In the end it is compared with what is known then, and a replay for which
+anything differs counts for nothing. So the outcomes are those of replays that begin when all is
+recorded.
 
 The recording has to find what a make would find, and a replay is another process. So recipes that
 have to do with other processes, as by locks, are replayed in the end, and so are those that use
@@ -15,6 +16,7 @@ recorded once more, without replays beside it.
 from __future__ import annotations
 
 import contextlib
+import functools
 import os
 import tempfile
 import threading
@@ -50,11 +52,11 @@ class Disturbed(Exception):
 
 @dataclass
 class Early:
-    """Starts replays of recipes as they are recorded. `replay` makes one of a world, and `targets`
-    are the files that recipes make."""
+    """Starts replays of recipes as they are recorded. `replay` makes one of a world. `firsts` has
+    the files that recipes make, in serial order, each with the first that has the same commands."""
 
     replay: Callable[[World, Writers, Early], Replay]
-    targets: frozenset[Name]
+    firsts: Mapping[Name, str]
     pool: ThreadPoolExecutor
     found: Future[Memory | None]
     """The file system in memory for replays, which is made while the first recipe runs."""
@@ -73,8 +75,8 @@ class Early:
     writers: dict[Name, list[str]] = field(default_factory=dict)
     """The targets whose recipes wrote a file so far, by its name."""
 
-    recorded: set[Name] = field(default_factory=set)
-    """The targets of these recipes, and of those that wrote nothing."""
+    recorded: dict[str, tuple[Name, ...]] = field(default_factory=dict)
+    """The targets of these recipes, and of those that wrote nothing, each with what it wrote."""
 
     failing: dict[int, Future[Ahead]] = field(default_factory=dict)
     """Runs of recipes where writes fail that began, of those whose target is the largest so far of
@@ -96,6 +98,11 @@ class Early:
 
     is_off: bool = False
     """Whether none is started any more."""
+
+    @functools.cached_property
+    def targets(self) -> frozenset[Name]:
+        """The files that recipes make."""
+        return frozenset(self.firsts)
 
     @property
     def memory(self) -> Memory | None:
@@ -130,8 +137,8 @@ class Early:
 
     def wrote(self, target: str, writes: Iterable[Name]) -> None:
         """A recipe is recorded, or kept, that writes these files."""
-        self.recorded.add(Name(target))
-        for name in writes:
+        self.recorded[target] = tuple(writes)
+        for name in self.recorded[target]:
             self.writers.setdefault(name, []).append(target)
 
     def start(self, world: World, accesses: Accesses) -> None:
@@ -207,12 +214,19 @@ class Early:
     def replay_of(self, world: World) -> Replay:
         """What replays a recipe in the world as it is now."""
         with self.changing:
-            now = world.as_now()
-            # One that is recorded wrote another file, or none, as where it makes a folder.
-            waiting = self.targets - self.recorded
-            writers: dict[Name, list[str]] = {target: [target] for target in waiting}
-            writers.update((name, [*targets]) for name, targets in self.writers.items())
+            now, writers = world.as_now(), self.guessed()
         return self.replay(now, writers, self)
+
+    def guessed(self) -> dict[Name, list[str]]:
+        """The targets whose recipes write a file, by its name, with a guess of those that aren't
+        recorded yet. One that is recorded may have written another file than its target, or none,
+        as where it makes a folder."""
+        found = {name: [*targets] for name, targets in self.writers.items()}
+        for target, first in self.firsts.items():
+            if target not in self.recorded:
+                for name in dict.fromkeys([target, *self.recorded.get(first, ())]):
+                    found.setdefault(name, []).append(target)
+        return found
 
     def refuse_disturbed(self, accesses: Accesses) -> None:
         """Raises Disturbed where a recipe that was recorded may have met a replay."""
@@ -231,7 +245,7 @@ class Early:
 @contextlib.contextmanager
 def early_replays(
     replay: Callable[[World, Writers, Early], Replay],
-    targets: frozenset[Name],
+    firsts: Mapping[Name, str],
     scratch: RealPath,
     failing: bool,
 ) -> Iterator[Early]:
@@ -242,7 +256,7 @@ def early_replays(
     with contextlib.ExitStack() as stack, ThreadPoolExecutor(WAITING * jobs) as pool:
         found = pool.submit(lambda: stack.enter_context(memory(unbound(scratch))))
         slots = threading.Semaphore(jobs - 1)
-        early = Early(replay, targets, pool, found, slots, failing)
+        early = Early(replay, firsts, pool, found, slots, failing)
         try:
             yield early
         except BaseException:

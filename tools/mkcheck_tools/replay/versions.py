@@ -7,7 +7,9 @@ import errno
 import hashlib
 import os
 import stat
+import threading
 import time
+from collections import defaultdict
 from collections.abc import Iterator
 from dataclasses import dataclass, field
 from io import FileIO
@@ -36,6 +38,9 @@ NOWHERE = RealPath("")
 # In nanoseconds: a file that changed less than this ago may change again and keep its stamp, since
 # the clocks of file systems go on in steps.
 SETTLING = 2_500_000_000
+
+# Files below this size are read as soon as one has looked whether they are known.
+LARGE = 1 << 16
 
 # The device, the number, the size and the times of a file.
 Stamp = tuple[int, int, int, int, int]
@@ -94,11 +99,18 @@ def content_of(path: RealPath, kind: str) -> str:
 
 # The digests of files, by their stamps.
 _known: dict[Stamp, str] = {}
+# Held by who reads a file, by its stamp: one that comes meanwhile waits for the digest.
+_reading: defaultdict[Stamp, threading.Lock] = defaultdict(threading.Lock)
 
 
 def know_digest(stamp: Stamp, digest: str) -> None:
     """From now on the digest of the file with this stamp is known."""
     _known[stamp] = digest
+
+
+def is_known(stamp: Stamp) -> bool:
+    """Whether the digest of the file with this stamp is known."""
+    return stamp in _known
 
 
 def digest_of(path: RealPath) -> str:
@@ -107,11 +119,13 @@ def digest_of(path: RealPath) -> str:
     known = _known.get(stamp)
     if known is not None:
         return known
-    settled = is_settled(stamp)
-    digest = digest_of_bytes(path)
-    if settled:
-        know_digest(stamp, digest)
-    return digest
+    if not is_settled(stamp):
+        return digest_of_bytes(path)
+    with _reading[stamp]:
+        if not is_known(stamp):
+            know_digest(stamp, digest_of_bytes(path))
+    _reading.pop(stamp, None)
+    return _known[stamp]
 
 
 def digest_of_bytes(path: RealPath) -> str:

@@ -15,11 +15,14 @@ from mkcheck_tools.faults import Fault
 from mkcheck_tools.replay.versions import (
     FILE,
     FOLDER,
+    LARGE,
     LINK,
     THERE,
     Stamp,
     Store,
     Version,
+    is_known,
+    is_settled,
     version_of,
 )
 from mkcheck_tools.replay.versions import stamp_of as file_stamp
@@ -28,6 +31,8 @@ from mkcheck_tools.run.paths import Name, RealPath, real_in
 
 # A file that was there before any recipe, and that no recipe has changed yet.
 GIVEN = Version("given", 0, "")
+# A file whose bytes aren't known.
+UNREAD = Version("unread", 0, "")
 # A folder: its mode is no recipe's.
 FOLDERS = Version(FOLDER, 0, "")
 OTHER_BYTES = (
@@ -203,6 +208,9 @@ class World:
     seen: dict[Name, Version | None] = field(default_factory=dict)
     """What stands at files that no recipe has changed, each looked at once."""
 
+    put_off: dict[Name, Stamp] = field(default_factory=dict)
+    """Large files elsewhere that weren't read when a recipe had used them, with their stamps."""
+
     compared: dict[tuple[Name, Version | None], bool] = field(default_factory=dict)
     """The answers of `is_as_before` for such files."""
 
@@ -323,12 +331,50 @@ class World:
             *after,
             *filter(is_own, effects.looked),
         ]
-        versions = {name: self.version(name, after) for name in dict.fromkeys(used) if name}
+        versions = {
+            name: UNREAD if self.is_put_off(name) else self.version(name, after)
+            for name in dict.fromkeys(used)
+            if name
+        }
         for name in effects.looked:
             if name not in versions:
                 there = os.path.lexists(real_in(self.folder, name))
                 versions[name] = Version(THERE, 0, "") if there else None
         return versions, {name: self.names_in(name) for name in effects.listed}
+
+    def is_put_off(self, name: Name) -> bool:
+        """Whether a name is that of a large file elsewhere that isn't read yet. Such a one is read
+        beside the recipes that come, and `read_rest` takes its digest in the end."""
+        if is_own(name) or name in self.seen:
+            return False
+        path = real_in(self.folder, name)
+        try:
+            status = os.lstat(path)
+        except OSError:
+            return False
+        stamp = file_stamp(status)
+        is_large = stat.S_ISREG(status.st_mode) and status.st_size >= LARGE
+        if not is_large or is_known(stamp) or not is_settled(stamp) or not os.access(path, os.R_OK):
+            return False
+        self.put_off.setdefault(name, stamp)
+        return True
+
+    def read_rest(self) -> None:
+        """From now on it is known what stood at all names at which recipes looked. Of a file that
+        has changed meanwhile it isn't, so it counts as another one."""
+        rest = {name: self.since(name, stamp) for name, stamp in self.put_off.items()}
+        for number, trial in enumerate(self.trials):
+            looks = trial.looks.items()
+            known = {name: rest[name] if one is UNREAD else one for name, one in looks}
+            self.trials[number] = replace(trial, looks=known)
+
+    def since(self, name: Name, stamp: Stamp) -> Version | None:
+        """What stands at the name of a file elsewhere, if that has had this stamp ever since."""
+        path = real_in(self.folder, name)
+        with contextlib.suppress(OSError, Fault):
+            if file_stamp(os.lstat(path)) == stamp:
+                return self.given(name, path)
+        return UNREAD
 
     def is_as_before(self, name: Name, version: Version | None) -> bool:
         """Whether what stands at a name now is what stood there."""
