@@ -44,14 +44,18 @@ IsCycleFor x (No found) (Some words) cycle =
     IsFirstCycle (needs_graph x.graph (footprints x.setting)) cycle
 IsCycleFor x verdict words cycle = Unit {0}
 
--- The lines are those of the findings, and of the races and stale reads that they hide, but for what
--- mending the findings touches, and for lines that would close a cycle with the graph or with one
--- another.
+-- The lines are those of these findings and of those that they hide, but for what mending the
+-- findings touches, and for lines that would close a cycle with the graph or with one another.
+abbrev pub AreLinesFor : Subject → (found hidden : List Finding) → (lines : List ℕ) → Type 0
+AreLinesFor x found hidden lines =
+    (offers : List Offer) × AreOn x.graph (all_claims x found hidden) offers ×
+    (lines ≡ lines_text (fold with_word [] (open_words offers)))
+
+-- The lines are those of the findings, and of the races and stale reads that they hide.
 abbrev pub AreOtherLines : Subject → List Finding → (lines : List ℕ) → Type 0
 AreOtherLines x found lines =
     (hidden : List Finding) × (list_any is_static found ≡ true → AreHidden x hidden) ×
-    ((offers : List Offer) × AreOn x.graph (all_claims x found hidden) offers ×
-    (lines ≡ lines_text (fold with_word [] (open_words offers))))
+    AreLinesFor x found hidden lines
 
 -- Why the first of the findings without a word has none; and the lines for others.
 pub record IsStuck (x : Subject) (found : List Finding) (o : Obstacle) : Type 0 where

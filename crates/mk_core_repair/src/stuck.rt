@@ -1,13 +1,10 @@
 //! What stops a repair, and the lines for the findings that don't.
 
-ghost use Rattle.std.specs.Prelude.{◌≡◌, List, [], fold, map, option_to_list, IfOk, OnOk};
+ghost use Rattle.std.specs.Prelude.{◌≡◌, [], fold, map, option_to_list, IfOk, OnOk};
 ghost use Rattle.std.specs.String.{string_bytes};
-ghost use Rattle.mk_repair.specs.Lines.{lines_text};
 ghost use Rattle.mk_repair.specs.Word.{with_word};
-ghost use Rattle.mk_claims.specs.Offers.{Offer, offer_view, open_word, open_words};
-ghost use Rattle.mk_claims.specs.Shown.{all_claims};
-ghost use Rattle.mk_claims.specs.Wider.{AreOn};
-ghost use Rattle.mk_core_repair.specs.Survey.{AreOtherLines, IsStuck};
+ghost use Rattle.mk_claims.specs.Offers.{offer_view, open_word, open_words};
+ghost use Rattle.mk_core_repair.specs.Survey.{AreLinesFor, AreOtherLines, IsStuck};
 
 use mk_claims::{Offer, all_claims, has_static, offers_alone, open_word};
 use mk_find::{Finding, hidden_findings};
@@ -47,9 +44,8 @@ fn other_lines(
     found: &[Finding],
     hidden: &[Finding],
 ) -> Result<String, AllocError>
-    ensures { IfOk result (λ lines. (offers : List Offer) ×
-        AreOn subject.now.graph (all_claims subject.now found.now hidden.now) offers ×
-        (string_bytes lines ≡ lines_text (fold with_word [] (open_words offers)))) }
+    ensures { IfOk result (λ lines.
+        AreLinesFor subject.now found.now hidden.now (string_bytes lines)) }
 {
     let claims = all_claims(alloc, subject, found, hidden)?;
     let offers = offers_alone(alloc, subject, &claims)?;

@@ -1,11 +1,12 @@
-//! The public calls of mk_cert, mk_find, mk_repair, mk_sentences and mk_since over a subject, with
-//! their results as texts.
+//! The public calls of mk_cert, mk_find, mk_repair, mk_claims, mk_sentences and mk_since over a
+//! subject, with their results as texts.
 
 use mk_cert::{CertFault, verify};
 use mk_cert_text::{certificate_text, read_certificate};
+use mk_claims::{all_claims, offers_alone, open_word};
 use mk_find::finding_laws::no_findings;
 use mk_find::{Finding, certify, findings, hidden_findings, judge, races, static_findings};
-use mk_repair::{Obstacle, lines_text, obstacle_of, words_of};
+use mk_repair::{Obstacle, Words, lines_text, obstacle_of, words_of};
 use mk_sentences::sentences;
 use mk_since::{named_files, past_of};
 use mk_subject::{Subject, counts};
@@ -31,6 +32,8 @@ pub(crate) enum Call<'a> {
     Lines,
     /// `obstacle_of` for the findings of `findings`.
     Obstacle,
+    /// `all_claims` for the findings of `findings`, then `offers_alone`, and `open_word` of each.
+    Offers,
     /// `sentences` for the findings of `findings`.
     Sentences,
     /// `past_of`, and whether that owns this file.
@@ -107,6 +110,21 @@ fn stopped(alloc: Global, subject: &Subject<'_>) -> Result<String, Fail> {
     Ok(format!(in alloc; "{why}\n{lines}")?)
 }
 
+/// The lines for the findings of `findings`, and for those of `hidden_findings`, but for lines on
+/// cycles.
+fn offered(alloc: Global, subject: &Subject<'_>) -> Result<String, Fail> {
+    let found = findings(alloc, subject)?;
+    let hidden = hidden_findings(alloc, subject)?;
+    let claims = all_claims(alloc, subject, &found, &hidden)?;
+    let mut words = Words::new(alloc);
+    for offer in &offers_alone(alloc, subject, &claims)? {
+        if let Some(word) = open_word(offer) {
+            words.insert(alloc, word)?;
+        }
+    }
+    Ok(lines_text(alloc, &words)?)
+}
+
 /// The findings of `findings`, and those of `hidden_findings`, in sentences.
 fn told(alloc: Global, subject: &Subject<'_>) -> Result<String, Fail> {
     let found = findings(alloc, subject)?;
@@ -175,6 +193,7 @@ pub(crate) fn answer(
         Call::Judge => judged(alloc, subject),
         Call::Lines => repaired(alloc, subject),
         Call::Obstacle => stopped(alloc, subject),
+        Call::Offers => offered(alloc, subject),
         Call::Sentences => told(alloc, subject),
         Call::Owns(file) => owned(alloc, subject, file),
         Call::Named => named(alloc, subject),

@@ -62,6 +62,16 @@ const UNWRITABLE: Build<'static> = Build {
 {"target":"a.o","commands":["cc -c a.c"],"reads":["a.c","h.h","h$.h"],"writes":["a.o"]}]}"#,
 };
 
+/// Two recipes that read each other's files, and a stale header.
+const CYCLE: Build<'static> = Build {
+    makefile: "all: a b a.o\na:\n\tmk a\nb:\n\tmk b\na.o: a.c\n\tcc -c a.c\n",
+    goals: "all",
+    footprints: r#"{"format":1,"fixed":[],"sources":["a.c","h.h"],"records":[
+{"target":"a","commands":["mk a"],"reads":["b"],"writes":["a"]},
+{"target":"b","commands":["mk b"],"reads":["a"],"writes":["b"]},
+{"target":"a.o","commands":["cc -c a.c"],"reads":["a.c","h.h"],"writes":["a.o"]}]}"#,
+};
+
 /// A recipe that reads the makefile.
 const READS_MAKEFILE: Build<'static> = Build {
     makefile: "all: a b\na:\n\tmk a\nb:\n\tmk b\n",
@@ -140,6 +150,14 @@ fn one_finding_stops_a_repair(rt: HostRuntime) -> Result<(), Fail> {
     expect_answer(alloc, &WRITERS, &Call::Obstacle, why)?;
     let why = "no line mends `no stale a.o h$.h`: a makefile can't hold its names\na.o: h.h\n";
     expect_answer(alloc, &UNWRITABLE, &Call::Obstacle, why)
+}
+
+#[test]
+fn lines_on_a_cycle_are_taken_back(rt: HostRuntime) -> Result<(), Fail> {
+    let alloc = rt.alloc();
+    expect_answer(alloc, &RACE, &Call::Offers, "b: a h\n")?;
+    expect_answer(alloc, &HIDDEN, &Call::Offers, "a.o: h.h\n")?;
+    expect_answer(alloc, &CYCLE, &Call::Offers, "a.o: h.h\n")
 }
 
 /// The findings of `HIDDEN` in sentences, and what is hidden behind the first.

@@ -1,4 +1,5 @@
-//! Tests of what mk_cert, mk_find, mk_repair, mk_sentences and mk_since return for a judged build.
+//! Tests of what mk_cert, mk_find, mk_repair, mk_claims, mk_sentences and mk_since return for a
+//! judged build.
 #![tactic(auto)]
 
 #[cfg(test)]
