@@ -647,7 +647,7 @@ class PassTest(ReplayTest):
         os.utime(self.folder / "s", (1_000_000_000, 1_000_000_000))
         self.passes(
             f"all: {' '.join(ways)}\n{rules}old: s\n\tcp -p s old\na: s\n\tcat s > a\n"
-            "b: a\n\tcp a b\nc: b\n\tsleep 0.1; cp b c; touch c\n"
+            "b: a\n\tcp a b\nc: b\n\tsleep 0.3; cp b c; touch c\n"
         )
 
     def test_the_path_of_the_project(self) -> None:

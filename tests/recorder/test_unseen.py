@@ -627,7 +627,7 @@ class ContentTest(Refusals):
             "cp a b; touch -m -r a b",
             "cp -p a t; mv t b",
         ):
-            for makefile in (f"b: a\n\t{way}\na: x\n\tcp x a; sleep 0.05\n", f"b: a\n\t{way}\n"):
+            for makefile in (f"b: a\n\t{way}\na: x\n\tcp x a; sleep 0.3\n", f"b: a\n\t{way}\n"):
                 outcome = self.of(makefile, {"x": "", "a": ""})
                 self.assertEqual(outcome.warnings(), [], way)
                 (self.folder / "a").unlink()
@@ -645,7 +645,7 @@ class ContentTest(Refusals):
             ("cat y; cp a b; touch -a -r a b", []),
             ("cat y; cp a b; touch -d '10 seconds' b; touch b", []),
         ):
-            outcome = self.of(f"b: a y\n\t{way}\na: x\n\tcp x a; sleep 0.05\n", {"x": "", "y": ""})
+            outcome = self.of(f"b: a y\n\t{way}\na: x\n\tcp x a; sleep 0.3\n", {"x": "", "y": ""})
             self.assertEqual(outcome.warnings(), told, way)
 
     def test_a_link_to_an_older_file(self) -> None:
