@@ -18,6 +18,7 @@ from recorder.project import MKCHECK, ROOT, ProjectTest, compiled, traced
 from waits import found_once
 
 namespaces = unittest.skipUnless(places.namespace(), "no mount namespace is allowed")
+several = unittest.skipUnless(processors() > 1, "one processor, so no replay begins early")
 
 # Runs the recorder, and tells the runs of replays.
 TOLD = r"""
@@ -280,6 +281,7 @@ class AlikeTest(ProjectTest):
         # The first one is the largest until others are recorded.
         self.assertEqual((tried - {"a.o"}, noted), ({"b.o", "c.o"}, set()))
 
+    @several
     def test_those_between_run_once_over_their_outputs(self) -> None:
         """All but the smallest and the largest target, and those that were the largest so far."""
         runs = self.runs(self.rules("cc -c -o %.o %.c"), self.sized(a=30, b=1, c=3000, d=300))
@@ -288,6 +290,7 @@ class AlikeTest(ProjectTest):
         self.assertEqual((runs["a.o"], runs["c.o"]), (each, each))
         self.assertEqual(set(runs["b.o"]), set(each))
 
+    @several
     def test_a_dependency_file_that_is_written_from_nothing(self) -> None:
         """Who opens it so learns nothing of what was there."""
         files = self.sized(a=30, b=1, c=3000, d=300)
@@ -359,6 +362,7 @@ class AlikeTest(ProjectTest):
             tried, noted = self.tried(f"all: {' '.join(made)}\n{rules}", self.SOURCES)
             self.assertEqual((len(tried), noted), (count, set()), front)
 
+    @several
     def test_they_do_not_wait_for_what_other_runs_show(self) -> None:
         self.write({"makefile": "a.o: a.c\n\tsleep 1; cc -c -o a.o a.c\n", "a.c": "int a;\n"})
         self.assertEqual(found_once(self.begun, "a.o\nreplayed\n"), "a.o\nreplayed\n")
