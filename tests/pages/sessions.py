@@ -21,10 +21,12 @@ from pathlib import Path
 ROOT = Path(__file__).resolve().parents[2]
 BLOCK = re.compile(r"^```console(?: (more)| in (\S+))?\n(.*?)^```$", re.MULTILINE | re.DOTALL)
 COMMENT = re.compile(r"<!--.*?-->", re.DOTALL)
-# What a recorder says now and then of how far it is, where a machine is slow.
-PROGRESS = re.compile(r"^\[[^][]*\d+/\d+[^][]*\] .*\n", re.MULTILINE)
+# What the tools say now and then of how far they are, where a machine is slow.
+PROGRESS = re.compile(
+    r"^(?:\[[^][]*\d+/\d+[^][]*\] |mkcheck-\w+: [a-z ,]+, (?:\d+:)?\d+:\d\d\b).*\n", re.MULTILINE
+)
 READS = re.compile(r"\b(\d+ recipes,?) \d+ reads\b")
-SECONDS = 300
+SECONDS = 1200
 REFUSED = re.compile(
     r"^(refused \d|error: |(\S+:\d+: )?[\w:]+ \(\d+\): |\{\"answer\":\"refused\")", re.MULTILINE
 )

@@ -2,10 +2,12 @@
 
 from __future__ import annotations
 
+import contextlib
 import json
 import os
 import re
 import shutil
+import socket
 import subprocess
 import sys
 import tempfile
@@ -52,6 +54,16 @@ traced = unittest.skipUnless(
     traces() and os.access(MKCHECK, os.X_OK), "no strace that may trace, or no mkcheck"
 )
 compiled = unittest.skipUnless(shutil.which("cc") and shutil.which("ar"), "no compiler")
+
+
+def free_port() -> int:
+    """A port at which nobody serves, and that the system gives to nobody who asks for any port."""
+    first = 20000 + 10 * (os.getpid() % 1000)
+    for port in range(first, 32000):
+        with socket.socket() as tried, contextlib.suppress(OSError):
+            tried.bind(("127.0.0.1", port))
+            return port
+    raise AssertionError("no port is free")
 
 
 @dataclass(frozen=True)

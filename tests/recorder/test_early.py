@@ -10,36 +10,45 @@ import unittest
 from mkcheck_tools.replay.replays import processors
 from mkcheck_tools.run import places
 from recorder.project import MKCHECK, ROOT, ProjectTest, traced
+from waits import SECONDS_AT_MOST
 
 namespaces = unittest.skipUnless(
     places.namespace() and processors() > 1, "no mount namespace is allowed, or one processor"
 )
 
 
-# Runs the recorder, and tells when a recipe was recorded, and when its replay begins.
+# Runs the recorder, and tells when a recipe was recorded, and when its replay begins. A recipe is
+# recorded until the replay begins that the first word names for it, as b:a.
 TOLD = """\
 import os
 import sys
+import threading
 from mkcheck_tools.record import program, recording
 from mkcheck_tools.replay.replays import Replay
 
 run, replay = recording.run, Replay.replay_safely
+awaited = dict(word.split(":") for word in sys.argv[1].split())
+begun = {{name: threading.Event() for name in awaited.values()}}
 
 
 def recorded(recipe, *more):
     output = run(recipe, *more)
-    os.write(1, f"recorded {recipe.target}\\n".encode())
+    if recipe.target in awaited:
+        begun[awaited[recipe.target]].wait({seconds})
+    os.write(1, f"recorded {{recipe.target}}\\n".encode())
     return output
 
 
 def replayed(own, trial, *more):
-    os.write(1, f"replay of {trial.recipe.target}\\n".encode())
+    os.write(1, f"replay of {{trial.recipe.target}}\\n".encode())
+    if trial.recipe.target in begun:
+        begun[trial.recipe.target].set()
     return replay(own, trial, *more)
 
 
 recording.run, Replay.replay_safely = recorded, replayed
-sys.exit(program.main(sys.argv[1:]))
-"""
+sys.exit(program.main(sys.argv[2:]))
+""".format(seconds=SECONDS_AT_MOST)
 
 
 @traced
@@ -49,9 +58,10 @@ class EarlyTest(ProjectTest):
 
     replays = True
 
-    def events(self) -> list[str]:
-        """Records the project; which recipes were recorded and replayed, in this order."""
-        words = ["-C", str(self.folder), "-o", str(self.book)]
+    def events(self, awaited: str = "") -> list[str]:
+        """Records the project, where recipes are recorded until these replays begin; which recipes
+        were recorded and replayed, in this order."""
+        words = [awaited, "-C", str(self.folder), "-o", str(self.book)]
         done = subprocess.run(
             [sys.executable, "-c", TOLD, *words],
             env={**os.environ, "MKCHECK": MKCHECK, "PYTHONPATH": str(ROOT / "tools")},
@@ -65,13 +75,11 @@ class EarlyTest(ProjectTest):
     def test_each_recipe_is_replayed_once_beside_the_recording(self) -> None:
         self.write(
             {
-                "makefile": (
-                    "c: b\n\tsleep 5; cp b c\nb: a\n\tsleep 2; cp a b\na: s\n\tcp s a\n"
-                ),
+                "makefile": "c: b\n\tcp b c\nb: a\n\tcp a b\na: s\n\tcp s a\n",
                 "s": "1\n",
             }
         )
-        events = self.events()
+        events = self.events("b:a c:b")
         self.assertEqual(
             sorted(events),
             [
@@ -86,14 +94,11 @@ class EarlyTest(ProjectTest):
         """A folder is no file that its recipe writes."""
         self.write(
             {
-                "makefile": (
-                    "c: o/b\n\tsleep 5; cp o/b c\no/b: s o\n\tcp s o/b\n"
-                    "o: s\n\tmkdir -p o; sleep 2\n"
-                ),
+                "makefile": "c: o/b\n\tcp o/b c\no/b: s o\n\tcp s o/b\no: s\n\tmkdir -p o\n",
                 "s": "1\n",
             }
         )
-        events = self.events()
+        events = self.events("o/b:o c:o/b")
         replayed = [one for one in events if one.startswith("replay of ")]
         self.assertEqual(sorted(replayed), ["replay of c", "replay of o", "replay of o/b"])
 

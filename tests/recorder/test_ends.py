@@ -48,6 +48,8 @@ def waiting(*words, **more):
     return kept(*words, **more)
 room.{name} = waiting
 """
+# In pieces, since Python sees a signal that comes just before a sleep begins when that has ended.
+AN_HOUR = "for _ in range(36000): time.sleep(0.1)"
 # A tool to which two signals come before Python looks for any.
 AT_ONCE = """\
 import contextlib, os, signal, sys
@@ -245,7 +247,7 @@ class SignalTest(EndTest):
         return errors, took
 
     def kept_after(
-        self, function: str, condition: str, *more: str, waits: str = "time.sleep(3600)"
+        self, function: str, condition: str, *more: str, waits: str = AN_HOUR
     ) -> None:
         """What was recorded is kept where the recorder ends in this function."""
         module, _, name = function.partition(":")

@@ -15,8 +15,10 @@ from mkcheck_tools.replay.replays import processors
 from mkcheck_tools.replay.surroundings import library
 from mkcheck_tools.run import places
 from recorder.project import MKCHECK, ROOT, ProjectTest, compiled, traced
+from waits import found_once
 
 namespaces = unittest.skipUnless(places.namespace(), "no mount namespace is allowed")
+several = unittest.skipUnless(processors() > 1, "one processor, so no replay begins early")
 
 # Runs the recorder, and tells the runs of replays.
 TOLD = r"""
@@ -117,8 +119,12 @@ class JoinedTest(ProjectTest):
     @unittest.skipIf(processors() < 3, "one replay at a time")
     def test_runs_go_on_beside_each_other(self) -> None:
         """The one begins when the recipe is recorded, the other one in another second."""
-        runs = self.runs("out: a\n\tsleep 2; cat a > out\n", {"a": "1\n"}, TOLD_TO_THE_END)
-        self.assertEqual(runs[:2], ["out again", "out damaged"])
+        makefile, wanted = "out: a\n\tsleep 2; cat a > out\n", ["out again", "out damaged"]
+
+        def first() -> list[str]:
+            return self.runs(makefile, {"a": "1\n"}, TOLD_TO_THE_END)[:2]
+
+        self.assertEqual(found_once(first, wanted), wanted)
 
     def test_runs_are_repeated_apart_where_the_joined_one_shows_something(self) -> None:
         """It fails over other bytes, which a make doesn't meet unless it was stopped."""
@@ -173,7 +179,7 @@ class JoinedTest(ProjectTest):
         makefile = (
             "out: a b\n\tif test a -nt b && test -e out; then touch out;"
             " else cat a b > out; fi\n"
-            "a: s\n\tcp s a\nb: s\n\tsleep 0.1; cp s b\n"
+            "a: s\n\tcp s a\nb: s\n\tsleep 0.3; cp s b\n"
         )
         self.refused(makefile, {"s": "1\n"}, "writes out with other contents")
 
@@ -275,6 +281,7 @@ class AlikeTest(ProjectTest):
         # The first one is the largest until others are recorded.
         self.assertEqual((tried - {"a.o"}, noted), ({"b.o", "c.o"}, set()))
 
+    @several
     def test_those_between_run_once_over_their_outputs(self) -> None:
         """All but the smallest and the largest target, and those that were the largest so far."""
         runs = self.runs(self.rules("cc -c -o %.o %.c"), self.sized(a=30, b=1, c=3000, d=300))
@@ -283,6 +290,7 @@ class AlikeTest(ProjectTest):
         self.assertEqual((runs["a.o"], runs["c.o"]), (each, each))
         self.assertEqual(set(runs["b.o"]), set(each))
 
+    @several
     def test_a_dependency_file_that_is_written_from_nothing(self) -> None:
         """Who opens it so learns nothing of what was there."""
         files = self.sized(a=30, b=1, c=3000, d=300)
@@ -354,8 +362,13 @@ class AlikeTest(ProjectTest):
             tried, noted = self.tried(f"all: {' '.join(made)}\n{rules}", self.SOURCES)
             self.assertEqual((len(tried), noted), (count, set()), front)
 
+    @several
     def test_they_do_not_wait_for_what_other_runs_show(self) -> None:
         self.write({"makefile": "a.o: a.c\n\tsleep 1; cc -c -o a.o a.c\n", "a.c": "int a;\n"})
+        self.assertEqual(found_once(self.begun, "a.o\nreplayed\n"), "a.o\nreplayed\n")
+
+    def begun(self) -> str:
+        """The recipes that are run where writes fail, and the ends of replays, in their order."""
         words = ["-C", str(self.folder), "-o", str(self.book)]
         done = subprocess.run(
             [sys.executable, "-c", BEGUN + FAILING, *words],
@@ -364,7 +377,8 @@ class AlikeTest(ProjectTest):
             text=True,
             check=False,
         )
-        self.assertEqual((done.returncode, done.stdout), (0, "a.o\nreplayed\n"), done.stderr)
+        self.assertEqual(done.returncode, 0, done.stderr)
+        return done.stdout
 
     def test_all_are_tried_where_one_of_these_is_left_half_written(self) -> None:
         command = "cc -c -o %.o %.c || { echo > %.o; false; }"

@@ -4,7 +4,6 @@ turns."""
 from __future__ import annotations
 
 import os
-import socket
 import threading
 import time
 import unittest
@@ -19,8 +18,9 @@ from mkcheck_tools.replay.versions import Store
 from mkcheck_tools.replay.worlds import Effects, Trial, World
 from mkcheck_tools.run.paths import Name, RealPath
 from mkcheck_tools.run.places import Place
-from recorder.project import ProjectTest, traced
+from recorder.project import ProjectTest, free_port, traced
 from recorder.test_right import RightTest, namespaces
+from waits import SECONDS_AT_MOST
 
 PYTHON = "/usr/bin/python3"
 
@@ -74,7 +74,7 @@ class TurnsTest(ProjectTest):
                     beside[name] -= 1
 
         with ThreadPoolExecutor(8) as pool:
-            list(pool.map(go_on, "abcd" * 20, timeout=60))
+            list(pool.map(go_on, "abcd" * 20, timeout=SECONDS_AT_MOST))
         self.assertEqual((max(most), len(most)), (1, 80))
 
     def test_replays_take_turns_and_others_do_not(self) -> None:
@@ -91,7 +91,7 @@ class TurnsTest(ProjectTest):
                     time.sleep(0.05)
                     alone.release()
                 else:
-                    both.wait(60)
+                    both.wait(SECONDS_AT_MOST)
                 return Outcome(trial)
 
         own = Place.of(RealPath(str(self.folder)))
@@ -130,9 +130,7 @@ class BuildTest(RightTest):
 
     @unittest.skipUnless(os.path.exists(PYTHON), f"no {PYTHON}")
     def test_a_port(self) -> None:
-        with socket.socket() as free:
-            free.bind(("127.0.0.1", 0))
-            port = free.getsockname()[1]
+        port = free_port()
         serving = f"{PYTHON} -IBc 'import socket, time; s = socket.socket();"
         serving += " s.setsockopt(socket.SOL_SOCKET, socket.SO_REUSEADDR, 1);"
         serving += f' s.bind(("127.0.0.1", {port})); s.listen(); time.sleep(0.2)\''

@@ -31,6 +31,7 @@ from mkcheck_tools.replay.versions import (
 )
 from mkcheck_tools.replay.worlds import Effects, Trial, World
 from mkcheck_tools.run import places, stopping
+from mkcheck_tools.run.clocks import file_time
 from mkcheck_tools.run.paths import Name, RealPath, SeenPath, real_in
 from mkcheck_tools.run.places import Place
 from recorder.project import Environment
@@ -444,8 +445,8 @@ class StampsTest(unittest.TestCase):
         for path in (place / "d", place):
             os.utime(path, ns=(now - folder, now - folder))
         store = Store(RealPath(str(self.scratch / "store")))
-        with mock.patch("time.time", return_value=now / SECOND):
-            world = World.of(RealPath(str(project)), RealPath(str(place)), store)
+        world = World.of(RealPath(str(project)), RealPath(str(place)), store)
+        world.begun = now / SECOND
         s, a, out = Name("s"), Name("a"), Name("out")
         (place / "a").write_text("1\n")
         os.utime(place / "a", ns=(now, now))
@@ -471,6 +472,24 @@ class StampsTest(unittest.TestCase):
         with mock.patch.object(stamps, "latest", lambda: clock[0]):
             with mock.patch.object(stopping, "pause", pause):
                 return with_other_stamps(world, trial)
+
+    def test_a_clock_of_files_that_is_late(self) -> None:
+        """As on a busy machine. By the other clock a stamp of a moment ago would be newer than that
+        of what is written now, and what is edited now would be older than the recording."""
+        late = time.time_ns() - 5 * SECOND
+        folder, store = RealPath(str(self.scratch)), Store(RealPath(str(self.scratch / "store")))
+        with mock.patch("time.clock_gettime_ns", return_value=late):
+            world = World.of(folder, folder, store)
+            trial = world.took(Recipe("a", []), Effects((), ()), time.time())
+            self.assertLess(stamps.latest(), late)
+            self.assertGreater(runs.seconds_left(trial), 4)
+            self.assertLessEqual(world.begun, late / SECOND)
+
+    def test_what_is_written_now_is_no_older(self) -> None:
+        for _ in range(100):
+            now = file_time()
+            (self.scratch / "x").write_text("1\n")
+            self.assertGreaterEqual((self.scratch / "x").stat().st_mtime_ns, now)
 
     def test_they_are_earlier_where_nothing_is_in_between(self) -> None:
         self.assertEqual(self.moved(DAY), -LEAST)
@@ -628,7 +647,7 @@ class PassTest(ReplayTest):
         os.utime(self.folder / "s", (1_000_000_000, 1_000_000_000))
         self.passes(
             f"all: {' '.join(ways)}\n{rules}old: s\n\tcp -p s old\na: s\n\tcat s > a\n"
-            "b: a\n\tcp a b\nc: b\n\tsleep 0.1; cp b c; touch c\n"
+            "b: a\n\tcp a b\nc: b\n\tsleep 0.3; cp b c; touch c\n"
         )
 
     def test_the_path_of_the_project(self) -> None:

@@ -5,7 +5,6 @@ from __future__ import annotations
 
 import os
 import shutil
-import socket
 import subprocess
 import time
 import unittest
@@ -24,12 +23,15 @@ from mkcheck_tools.run.machines import (
 from mkcheck_tools.run.memory import memory
 from mkcheck_tools.run.paths import SeenPath
 from mkcheck_tools.run.terminals import has_terminals
-from recorder.project import OF_MAKE, ProjectTest, traced
+from recorder.project import OF_MAKE, ProjectTest, free_port, traced
+from waits import SECONDS_AT_MOST
 
 namespaces = unittest.skipUnless(places.namespace(), "no mount namespace is allowed")
 faked = unittest.skipUnless(library(), "no library that sets clocks forward")
 PYTHON = "/usr/bin/python3"
 MANY = {"a": "1\n", "b": "2\n"}
+# What comes behind this, in a process beside that of b, writes behind it in each run.
+B_FIRST = "until test -s out; do sleep 0.1; done"
 
 
 class SurroundingsTest(ProjectTest):
@@ -205,29 +207,31 @@ class AmidTest(SurroundingsTest):
     def test_processes_that_write_one_file_side_by_side(self) -> None:
         told = "processes of the recipe of out write out side by side: which of them comes first"
         for command in (
-            "ls a b | xargs -P2 -I{} sh -c 'test {} = b || sleep 1; cat {} >> out'",
-            "(sleep 1; cat a >> out) & cat b >> out; wait",
-            "(sleep 1; cat a >> out) & (cat b >> out) & wait",
+            f"ls a b | xargs -P2 -I{{}} sh -c 'test {{}} = b || {B_FIRST}; cat {{}} >> out'",
+            f"({B_FIRST}; cat a >> out) & cat b >> out; wait",
+            f"({B_FIRST}; cat a >> out) & (cat b >> out) & wait",
         ):
             self.doubt(f"out: a b\n\trm -f out; {command}\n", told, files=MANY)
 
     def test_processes_that_write_to_what_another_one_opened(self) -> None:
         told = "processes of the recipe of out write out side by side: which of them comes first"
         for command in (
-            "((sleep 1; cat a) & cat b; wait) > out",
-            "ls a b | xargs -P2 -I{} sh -c 'test {} = b || sleep 1; cat {}' > out",
-            "cp a c; cp b d; (sleep 1; mv c out) & mv d out; wait",
+            f"(({B_FIRST}; cat a) & cat b; wait) > out",
+            f"ls a b | xargs -P2 -I{{}} sh -c 'test {{}} = b || {B_FIRST}; cat {{}}' > out",
+            f"cp a c; cp b d; ({B_FIRST}; mv c out) & mv d out; wait",
         ):
             self.doubt(f"out: a b\n\trm -f out; {command}\n", told, files=MANY)
 
     def test_processes_for_which_nobody_waits(self) -> None:
         told = "processes of the recipe of out write out side by side: which of them comes first"
-        command = "((sleep 0.3; cat a >> out) &); sleep 1; (cat b >> out &); sleep 1"
+        # The pipe ends when such a process does, or just before.
+        command = "((cat a >> out; :) & :) | cat; ((cat b >> out; :) & :) | cat; sleep 2"
         self.doubt(f"out: a b\n\trm -f out; {command}\n", told, files=MANY)
 
     def test_processes_that_write_a_file_that_is_gone_then(self) -> None:
         told = "processes of the recipe of out write c side by side: which of them comes first"
-        command = "(sleep 1; cat a >> c) & cat b >> c; wait; cat c > out; rm c"
+        first = B_FIRST.replace("out", "c")
+        command = f"({first}; cat a >> c) & cat b >> c; wait; cat c > out; rm c"
         self.doubt(f"out: a b\n\t{command}\n", told, files=MANY)
 
     def test_processes_that_write_one_file_one_after_the_other(self) -> None:
@@ -460,7 +464,7 @@ class TerminalTest(SurroundingsTest):
             stdout=inner,
             stderr=inner,
         ) as run:
-            self.assertEqual(run.wait(timeout=60), 0)
+            self.assertEqual(run.wait(timeout=SECONDS_AT_MOST), 0)
         os.close(outer)
         os.close(inner)
         text = (self.folder / "out").read_text()
@@ -629,9 +633,7 @@ class ChannelsTest(SurroundingsTest):
         self.doubt(text, "the recipe of out asks 127.0.0.1, port 9: what that does or answers")
 
     def test_a_connection_that_is_refused_or_in_progress(self) -> None:
-        with socket.socket() as free:
-            free.bind(("127.0.0.1", 0))
-            port = free.getsockname()[1]
+        port = free_port()
         for waits in (True, False):
             text = self.python(
                 "one = socket.socket()",
@@ -641,9 +643,7 @@ class ChannelsTest(SurroundingsTest):
             self.doubt(text, f"the recipe of out asks 127.0.0.1, port {port}")
 
     def test_a_server_of_its_own(self) -> None:
-        with socket.socket() as free:
-            free.bind(("127.0.0.1", 0))
-            port = free.getsockname()[1]
+        port = free_port()
         text = self.python(
             "server = socket.socket()",
             f"server.bind(('127.0.0.1', {port}))",

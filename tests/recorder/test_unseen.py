@@ -13,7 +13,7 @@ from pathlib import Path
 
 from mkcheck_tools.judge.sharing import matches
 from mkcheck_tools.run import places
-from recorder.project import Outcome, ProjectTest, compiled, traced
+from recorder.project import Outcome, ProjectTest, compiled, free_port, traced
 from waits import wait_for
 
 OLD = (
@@ -627,7 +627,7 @@ class ContentTest(Refusals):
             "cp a b; touch -m -r a b",
             "cp -p a t; mv t b",
         ):
-            for makefile in (f"b: a\n\t{way}\na: x\n\tcp x a; sleep 0.05\n", f"b: a\n\t{way}\n"):
+            for makefile in (f"b: a\n\t{way}\na: x\n\tcp x a; sleep 0.3\n", f"b: a\n\t{way}\n"):
                 outcome = self.of(makefile, {"x": "", "a": ""})
                 self.assertEqual(outcome.warnings(), [], way)
                 (self.folder / "a").unlink()
@@ -645,7 +645,7 @@ class ContentTest(Refusals):
             ("cat y; cp a b; touch -a -r a b", []),
             ("cat y; cp a b; touch -d '10 seconds' b; touch b", []),
         ):
-            outcome = self.of(f"b: a y\n\t{way}\na: x\n\tcp x a; sleep 0.05\n", {"x": "", "y": ""})
+            outcome = self.of(f"b: a y\n\t{way}\na: x\n\tcp x a; sleep 0.3\n", {"x": "", "y": ""})
             self.assertEqual(outcome.warnings(), told, way)
 
     def test_a_link_to_an_older_file(self) -> None:
@@ -1030,18 +1030,19 @@ class ProcessTest(Refusals):
         )
 
     def test_an_address_at_which_two_recipes_serve(self) -> None:
+        own, port = f"mkcheck-record-test-{os.getpid()}", free_port()
         script = (
             "import socket, sys\n"
             "if sys.argv[1] == '@':\n"
-            "    socket.socket(socket.AF_UNIX).bind('\\0mkcheck-record-test')\n"
+            f"    socket.socket(socket.AF_UNIX).bind('\\0{own}')\n"
             "else:\n"
             "    socket.socket().bind(('127.0.0.1', int(sys.argv[1])))\n"
         )
         python = os.path.realpath(sys.executable)
         fixed = ("--fixed", os.path.dirname(os.path.dirname(python)))
         for address, name in (
-            ("@", "the socket @mkcheck-record-test"),
-            ("45671", "the port 45671"),
+            ("@", f"the socket @{own}"),
+            (f"{port}", f"the port {port}"),
         ):
             line = f"\t{python} -IB p {address}; cp x"
             rules = f"a: x p\n{line} a\nb: x p\n{line} b\n"

@@ -2,6 +2,7 @@
 
 from __future__ import annotations
 
+import contextlib
 import json
 import os
 import random
@@ -12,12 +13,13 @@ import sys
 import time
 import unittest
 from collections.abc import Callable
-from concurrent.futures import ThreadPoolExecutor
+from concurrent.futures import Future, ThreadPoolExecutor
 from pathlib import Path
 
 from mkcheck_tools.book import states
 from mkcheck_tools.run import places
 from recorder.project import MKCHECK, RECORDER, Outcome, ProjectTest, compiled, traced
+from waits import MOMENT, SECONDS_AT_MOST, Found, wait_for
 
 ALL = "all recipes are recorded"
 
@@ -602,18 +604,26 @@ class StampsTest(UpdateTest):
         """Changes files while another recipe runs than this one of `a`, and long before its end;
         how many recipes the next update records, which has to be right."""
         mark = self.scratch / "mark"
-        rules = f"b: a\n\t: > {mark}; sleep 4; rm {mark}; cp a b\na: s\n\t{recipe}\n"
-        self.write({"makefile": rules})
+        waiting = f": > {mark}; until test -s {mark}; do sleep 0.1; done; rm {mark}"
+        self.write({"makefile": f"b: a\n\t{waiting}; cp a b\na: s\n\t{recipe}\n"})
         with ThreadPoolExecutor(1) as pool:
             running = pool.submit(self.update)
-            while not mark.exists():
-                self.assertFalse(running.done())
-                time.sleep(0.02)
+            wait_for(lambda: mark.exists() or running.done())
             self.write(change)
+            time.sleep(3)
+            mark.write_text("go on\n")
             self.assertGreater(self.count(running.result()), 0)
-        count = self.count(self.update())
-        self.assert_as_full()
+            count = self.count(self.let_go(mark, pool.submit(self.update)))
+            self.let_go(mark, pool.submit(self.assert_as_full))
         return count
+
+    def let_go(self, mark: Path, running: Future[Found]) -> Found:
+        """What a recording gives whose recipe need not wait."""
+        while not running.done():
+            with contextlib.suppress(FileNotFoundError), open(mark, "r+", encoding="utf-8") as file:
+                file.write("go on\n")
+            time.sleep(MOMENT)
+        return running.result()
 
     def test_an_edit_while_recipes_run(self) -> None:
         """The stamps at the end are those of files that no recipe has seen."""
@@ -744,7 +754,7 @@ class StoppedTest(UpdateTest):
     def stop(self, number: signal.Signals, option: str) -> str:
         """Starts a recording whose last recipe waits, and sends it a signal; it has to end soon.
         Returns what it said."""
-        self.write({"makefile": self.makefile.replace("@WAIT@", "touch wait; sleep 60")})
+        self.write({"makefile": self.makefile.replace("@WAIT@", "touch wait; sleep 3600")})
         self.write({"s": "1\n"})
         words = [sys.executable, str(RECORDER), "-C", str(self.folder), option, str(self.updated)]
         environment = {**os.environ, "MKCHECK": MKCHECK, "TMPDIR": str(self.scratch)}
@@ -756,13 +766,13 @@ class StoppedTest(UpdateTest):
             # A shell has its background jobs ignore SIGINT, and they hand that down.
             preexec_fn=lambda: signal.signal(number, signal.SIG_DFL),
         ) as run:
-            until = time.monotonic() + 120
-            while not list(self.scratch.glob("mkcheck-record-*/copy/project/wait")):
-                self.assertLess(time.monotonic(), until)
-                time.sleep(0.05)
+            copies = self.scratch.glob
+            wait_for(lambda: any(copies("mkcheck-record-*/copy/project/wait")))
             run.send_signal(number)
-            _, errors = run.communicate(timeout=60)
+            _, errors = run.communicate(timeout=SECONDS_AT_MOST)
         self.assertEqual(run.returncode, 128 + number)
+        # What is large is removed behind the end of the recorder.
+        self.assertTrue(wait_for(lambda: not list(copies("mkcheck-record-*"))))
         return errors
 
     def test_the_next_update_goes_on(self) -> None:

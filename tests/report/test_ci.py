@@ -8,8 +8,10 @@ import shutil
 import subprocess
 import unittest
 from collections.abc import Sequence
+from pathlib import Path
 
 from report.project import MKCHECK, ROOT, ReportTest
+from waits import wait_for_later_stamps
 
 PAGE = ROOT / "docs" / "CI.md"
 SCRIPT = re.compile(r"^```sh\n(.*?)^```$", re.MULTILINE | re.DOTALL)
@@ -48,6 +50,11 @@ class ScriptTest(ReportTest):
         self.write(".gitignore", ".mkcheck-ci/\nreport.html\nmkcheck.sarif\n")
         self.command("git", "init", "-q")
         self.command("git", "add", ".")
+
+    def write(self, name: str, text: str) -> Path:
+        """Writes a file, which gets a later stamp than all that make has made."""
+        wait_for_later_stamps(self.folder)
+        return super().write(name, text)
 
     def command(self, *words: str, **more: str) -> subprocess.CompletedProcess[str]:
         """Runs a command in the project, with the tools on the PATH. `more` has variables of the

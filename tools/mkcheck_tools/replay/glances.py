@@ -4,7 +4,6 @@ from __future__ import annotations
 
 import contextlib
 import os
-import time
 from collections.abc import Container, Iterable, Mapping
 from dataclasses import dataclass, replace
 
@@ -16,6 +15,7 @@ from mkcheck_tools.replay.stamps import with_other_stamps
 from mkcheck_tools.replay.surroundings import NAMES, Surroundings, beside
 from mkcheck_tools.replay.versions import Version, lay
 from mkcheck_tools.replay.worlds import GIVEN, Trial, stamp_of, stamps_of
+from mkcheck_tools.run.clocks import file_time
 from mkcheck_tools.run.folders import remove
 from mkcheck_tools.run.paths import Name, RealPath, real_in
 from mkcheck_tools.run.places import Place
@@ -124,9 +124,9 @@ class Glances:
         paths = [real_in(place.folder, name) for name in trial.before]
         stamps = [os.lstat(path).st_mtime_ns for path in paths]
         stamps += [full.stamp for name, _, full in found if name in bound]
-        oldest = min(stamps, default=time.time_ns())
+        oldest = min(stamps, default=file_time())
         # A source may have a stamp of the future.
-        newest = max([*(stamp + APART * (len(found) + 1) for stamp in stamps), time.time_ns()])
+        newest = max([*(stamp + APART * (len(found) + 1) for stamp in stamps), file_time()])
         early, late = (stamp - APART * len(found) for stamp in (oldest, newest))
         with contextlib.suppress(OSError):
             for name in others:

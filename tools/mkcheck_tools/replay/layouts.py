@@ -26,6 +26,7 @@ from mkcheck_tools.replay.worlds import (
     stamp_of,
     stamps_of,
 )
+from mkcheck_tools.run.clocks import file_time
 from mkcheck_tools.run.folders import remove
 from mkcheck_tools.run.paths import Name, RealPath, real_in
 
@@ -214,7 +215,7 @@ class Layout:
         version = trial.after[name]
         assert version is not None
         source = self.world.store.path(version)
-        lay(source, real_in(folder, name), replace(version, stamp=time.time_ns()))
+        lay(source, real_in(folder, name), replace(version, stamp=file_time()))
 
     def part(self, trial: Trial, outputs: Iterable[Name], folder: RealPath) -> None:
         """Gives outputs that are hard links to what the recipe reads files of their own: else a new

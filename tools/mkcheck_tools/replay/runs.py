@@ -29,6 +29,7 @@ from mkcheck_tools.replay.surroundings import (
 from mkcheck_tools.replay.versions import Version, copy_bytes, version_of
 from mkcheck_tools.replay.worlds import Trial, entries, stamp_of, stamps_of
 from mkcheck_tools.run import places, stopping
+from mkcheck_tools.run.clocks import file_time
 from mkcheck_tools.run.folders import remove
 from mkcheck_tools.run.memory import LACKS
 from mkcheck_tools.run.paths import Name, RealPath, real_in, seen_in
@@ -46,7 +47,7 @@ DRAWN = "drawn"
 LEAST_SECONDS = 60.0
 TIMES_AS_LONG = 20.0
 LINES_SHOWN = 20
-# The clock by which files get their stamps goes on in steps, which are shorter than this.
+# So much later than the second begins, since stamps may be rounded.
 STEP = 0.01
 
 
@@ -451,14 +452,14 @@ class Runner:
 
 
 def wait_for_clock(trial: Trial) -> None:
-    """Waits until the clock shows another second than when the recipe ended."""
+    """Waits until the clock of files shows another second than when the recipe ended."""
     while (left := seconds_left(trial)) > 0:
         stopping.pause(left)
 
 
 def seconds_left(trial: Trial) -> float:
     """How long that takes; nothing, or less, where it does so now."""
-    return int(trial.ended) + 1 + STEP - time.time()
+    return int(trial.ended) + 1 + STEP - file_time() / 1e9
 
 
 def folders_in(place: Place) -> frozenset[Name]:

@@ -11,13 +11,13 @@ from __future__ import annotations
 import contextlib
 import os
 import stat
-import time
 from collections.abc import Iterator
 from dataclasses import replace
 
 from mkcheck_tools.replay.versions import FILE, Version
 from mkcheck_tools.replay.worlds import GIVEN, Trial, World
 from mkcheck_tools.run import stopping
+from mkcheck_tools.run.clocks import file_time
 from mkcheck_tools.run.folders import is_own
 from mkcheck_tools.run.paths import Name, real_in
 
@@ -71,7 +71,7 @@ def with_other_stamps(world: World, trial: Trial, later_ones: bool = False) -> T
 
 def latest() -> int:
     """The latest stamp that is older than all that is written from now on."""
-    return time.time_ns() - STEP
+    return file_time() - STEP
 
 
 def moved(trial: Trial, made: dict[Name, Version], time_passed: int) -> Trial:

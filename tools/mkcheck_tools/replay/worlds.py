@@ -26,6 +26,7 @@ from mkcheck_tools.replay.versions import (
     version_of,
 )
 from mkcheck_tools.replay.versions import stamp_of as file_stamp
+from mkcheck_tools.run.clocks import file_time
 from mkcheck_tools.run.folders import is_own
 from mkcheck_tools.run.paths import Name, RealPath, real_in
 
@@ -224,7 +225,7 @@ class World:
     def of(cls, folder: RealPath, place: RealPath, store: Store) -> World:
         """The world before the first recipe."""
         os.makedirs(store.folder, exist_ok=True)
-        world = cls(folder, place, store, time.time())
+        world = cls(folder, place, store, file_time() / 1e9)
         folders: dict[Name, int] = {}
         files: set[Name] = set()
         for name, entry in entries(place):
