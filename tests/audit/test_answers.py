@@ -126,7 +126,7 @@ def test_recipes_that_start_make_need_gnu_make(project: Project) -> None:
 
 @can_record
 def test_a_yes(project: Project) -> None:
-    project.write({"makefile": "a: b\n\tcp b a\n", "b": "1\n"})
+    project.write({"makefile": ".DELETE_ON_ERROR:\na: b\n\tcp b a\n", "b": "1\n"})
     outcome = project.audit(replay=True)
     assert outcome.output == (
         "yes (1 of 1 recipe judged)\n"
