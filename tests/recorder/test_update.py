@@ -571,6 +571,14 @@ class StampsTest(UpdateTest):
         self.assertEqual(self.count(outcome), 0)
         return outcome if self.state.stat().st_ino == before.st_ino else None
 
+    def test_the_first_one_writes_them(self) -> None:
+        """Also where the footprints lie in the project's folder, in which they are new."""
+        self.write({"makefile": "b: a\n\tcp a b\n", "a": "1\n"})
+        outcome = self.record_plainly("--update", str(self.folder / "B"))
+        self.assertEqual(outcome.status, 0, outcome.errors)
+        self.assertTrue((self.folder / "B.stamps").exists())
+        self.assertIn("0 of 1 recipes", self.record_plainly("--update", f"{self.folder}/B").errors)
+
     def test_nothing_is_written(self) -> None:
         first = self.looked_only()
         self.assertIsNotNone(first)
