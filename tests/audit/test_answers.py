@@ -152,6 +152,15 @@ def test_a_build_by_ccache(project: Project, tmp_path: Path, reader: str) -> Non
     assert not [*home.rglob("*ccache*")]
 
 
+@can_import
+def test_folders_that_are_made_in_order(project: Project) -> None:
+    """`mkdir` of a folder fails where there is a file in it, which always comes later."""
+    rules = "obj:\n\tmkdir obj\nobj/sub: | obj\n\tmkdir obj/sub\nobj/sub/b: s | obj/sub\n"
+    text = f".DELETE_ON_ERROR:\nall: obj/sub/b\n{rules}\tcp s obj/sub/b\n"
+    project.write({"Makefile": text, "s": "1\n"})
+    assert project.audit(replay=True).output.startswith("yes (3 of 3 recipes judged)\n")
+
+
 @can_record
 def test_what_could_not_be_judged_is_no_yes(project: Project) -> None:
     project.write({"makefile": "all: a c\na: b\n\tcp b a\nc: b\n\tfalse\n", "b": "1\n"})

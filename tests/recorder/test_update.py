@@ -399,6 +399,19 @@ class LateTest(UpdateTest):
             self.assertIn(told, outcome.errors)
             self.assertEqual(self.updated.read_text(), self.book.read_text())
 
+    def test_a_recipe_that_makes_a_folder_is_ordered_before_what_lies_there(self) -> None:
+        """`mkdir d` fails where `d/e/b` is there, which may come earlier until that needs `d`. An
+        update knows so in both directions."""
+        for needs, reads in (("", {"d/e/b"}), (" d", set()), ("", {"d/e/b"}), (" d", set())):
+            rules = f"all: d d/e/b\nd:\n\tmkdir d\nd/e/b: s{needs}\n"
+            self.write({"makefile": f"{rules}\tmkdir -p d/e; cp s d/e/b\n", "s": "1\n"})
+            self.update()
+            book = json.loads(self.updated.read_text())
+            record = next(one for one in book["records"] if one["target"] == "d")
+            own = {name for name in record["reads"] if not name.startswith("/")}
+            with self.subTest(needs):
+                self.assertEqual(own, reads)
+
 
 @traced
 class StateTest(UpdateTest):
