@@ -126,7 +126,7 @@ def test_recipes_that_start_make_need_gnu_make(project: Project) -> None:
 
 @can_record
 def test_a_yes(project: Project) -> None:
-    project.write({"makefile": "a: b\n\tcp b a\n", "b": "1\n"})
+    project.write({"makefile": ".DELETE_ON_ERROR:\na: b\n\tcp b a\n", "b": "1\n"})
     outcome = project.audit(replay=True)
     assert outcome.output == (
         "yes (1 of 1 recipe judged)\n"
@@ -150,6 +150,15 @@ def test_a_build_by_ccache(project: Project, tmp_path: Path, reader: str) -> Non
         outcome = project.audit("--from", reader, replay=True, HOME=str(home))
         assert outcome.output.startswith("yes (3 of 3 recipes judged)\n"), outcome
     assert not [*home.rglob("*ccache*")]
+
+
+@can_import
+def test_folders_that_are_made_in_order(project: Project) -> None:
+    """`mkdir` of a folder fails where there is a file in it, which always comes later."""
+    rules = "obj:\n\tmkdir obj\nobj/sub: | obj\n\tmkdir obj/sub\nobj/sub/b: s | obj/sub\n"
+    text = f".DELETE_ON_ERROR:\nall: obj/sub/b\n{rules}\tcp s obj/sub/b\n"
+    project.write({"Makefile": text, "s": "1\n"})
+    assert project.audit(replay=True).output.startswith("yes (3 of 3 recipes judged)\n")
 
 
 @can_record

@@ -106,3 +106,35 @@ def test_macros_of_another_environment(project: Project, reader: str) -> None:
         assert outcome.status == status, (name, outcome.output)
         assert status == 0 or f"recorded with another {name} in the environment" in outcome.output
     assert project.audit(*fresh, "FLAGS=1", environment=none).status != 0
+
+
+@can_import
+@pytest.mark.parametrize(
+    "asked", ["$(wildcard *.c $(D)/*.c)", "$(wildcard *.c $(addsuffix /*.c,$(D)))"]
+)
+def test_a_new_file_for_which_a_makefile_asks_by_a_pattern(project: Project, asked: str) -> None:
+    """GNU make finds it, and has one more object to make."""
+    makefile = GNU.replace("$(wildcard *.c)", asked)
+    project.write({"Makefile": f"D = sub\n{makefile}", **SOURCES, "sub/one.txt": "1\n"})
+    recorded = project.audit()
+    project.write({"README": "1\n", "sub/README": "1\n"})
+    assert project.audit("--no-record", "--fresh-only").output == recorded.output
+    for name in ("sub/more.c", "more.c"):
+        project.write({name: "int more;\n"})
+        outcome = project.audit("--no-record", "--fresh-only")
+        assert f"before {name} was there, for which a makefile asks by a pattern" in outcome.output
+        assert outcome.status == 2
+        (project.folder / name).unlink()
+
+
+@can_record
+def test_a_new_file_in_a_folder_that_a_recipe_lists(project: Project) -> None:
+    project.write({"makefile": "out: d/1\n\tcat d/* > out; ls > /dev/null\n", "d/1": "1\n"})
+    recorded = project.audit()
+    project.make("out")
+    (project.folder / ".git").mkdir()
+    assert project.audit("--no-record", "--fresh-only").output == recorded.output
+    project.write({"d/2": "2\n"})
+    outcome = project.audit("--no-record", "--fresh-only")
+    assert "recorded before the names in d changed, which a recipe lists" in outcome.output
+    assert outcome.status == 2

@@ -190,6 +190,28 @@ def test_two_writers_that_are_accepted_hide_nothing(project: Project, reader: st
     assert project.audit("--from", reader, "--fix").status == 0
 
 
+@pytest.mark.parametrize(
+    "reader", [pytest.param("posix", marks=can_record), pytest.param("make", marks=can_import)]
+)
+def test_two_writers_that_are_accepted_hide_no_reader_of_their_file(
+    project: Project, reader: str
+) -> None:
+    """Who reads the file may begin before either of them."""
+    makefile = TWO_WRITERS.replace("cat s h > c", "cat log s > c").replace("cat s a", "cat s")
+    project.write({"makefile": makefile, "s": "1\n", "mkcheck.toml": ACCEPT_WRITERS})
+    outcome = project.audit("--from", reader)
+    assert "\nno: " in outcome.output and ", 1 accepted" in outcome.output
+    assert "[race" in outcome.output
+    assert "    add: c: a\n" in outcome.output
+    assert "    add: c: b\n" in outcome.output
+    assert outcome.status == 1
+    mended = makefile.replace("c: s\n", "c: s a b\n")
+    project.write({"makefile": mended})
+    outcome = project.audit("--from", reader)
+    assert "\nyes, but for 1 finding that you accepted" in outcome.output
+    assert outcome.status == 0
+
+
 @can_record
 def test_a_baseline_has_what_other_findings_hide(project: Project) -> None:
     project.write({"makefile": TWO_WRITERS, "s": "1\n", "h": "2\n"})

@@ -401,6 +401,19 @@ class LateTest(UpdateTest):
             self.assertIn(told, outcome.errors)
             self.assertEqual(self.updated.read_text(), self.book.read_text())
 
+    def test_a_recipe_that_makes_a_folder_is_ordered_before_what_lies_there(self) -> None:
+        """`mkdir d` fails where `d/e/b` is there, which may come earlier until that needs `d`. An
+        update knows so in both directions."""
+        for needs, reads in (("", {"d/e/b"}), (" d", set()), ("", {"d/e/b"}), (" d", set())):
+            rules = f"all: d d/e/b\nd:\n\tmkdir d\nd/e/b: s{needs}\n"
+            self.write({"makefile": f"{rules}\tmkdir -p d/e; cp s d/e/b\n", "s": "1\n"})
+            self.update()
+            book = json.loads(self.updated.read_text())
+            record = next(one for one in book["records"] if one["target"] == "d")
+            own = {name for name in record["reads"] if not name.startswith("/")}
+            with self.subTest(needs):
+                self.assertEqual(own, reads)
+
 
 @traced
 class StateTest(UpdateTest):
@@ -572,6 +585,14 @@ class StampsTest(UpdateTest):
         outcome = self.update(*words, environment=environment)
         self.assertEqual(self.count(outcome), 0)
         return outcome if self.state.stat().st_ino == before.st_ino else None
+
+    def test_the_first_one_writes_them(self) -> None:
+        """Also where the footprints lie in the project's folder, in which they are new."""
+        self.write({"makefile": "b: a\n\tcp a b\n", "a": "1\n"})
+        outcome = self.record_plainly("--update", str(self.folder / "B"))
+        self.assertEqual(outcome.status, 0, outcome.errors)
+        self.assertTrue((self.folder / "B.stamps").exists())
+        self.assertIn("0 of 1 recipes", self.record_plainly("--update", f"{self.folder}/B").errors)
 
     def test_nothing_is_written(self) -> None:
         first = self.looked_only()

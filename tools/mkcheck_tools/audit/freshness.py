@@ -7,9 +7,11 @@ import os
 import re
 from collections.abc import Iterable, Mapping, Sequence
 from dataclasses import dataclass
+from itertools import combinations
 
 from mkcheck_tools.audit.asking import name_of
 from mkcheck_tools.audit.environments import makefiles_in, text_of
+from mkcheck_tools.audit.patterns import Patterns
 from mkcheck_tools.audit.readers import NINJA, POSIX, SETTING, Reader
 from mkcheck_tools.book import premises
 from mkcheck_tools.book.footprint_files import read_footprints
@@ -19,12 +21,13 @@ from mkcheck_tools.book.states import State, Unusable, digest_of, read
 from mkcheck_tools.faults import Fault
 from mkcheck_tools.gnu.macros import NOT_TAKEN, STANDING
 from mkcheck_tools.gnu.remade import is_dependency_file
-from mkcheck_tools.imports.builds import path_name
+from mkcheck_tools.imports.builds import FOREIGN, path_name
 from mkcheck_tools.imports.desk import IMPORT, KEPT, RECORDING
-from mkcheck_tools.imports.kept import entry_of, read_kept, version_of_readable
+from mkcheck_tools.imports.kept import entry_of, read_kept, version_of_readable, walked
 from mkcheck_tools.record.presuming import looks_of
 from mkcheck_tools.replay.versions import FILE, THERE, Version, version_of
-from mkcheck_tools.run.folders import is_of_versions
+from mkcheck_tools.replay.worlds import digest_of_names
+from mkcheck_tools.run.folders import entries_of, is_of_versions, is_own
 from mkcheck_tools.run.paths import RealPath, real_in
 
 STORE = ".mkcheck"
@@ -53,6 +56,12 @@ class Changes:
     macros: tuple[str, ...] = ()
     """Variables of the environment that a make takes as macros."""
 
+    listed: tuple[str, ...] = ()
+    """Folders that recipes list, and whose names are others; `.` is the project's."""
+
+    matching: tuple[str, ...] = ()
+    """Files that are there now, and for which makefiles ask by a pattern."""
+
     @property
     def sentence(self) -> str:
         """What is said of it; empty where nothing is another one."""
@@ -62,6 +71,12 @@ class Changes:
         if self.come:
             are = "was" if len(self.come) == 1 else "were"
             parts.append(f"before {listed(self.come)}, for which a recipe looks, {are} there")
+        if self.matching:
+            are = "was" if len(self.matching) == 1 else "were"
+            where = f"before {listed(self.matching)} {are} there"
+            parts.append(f"{where}, for which a makefile asks by a pattern")
+        if self.listed:
+            parts.append(f"before the names in {listed(self.listed)} changed, which a recipe lists")
         if self.macros:
             parts.append(f"with another {listed(self.macros)} in the environment")
         return f"recorded {', and '.join(parts)}" if parts else ""
@@ -95,7 +110,67 @@ def changes_since(root: RealPath, reader: Reader, words: Iterable[str]) -> Chang
     is_known = reader.kind != POSIX or variables.is_outer
     setting = SET_ANEW if is_known else SETTING
     macros = filter(variables.is_other, environment_macros(root, reader, words, setting))
-    return Changes(tuple(changed), tuple(come), tuple(macros))
+    matching = () if reader.kind == POSIX else new_by_patterns(root, reader, made)
+    lists = listed_anew(root, state)
+    return Changes(tuple(changed), tuple(come), tuple(macros), tuple(lists), tuple(matching))
+
+
+def new_by_patterns(root: RealPath, reader: Reader, made: set[str]) -> list[str]:
+    """The files that weren't there before the last import, that no recipe makes, and for which
+    makefiles ask by patterns."""
+    kept = read_kept(os.path.join(root, STORE, KEPT, IMPORT))
+    if kept is None or reader.kind == NINJA:
+        return []
+    found = Patterns()
+    for path in kept.seen:
+        name = path_name(root, root, path)
+        if not name.startswith("/") and not is_dependency_file(path):
+            folders = dict.fromkeys((".", reader.below, os.path.dirname(name) or "."))
+            found.take(text_of(path), folders)
+    old = kept.files.entries
+    ends = frozenset(os.path.splitext(name)[1] for name in old) - {""}
+    paths = (one.path for one in walked(root, frozenset()) if one.is_file())
+    new = (path_name(root, root, path) for path in paths)
+    return sorted(
+        name for name in new if name not in old and name not in made and found.fits(name, ends)
+    )
+
+
+def listed_anew(root: RealPath, state: State) -> list[str]:
+    """The folders that recipes list and none makes, and in which other names stand now, beside
+    those that recipes make."""
+    found: dict[str, None] = {}
+    before: set[str] = set()
+    made = made_by(state)
+    for target, entry in state.entries.items():
+        for folder, digest in entry.lists.items():
+            if not digest or not is_own(folder) or folder in made:
+                continue
+            own, all_own = names_below(before, folder), names_below(made, folder)
+            if not is_as_listed(names_there(root, folder), digest, own, all_own):
+                found.setdefault(folder)
+        before.update((target, *entry.after, *entry.made))
+    return list(found)
+
+
+def is_as_listed(there: set[str], digest: str, before: set[str], made: set[str]) -> bool:
+    """Whether a folder in which these names stand may have had names of this digest when only some
+    of those were made that recipes make there. What git and mkcheck keep doesn't count."""
+    ways = [way.difference(FOREIGN) for way in ((there - made) | before, there - made, there)]
+    besides = [subset for size in range(3) for subset in combinations((STORE, ".git"), size)]
+    return any(digest_of_names({*way, *more}) == digest for way in ways for more in besides)
+
+
+def names_there(root: RealPath, folder: str) -> set[str]:
+    """The names in a folder of the project; nothing where it isn't there."""
+    return {entry.name for entry in entries_of(os.path.join(root, folder))}
+
+
+def names_below(names: Iterable[str], folder: str) -> set[str]:
+    """The names that some files, or their folders, have in a folder."""
+    front = "" if folder == "." else f"{folder}/"
+    inside = (name[len(front) :] for name in names if name.startswith(front))
+    return {name.split("/", 1)[0] for name in inside if name}
 
 
 def edited_texts(root: RealPath, made: set[str]) -> list[str]:

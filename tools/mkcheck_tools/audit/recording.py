@@ -10,14 +10,16 @@ from collections.abc import Collection, Sequence
 from functools import partial
 from pathlib import Path
 
-from mkcheck_tools.answers.findings import Group, answer_of
+from mkcheck_tools.answers.findings import HIDDEN, Answer, Group, answer_of
 from mkcheck_tools.audit.asking import Asked
 from mkcheck_tools.audit.readers import Reader, Wanted, checker_of, own_folder
 from mkcheck_tools.audit.verdicts import Audited, Finding, Mend, Spot
 from mkcheck_tools.book.answer_files import read_answer
+from mkcheck_tools.book.apart import shared_files, with_one_writer
 from mkcheck_tools.book.choices import Choice
 from mkcheck_tools.book.earlier import choice_before
 from mkcheck_tools.book.footprint_files import read_footprints
+from mkcheck_tools.book.formats import text_of
 from mkcheck_tools.book.note_files import read_notes
 from mkcheck_tools.book.paths import path_of_notes, path_of_stamps, path_of_state
 from mkcheck_tools.faults import FAILED, Fault, last_lines
@@ -30,6 +32,8 @@ from mkcheck_tools.run.stopping import Stopped
 
 TOOL = "POSIX make"
 BOOK = os.path.join(".mkcheck", "footprint.json")
+# What is asked of beside these.
+APART = os.path.join(".mkcheck", "apart.json")
 LOG = os.path.join(".mkcheck", "record.log")
 # What is said where a signal ended an audit.
 KEPT = "the next audit takes what was recorded"
@@ -140,13 +144,33 @@ def judged(wanted: Wanted, failures: Sequence[str]) -> Audited:
         makefile,
         TOOL,
         tuple(finding_of(group, makefile, missing) for group in groups),
-        tuple(finding_of(group, makefile) for group in answer.later),
+        tuple(finding_of(group, makefile) for group in (*answer.later, *apart(wanted, answer))),
         notes,
         (*unjudged, *failures),
         len({*records, *missing}),
         sum(len(record.reads) for record in records.values()),
         len(missing),
     )
+
+
+def apart(wanted: Wanted, answer: Answer) -> list[Group]:
+    """The races and stale reads of files with several writers, each taken by itself."""
+    if not any(group.kind == "writers" for group in answer.groups):
+        return []
+    footprints = read_footprints(os.path.join(wanted.root, BOOK))
+    shared = shared_files(footprints)
+    found: dict[object, Group] = {}
+    path = Path(wanted.root, APART)
+    try:
+        for one in with_one_writer(footprints):
+            write_text(text_of(one), str(path))
+            then = answer_of(checker_of(wanted, APART).check())
+            for group in (*then.groups, *then.later):
+                if group.kind in HIDDEN and any(file in shared for file in group.files):
+                    found.setdefault((group.kind, group.sentence), group)
+    finally:
+        path.unlink(missing_ok=True)
+    return list(found.values())
 
 
 def spot_of(group: Group, makefile: str) -> Spot:

@@ -28,7 +28,6 @@ from mkcheck_tools.book.premises import OF_SESSION
 from mkcheck_tools.book.states import Entry, State, Unusable
 from mkcheck_tools.faults import Fault
 from mkcheck_tools.judge.footprints import Footprint
-from mkcheck_tools.judge.late import Late, key_of
 from mkcheck_tools.judge.notes import Kind, Note, Warn, ignore
 from mkcheck_tools.replay.versions import Store, Version, digest_of, lay
 from mkcheck_tools.replay.worlds import Effects, Trial, World
@@ -127,14 +126,14 @@ class Updating:
             raise Fault(f"{folder} can't be made: {error.strerror}") from None
         return Store(RealPath(folder))
 
-    def refuse(self, late: Late) -> bool:
-        """Refuses to keep recipes that weren't run beside these late files; tells whether there
-        were any, so that all has to be recorded once more.
+    def refuse(self, keys: Mapping[str, str]) -> bool:
+        """Refuses to keep recipes that weren't run beside the late files of these keys; tells
+        whether there were any, so that all has to be recorded once more.
         """
         found = {
             target
             for target, entry in self.reused.items()
-            if entry.footprint.late != key_of(late.get(target, ()))
+            if entry.footprint.late != keys.get(target, "")
         }
         self.refused |= found
         return bool(found)

@@ -15,8 +15,9 @@ from mkcheck_tools.answers.findings import HIDDEN, Answer, Group, answer_of, ref
 from mkcheck_tools.answers.graphs import read_graph
 from mkcheck_tools.answers.refusals import CYCLE, NO_RULE, Refusal
 from mkcheck_tools.book.answer_files import RecordingAnswer, read_answer
+from mkcheck_tools.book.apart import shared_files, with_one_writer
 from mkcheck_tools.book.footprint_files import Footprints, Record, read_footprints
-from mkcheck_tools.book.formats import first
+from mkcheck_tools.book.formats import first, text_of
 from mkcheck_tools.book.note_files import Noted, read_notes, text_of_notes
 from mkcheck_tools.book.paths import path_of_notes
 from mkcheck_tools.book.states import State
@@ -32,6 +33,8 @@ from mkcheck_tools.judge.notes import Note
 from mkcheck_tools.run.places import Place
 
 BOOK = "footprint.json"
+# Footprints in which each file has one writer.
+APART = "apart.json"
 # Footprints without a record, by which a makefile is checked before there are others.
 PRESUMED = "presumed.json"
 FIRST = "makefile.first"
@@ -470,6 +473,10 @@ class Judge:
         verdict.later = [
             found for group in answer.later for found in hidden_in(group, writers, back)
         ]
+        if any(group.kind == "writers" for group in answer.groups):
+            known = {(found.kind, found.words) for found in verdict.later}
+            apart = self.apart(name, footprints, back)
+            verdict.later += [one for one in apart if (one.kind, one.words) not in known]
         reached = self.build.reached(name != FIRST)
         verdict.targets = {one for one in reached if one in footprints.records}
         if answer.findings:
@@ -477,6 +484,26 @@ class Judge:
         else:
             verdict.recipes -= self.handing_on(verdict.targets)
         return verdict
+
+    def apart(
+        self, name: str, footprints: Footprints, back: Mapping[str, str]
+    ) -> list[BuildFinding]:
+        """The races and stale reads of files with several writers, each taken by itself."""
+        shared = shared_files(footprints)
+        found: dict[tuple[str, tuple[str, ...]], BuildFinding] = {}
+        for one in with_one_writer(read_footprints(self.path(BOOK))):
+            write(self.path(APART), text_of(one))
+            answer = answer_of(self.checker(name, APART).check())
+            writers = {
+                back.get(file, file): [back.get(target, target) for target in targets]
+                for file, targets in one.writers.items()
+            }
+            for group in (*answer.groups, *answer.later):
+                if group.kind in HIDDEN:
+                    for each in hidden_in(group, writers, back):
+                        if each.words[-1] in shared:
+                            found.setdefault((each.kind, each.words), each)
+        return list(found.values())
 
     def counts(self, targets: set[str], footprints: Footprints) -> tuple[int, int]:
         """How many recipes these targets have, and how many files they read."""

@@ -415,7 +415,8 @@ class Sentences:
                 f" ({self.place(writer)}) has written that{when}"
             )
             if self.node(recipe).make == self.node(writer).make:
-                self.need(recipe, file)
+                is_shared = len(self.writers.get(file, [])) > 1
+                self.need(recipe, self.called(writer) if is_shared else file)
                 return text
             return f"{text}; these are recipes of two makes: {self.apart(recipe, writer)}"
         if finding.kind == "loose":

@@ -126,26 +126,41 @@ def is_met(
     return inner in listed
 
 
-def key_of(names: tuple[Name, ...]) -> str:
-    """What tells late files from others."""
-    return hashlib.sha256("\0".join(names).encode("utf-8")).hexdigest() if names else ""
+def keys_of(
+    late: Late, footprints: Sequence[Footprint], ancestors: Ancestors, once: frozenset[str]
+) -> dict[str, str]:
+    """By target what tells its late files from others: their names, whether each is always made
+    after the recipe, and whether no make makes the target again, which is so for those of `once`.
+    """
+    makers: dict[Name, list[str]] = {}
+    for footprint in footprints:
+        for name in (*footprint.writes, *footprint.made):
+            makers.setdefault(name, []).append(footprint.recipe.target)
+    found = {}
+    for target, names in late.items():
+        words = [str(target in once)]
+        for name in names:
+            those = makers.get(name, [])
+            is_after = all(ancestors.any_before((target,), maker) for maker in those)
+            words += [name, str(bool(those) and is_after)]
+        found[target] = hashlib.sha256("\0".join(words).encode("utf-8")).hexdigest()
+    return found
 
 
 def with_met(
-    footprints: Sequence[Footprint], late: Late, met: Mapping[str, Met]
+    footprints: Sequence[Footprint], keys: Mapping[str, str], met: Mapping[str, Met]
 ) -> list[Footprint]:
-    """The footprints, with what the replay tells of late files. `met` lacks recipes that weren't
-    run beside theirs.
+    """The footprints, with what the replay tells of late files, which have these keys. `met` lacks
+    recipes that weren't run beside theirs.
     """
     found = []
     for footprint in footprints:
         target = footprint.recipe.target
         one = met.get(target)
         if one is not None:
-            key = key_of(late.get(target, ()))
             footprint = replace(
                 footprint,
-                late=key,
+                late=keys.get(target, ""),
                 met=one.read,
                 taken=one.taken,
                 seen=one.seen,

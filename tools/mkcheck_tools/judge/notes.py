@@ -56,6 +56,7 @@ class Kind(Enum):
     PREFIX = ("prefix", HINT, "no file can lie under a fixed prefix")
     PROCESSES = ("processes", DOUBT, "a recipe looks through all processes")
     RANDOM = ("random", DOUBT, "a recipe draws random numbers")
+    READ_ONLY = ("read-only", DOUBT, "a recipe writes a file that only root may write again")
     REMADE = ("remade", DOUBT, "GNU make makes a makefile, and reads it anew")
     REMOVED = ("removed", DOUBT, "a recipe takes away a file or a folder that it didn't make")
     SERVER = ("server", DOUBT, "a recipe asks a server, whose answer isn't recorded")

@@ -7,6 +7,7 @@ from __future__ import annotations
 import os
 import re
 import shutil
+import stat
 from collections.abc import Iterator
 
 from mkcheck_tools.answers.graphs import Recipe
@@ -36,6 +37,10 @@ CLOCK = re.compile(r"(\$\{?EPOCH(?:SECONDS|REALTIME)\b|\bEPOCHSECONDS\b|%\([^()]
 NATIVE = re.compile(r"(?<!\S)-m(?:arch|tune|cpu)=native(?!\S)|(?<!\S)target-cpu=native(?!\S)")
 COMPILERS = re.compile(
     r"cc1\w*|f951|lto1|gnat1|d21|rust1|(?:.+-)?clang(?:\+\+)?(?:-[0-9.]+)?|rustc|icp?x|nvc.*"
+)
+# Commands that take away what they may not write.
+FORCED = re.compile(
+    r"\bcp\b(?:\s+\S+)*?\s+(?:-[a-zA-Z]*f|--force|--remove-destination)|\bg?install\b"
 )
 # The command that tells the umask.
 UMASK = re.compile(r"(?:^|[;&|({`]|\bdo|\bthen|\belse)\s*umask(?:\s+-[Sp]+)*\s*(?=[;&|)}`>]|$)")
@@ -83,6 +88,7 @@ def unsteady(recipe: Recipe, accesses: Accesses) -> Iterator[Note]:
         )
         yield Note(target, Kind.BESIDE, text)
     yield from of_unwaited(recipe, accesses)
+    yield from of_read_only(recipe, accesses)
     yield from of_machine(recipe, accesses)
     asked = words_of_bash(recipe, CLOCK)
     if asked:
@@ -113,6 +119,25 @@ def of_unwaited(recipe: Recipe, accesses: Accesses) -> Iterator[Note]:
             " the recipe has ended; let the shell wait for it (`wait`), or start it without `&`"
         )
         yield Note(recipe.target, Kind.UNWAITED, text)
+
+
+def of_read_only(recipe: Recipe, accesses: Accesses) -> Iterator[Note]:
+    """A note on a recipe that opens a file to write it, and leaves it read-only: root may do so
+    again, and no other user. Those see it fail in its replay."""
+    if os.geteuid() != 0 or any(FORCED.search(command.text) for command in recipe.commands):
+        return
+    anew = {*accesses.moved, *accesses.missed, *accesses.lost}
+    for path in accesses.made:
+        owner = accesses.tree.owners.get(path)
+        if path in accesses.writes and path not in anew and accesses.tree.has(path):
+            if owner is not None and not owner.mode & stat.S_IWUSR:
+                name = path[len(accesses.tree.root) + 1 :]
+                text = (
+                    f"the recipe of {recipe.target} leaves {name} read-only, and opens it to write"
+                    " it: a second time that fails for any user but root; let it begin with rm -f"
+                    f" {name}"
+                )
+                yield Note(recipe.target, Kind.READ_ONLY, text)
 
 
 def of_machine(recipe: Recipe, accesses: Accesses) -> Iterator[Note]:

@@ -75,7 +75,7 @@ def is_same(request: Request, before: Premises) -> bool:
         and before.choice == request.choice
         and before.asked == asked_of(request, programs_in(before.asked))
         and before.variables == variables_now(before.variables, before.salt)
-        and before.hold(request.hidden_paths)
+        and before.hold(request.own_paths)
     )
 
 

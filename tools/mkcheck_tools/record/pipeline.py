@@ -164,6 +164,7 @@ def workshop(request: Request, build: Build, scratch: RealPath, warn: Warn) -> W
         not removes_on_error(request),
         None if updating is None else Digests(place.seen),
         build.over,
+        graph.once,
     )
 
 
@@ -274,7 +275,7 @@ def recorded_by(shop: Workshop, build: Build, early: Early | None, warn: Warn) -
             early.is_off = True
             continue
         is_done = recorded.stopped is not None or bool(recorded.failures) or not request.replay
-        if is_done or updating is None or not updating.refuse(recorded.late):
+        if is_done or updating is None or not updating.refuse(recorded.late_keys):
             return recorded
 
 
@@ -372,7 +373,7 @@ def result_of(build: Build, recorded: Recorded, verdict: ReplayVerdict, warn: Wa
     too."""
     failures = list(verdict.failures)
     failed = {failure.target for failure in failures}
-    found = with_met(recorded.footprints, recorded.late, verdict.met)
+    found = with_met(recorded.footprints, recorded.late_keys, verdict.met)
     while footprints := [one for one in found if one.recipe.target not in failed]:
         try:
             text = formats.text_of(book_of(build, recorded, footprints, warn))
@@ -401,7 +402,7 @@ def keep(shop: Workshop, recorded: Recorded, verdict: ReplayVerdict, whole: bool
     updating = shop.updating
     if updating is None or recorded.world is None or not (recorded.footprints or whole):
         return False
-    footprints = with_met(recorded.footprints, recorded.late, verdict.met)
+    footprints = with_met(recorded.footprints, recorded.late_keys, verdict.met)
     unsteady = verdict.unsteady - shop.request.choice.trust.kept
     failed = {*unsteady, *(failure.target for failure in verdict.failures)}
     targets = [one.recipe.target for one in footprints if one.recipe.target not in failed]

@@ -48,13 +48,15 @@ class Beginning:
     lists: dict[str, str]
     texts: dict[str, str] | None
     git: dict[str, Version | None] | None
+    is_first: bool = False
+    """Whether there are no footprints yet."""
 
     @classmethod
     def of(cls, request: Request) -> Beginning | None:
         """That of a recording, if it is an update."""
         if not request.update or request.book is None:
             return None
-        folder, hidden = request.folder, request.hidden_paths
+        folder, hidden = request.folder, request.own_paths
         texts, git = texts_of(folder, makefile_of(request)), git_of(folder)
         beside = asked_of(request, ())["beside"]
         places = [os.path.join(beside, "mkcheck"), os.path.join(beside, "..", "bin", "mkcheck")]
@@ -65,7 +67,8 @@ class Beginning:
         lists = {one: names_in(one, hidden) for one in folders_in(folder)}
         try:
             looks = found_at(folder, paths)
-            return cls(looks, lists, texts, None if git is None else found_at(folder, git))
+            told = None if git is None else found_at(folder, git)
+            return cls(looks, lists, texts, told, not os.path.exists(request.book))
         except Fault:
             return None
 
@@ -73,7 +76,7 @@ class Beginning:
         """The same, with what is in the folders elsewhere in which some of these names of a graph
         lie: which of them are there decides of the rules."""
         folders = {os.path.dirname(name) for name in names if not is_own(name)}
-        hidden = request.hidden_paths
+        hidden = request.own_paths
         found = {one: names_in(os.path.join(request.folder, one), hidden) for one in folders}
         return replace(self, lists={**self.lists, **found})
 
@@ -102,7 +105,7 @@ def keep_premises(
         premises = premises_of(shop, build, recorded, updating, before)
         if premises is not None:
             premises = replace(premises, conditions=conditions)
-            premises = premises.stamped(shop.request.hidden_paths)
+            premises = premises.stamped(shop.request.own_paths)
         if premises is not None:
             write_text(premises.text(), path)
             return
@@ -123,6 +126,10 @@ def premises_of(
     git = before.git if names else {}
     lists = lists_of(known)
     if len(known) < len(entries) or git is None or lists is None:
+        return None
+    # A recipe that lists the folder finds the footprints there from now on.
+    folder = name_of_folder(shop.place.seen, os.path.dirname(updating.book))
+    if before.is_first and any(folder in entry.lists for entry in known):
         return None
     own = [updating.book, path_of_notes(updating.book), path_of_state(updating.book)]
     kept = [os.path.join(path_of_store(updating.book), name) for name in saved.digests()]
@@ -156,6 +163,13 @@ def looks_of(entries: Iterable[Entry], absent: frozenset[str]) -> dict[str, Vers
                 found.setdefault(name, version)
         made.update(entry.after, entry.made)
     return found
+
+
+def name_of_folder(root: str, path: str) -> str:
+    """The name of a folder in the project's, `.` for that itself; its path for another one."""
+    if path == root:
+        return "."
+    return path[len(root) + 1 :] if path.startswith(f"{root}/") else path
 
 
 def lists_of(entries: Iterable[Entry]) -> dict[str, str] | None:

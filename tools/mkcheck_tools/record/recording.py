@@ -33,7 +33,7 @@ from mkcheck_tools.judge.footprints import (
     refuse_forbidden,
     warn_of_stamps,
 )
-from mkcheck_tools.judge.late import Late, folders_of, late_files
+from mkcheck_tools.judge.late import Late, folders_of, keys_of, late_files
 from mkcheck_tools.judge.linked import Over
 from mkcheck_tools.judge.notes import Kind, Note, Warn
 from mkcheck_tools.judge.refusals import listed, refuse_pipe, refuse_unmade, refuse_unseen
@@ -94,6 +94,9 @@ class Workshop:
     over: Mapping[Name, Over] = field(default_factory=dict)
     """The names that the makefile has for files over links."""
 
+    once: frozenset[str] = frozenset()
+    """The targets that no make makes again while they are there."""
+
     @property
     def folder(self) -> RealPath:
         """The project's folder."""
@@ -152,8 +155,16 @@ class Recorded:
     world: World | None = None
     given: frozenset[Name] = frozenset()
     ancestors: Ancestors = field(default_factory=Ancestors)
+    once: frozenset[str] = frozenset()
+    """The targets that no make makes again while they are there."""
+
     stopped: BaseException | None = None
     """What ended the recording before its last recipe."""
+
+    @functools.cached_property
+    def late_keys(self) -> dict[str, str]:
+        """By target what tells its late files from others."""
+        return keys_of(self.late, self.footprints, self.ancestors, self.once)
 
     @functools.cached_property
     def late(self) -> Late:
@@ -194,7 +205,7 @@ def record(
     own = {name: over.name for name, over in shop.over.items()}
     naming = Naming(shop.place.seen, shop.fixed, shop.steady, own)
     given = frozenset(named([*tree.there, *tree.folders], naming))
-    done = Recorded([], [], [], world, given, shop.ancestors)
+    done = Recorded([], [], [], world, given, shop.ancestors, shop.once)
     failed: set[str] = set()
     try:
         with Progress(len(recipes)) as progress, ready(shop.place) as place:

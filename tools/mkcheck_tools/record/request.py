@@ -69,6 +69,11 @@ class Request:
         paths += [os.path.realpath(self.answer)] if self.answer else []
         return frozenset([*paths, *kept])
 
+    @property
+    def own_paths(self) -> frozenset[str]:
+        """The same, and the footprint file."""
+        return self.hidden_paths.union(() if self.book is None else (self.book,))
+
 
 def files_in(folder: str) -> list[str]:
     """The paths of a folder and of all in it."""

@@ -23,6 +23,7 @@ from __future__ import annotations
 import contextlib
 import functools
 import os
+import re
 import threading
 from collections.abc import Iterable, Iterator, Mapping
 from concurrent import futures
@@ -30,7 +31,7 @@ from concurrent.futures import Future, ThreadPoolExecutor
 from dataclasses import dataclass, field, replace
 from typing import Any
 
-from mkcheck_tools.answers.graphs import Ancestors
+from mkcheck_tools.answers.graphs import Ancestors, Recipe
 from mkcheck_tools.faults import FULL, Fault, mistake_of
 from mkcheck_tools.judge.late import Late, Met, folders_of
 from mkcheck_tools.replay import orders
@@ -85,6 +86,8 @@ from mkcheck_tools.run.progress import SECONDS_SHOWN, Progress
 from mkcheck_tools.trace.accesses import Accesses, Follower
 from mkcheck_tools.trace.trees import Tree
 
+# A command that makes folders alone.
+MKDIR = re.compile(r"mkdir(?:\s+[\w./+:@=,-]+)+\s*")
 # What most recipes go by that do something else amid other surroundings.
 LIKELY = (FLAGS, CLOCK, FOLDERS, SOURCES, VARIABLES, MACHINE, EARLIER, STALE)
 # How many replays there are for each processor. Most wait for the clock, which takes none.
@@ -826,24 +829,26 @@ class Replay:
         if taken or read:
             return Met(read - taken, taken)
         if failed:
-            return Met(self.met_by(trial.recipe.target, late))
+            return Met(self.met_by(trial.recipe, late))
         changed = (
             one.name for one in self.runner.comparison.differences(trial, place.folder, laid)
         )
         other = any(name not in paths and name not in folders for name in changed)
         return Met(frozenset(late) if other else frozenset())
 
-    def met_by(self, target: str, late: tuple[Name, ...]) -> frozenset[Name]:
-        """The late files that may be there when a recipe runs: not those that are always made after
-        it, where no make makes it again.
+    def met_by(self, recipe: Recipe, late: tuple[Name, ...]) -> frozenset[Name]:
+        """The late files that may be there when a recipe runs that fails beside them: not those
+        that are always made after it, where no make makes it again, or where they lie in the folder
+        that it only makes: it fails over that, as its run over its own outputs shows.
         """
-        if target not in self.once:
-            return frozenset(late)
+        front = f"{recipe.target}/"
+        is_folder = all(MKDIR.fullmatch(command.text) for command in recipe.commands)
         return frozenset(
             name
             for name in late
-            if not (makers := self.makers_of(name))
-            or not all(self.ancestors.any_before((target,), maker) for maker in makers)
+            if not (recipe.target in self.once or (is_folder and name.startswith(front)))
+            or not (makers := self.makers_of(name))
+            or not all(self.ancestors.any_before((recipe.target,), maker) for maker in makers)
         )
 
     def makers_of(self, name: Name) -> list[str]:

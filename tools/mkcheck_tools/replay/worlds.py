@@ -498,14 +498,14 @@ class World:
         """A digest of the names in a folder, `.` for the project's; empty if it isn't one."""
         if not is_own(folder):
             try:
-                names = sorted(os.listdir(os.path.join(self.folder, folder)))
+                names = os.listdir(os.path.join(self.folder, folder))
             except OSError:
                 return ""
         elif folder != "." and not self.is_folder(folder):
             return ""
         else:
-            names = sorted(self.inside.get(Name("") if folder == "." else folder, ()))
-        return hashlib.sha256("\0".join(names).encode("utf-8", "surrogateescape")).hexdigest()
+            names = list(self.inside.get(Name("") if folder == "." else folder, ()))
+        return digest_of_names(names)
 
     def is_folder(self, name: Name) -> bool:
         """Whether a name is that of a folder now."""
@@ -582,6 +582,11 @@ class World:
                 f"{name} isn't there any more: it was taken away while recipes ran; record again"
             )
         return path, found
+
+
+def digest_of_names(names: Iterable[str]) -> str:
+    """A digest of the names in a folder."""
+    return hashlib.sha256("\0".join(sorted(names)).encode("utf-8", "surrogateescape")).hexdigest()
 
 
 def above(name: Name) -> Name:
