@@ -320,6 +320,27 @@ class SharedTest(MakeFolderTest):
         self.assertEqual(answer.status, 0, answer.output + answer.errors)
         self.try_answer(answer)
 
+    def test_same_recipe_of_makes_with_other_words(self) -> None:
+        """The make below finds `gen` done."""
+        rules = "gen: a\n\tcp a gen; echo $V >> gen\nx: b gen\n\tcat b gen > x\n"
+        for words, status in (("-f Makefile x", 0), ("W=2 x", 4), ("V=2 x", 4)):
+            with self.subTest(words):
+                self.write({"Makefile": f"all: gen\n\t$(MAKE) {words}\n{rules}"})
+                self.write({"a": "a\n", "b": "b\n"})
+                answer = self.imported()
+                self.assertEqual(answer.status, status, answer.output + answer.errors)
+                said = "several makes have a recipe for gen, with other commands or another"
+                self.assertEqual(said in answer.output, status == 4, answer.output)
+                self.assertTrue(self.rebuilds(self.built(), ["a"], ["gen", "x"]))
+
+    def test_same_recipe_of_makes_that_run_at_one_time(self) -> None:
+        rules = "gen: a\n\tcp a gen\nx y: gen\n\tcat gen > $@\n"
+        makes = "one:\n\t$(MAKE) W=1 x\ntwo:\n\t$(MAKE) W=2 y\n"
+        self.write({"Makefile": f"all: one two\n{makes}{rules}", "a": "a\n"})
+        answer = self.imported()
+        self.assertEqual(answer.status, 4, answer.output + answer.errors)
+        self.assertIn("can run the recipes of the same targets at the same time", answer.output)
+
     def test_phony_names_of_several_makefiles(self) -> None:
         """`all` of one makefile isn't `all` of another one in the same folder."""
         self.write(

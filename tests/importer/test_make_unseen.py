@@ -593,6 +593,21 @@ class ReadingTest(UnseenTestCase):
         makefile.write_text(makefile.read_text().replace("cat version", "head -c1 version"))
         self.refused("make reads version beside its makefiles, and whether commands depend on it")
 
+    def test_exported_macro_that_make_expands_when_a_recipe_begins(self) -> None:
+        """`make -n` begins no recipe."""
+        for line in (
+            "export v = $(shell cat version)",
+            "export v = $(file <version)",
+            "x: export v = $(shell cat version)",
+        ):
+            with self.subTest(line):
+                rules = "x: a\n\t(echo $$v; cat a) > x\ny: a\n\tcp a y\n"
+                makefile = f"all: x y\n{line}\n{rules}"
+                self.write({"Makefile": makefile, "a": "a\n", "version": "1.0\n"})
+                self.assertEqual(self.left({"version": "2.0\n"}, "x"), ["1.0\na\n", "2.0\na\n"])
+                answer = self.stays_old("x", "version")
+                self.assertNotIn("Not judged", answer.output)
+
     def by_name(self, **files: str) -> None:
         """A make below that `make -n` doesn't start."""
         self.version(**files)

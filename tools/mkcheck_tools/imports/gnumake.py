@@ -26,7 +26,14 @@ from pathlib import Path
 from mkcheck_tools.faults import Fault
 from mkcheck_tools.imports.database import OWN, Database, Shown, joined
 from mkcheck_tools.imports.jobs import jobs_by_makefiles, jobs_of, may_say_jobs
-from mkcheck_tools.imports.transcripts import BEGINNING, MARK, Transcript, marking, read_transcript
+from mkcheck_tools.imports.transcripts import (
+    BEGINNING,
+    MARK,
+    MARKING,
+    Transcript,
+    marking,
+    read_transcript,
+)
 from mkcheck_tools.run.paths import SeenPath
 from mkcheck_tools.run.places import Place, run
 from mkcheck_tools.trace.tracing import UNCACHED
@@ -59,7 +66,7 @@ PASSING = re.compile(
 # The name of a makefile that is never there. Make tries to make it before the goals, and so writes
 # down the environment of recipes.
 ENVIRONMENT = f"{OWN}environment"
-EVAL = f"""unexport IFS
+EVAL = f"""unexport IFS {MARKING}
 $(info {BEGINNING})
 -include {ENVIRONMENT}
 {ENVIRONMENT}: ; +@env -0 > "$$MKIMPORT_ENV"
@@ -361,7 +368,7 @@ def run_make(start: Start, place: Place, scratch: str, asked: Question) -> list[
     # Where a make has several jobs, what recipes print doesn't come between a mark and its command.
     own = [*how, "-p", "-j1", "-Otarget", f"MAKE={wrapper}"]
     waits = "".join(wait.text for wait in asked.waits)
-    own += [marking(list(asked.watched), asked.is_real), f"--eval={waits}{EVAL}"]
+    own += [*marking(list(asked.watched), asked.is_real), f"--eval={waits}{EVAL}"]
     ended = run(start.command(*own, program=wrapper), place, environment, asked.seconds)
     if ended.timed_out:
         raise Fault(f"GNU make didn't end in {asked.seconds:g} seconds")

@@ -14,7 +14,7 @@ from mkcheck_tools.imports.confining import OWN, Confined
 from mkcheck_tools.imports.copies import links_in, listing
 from mkcheck_tools.imports.database import Rule
 from mkcheck_tools.imports.failing import build_fault, failed_rule, failure_of_make
-from mkcheck_tools.imports.gnumake import Make, Start, content, outer_environment
+from mkcheck_tools.imports.gnumake import EVAL, Make, Start, content, outer_environment
 from mkcheck_tools.imports.lacking import Lack, lacking, without_waits
 from mkcheck_tools.imports.leaving import times_in
 from mkcheck_tools.imports.make_folder import MakeFolder, MakeShown, exported_by, shown_with
@@ -23,6 +23,7 @@ from mkcheck_tools.imports.readers import Started
 from mkcheck_tools.imports.readings import Readings, run_in
 from mkcheck_tools.imports.rereading import for_makefiles, touch_sources
 from mkcheck_tools.imports.telling import ASKED
+from mkcheck_tools.imports.transcripts import marking
 from mkcheck_tools.imports.unchanged import left_unchanged
 from mkcheck_tools.run.places import run
 
@@ -136,6 +137,7 @@ def built_by(asked: MakeShown) -> MakeBuilt:
         functools.partial(ask, front, "asked"),
         functools.partial(printed, front),
         front.questions,
+        (*marking(list(front.watched), is_real=False), f"--eval={EVAL}"),
         recipes_of_goals(front, copies.place("built").folder, all_makes),
         folders_of_dependencies(copies.seen, makefiles.dependencies, all_makes),
     )

@@ -7,7 +7,7 @@ so a target whose commands change has to need such a file.
 from __future__ import annotations
 
 import os
-from collections.abc import Callable, Iterable, Mapping
+from collections.abc import Callable, Iterable, Mapping, Sequence
 from dataclasses import dataclass, field
 
 from mkcheck_tools.faults import Fault
@@ -78,6 +78,9 @@ class Readings:
 
     questions: Questions
 
+    marks: Sequence[str] = ()
+    """Words by which make expands what it hands to recipes, though it runs none."""
+
     recipes: set[str] = field(default_factory=set)
     """The commands of recipes, but for those that make makefiles: what they read isn't read by
     make."""
@@ -127,9 +130,10 @@ class Readings:
         the names at which it looks too."""
         scratch = os.path.join(self.copies.scratch, "traced")
         os.makedirs(scratch, exist_ok=True)
-        command = start.command("-n", "-k", "-j1")
+        command = start.command("-n", "-k", "-j1", *self.marks)
         reader = Reader(ByCommand(Tree.of(place)), place.seen, is_of_recipe=self.is_of_recipe)
-        tracer = Tracer(place, start.environment, scratch)
+        environment = {**start.environment, "MKIMPORT_ENV": os.devnull}
+        tracer = Tracer(place, environment, scratch)
         done = tracer.run(command, Watch(looking=looking, texts=True))
         reader.follow(done.calls)
         reads = {path: reader.accesses.readers[path] for path in reader.accesses.reads}

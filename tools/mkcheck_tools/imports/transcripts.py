@@ -11,6 +11,8 @@ from mkcheck_tools.imports.database import OWN, START, Database, Rule, Shown, re
 MARK = "@@mkcheck-import@@"
 # What a make prints when it begins to read its makefiles.
 BEGINNING = f"{MARK} begins"
+# The macro that prints it where `IFS` doesn't itself.
+MARKING = "MKIMPORT_IFS"
 FIELDS = ("$@", "$%", "$(SHELL)", "$(.SHELLFLAGS)", "$(origin .SHELLFLAGS)")
 # Lines of make itself, which may stand between a mark and its command, or in place of the command.
 TALK = re.compile(r"(?:[\w./-]*make(?:\[\d+\])?: |# GNU Make \d|# Make data base, printed on )")
@@ -22,20 +24,27 @@ TRACE = re.compile(
 LEVEL = re.compile(r"^MAKELEVEL := (\d+)$", re.MULTILINE)
 
 
-def marking(watched: list[str], is_real: bool) -> str:
-    """The macro that prints a mark before each command, with the values that some macros have for
+def marking(watched: list[str], is_real: bool) -> list[str]:
+    """The macros that print a mark before each command, with the values that some macros have for
     the target; in a real build also one, on a line of its own, among the errors.
 
-    GNU make expands `IFS` where it splits a command into words, and no makefile sets it.
+    GNU make expands `IFS` where it splits a command into words, and no makefile sets it. A value
+    may have a command of its own, by `$(shell ..)`: it is empty meanwhile.
     """
     mark = "$(info " + "\t".join([MARK, *FIELDS, *map(value_of, watched)]) + ")"
     errors = f"$(file >>$(MKIMPORT_ERR),)$(file >>$(MKIMPORT_ERR),{MARK})" if is_real else ""
-    return f"IFS={mark}{errors}"
+    if not watched:
+        return [f"IFS={mark}{errors}"]
+    begin, end = "$(eval override IFS :=)", f"$(eval override IFS = $$({MARKING}))"
+    return [f"IFS=$({MARKING})", f"{MARKING}={begin}{mark}{errors}{end}"]
 
 
 def value_of(name: str) -> str:
-    """An expression for the value of a macro after `=`, and nothing where it is undefined."""
-    return f"$(if $(filter undefined,$(origin {name})),,=$({name}))"
+    """An expression for the value of a macro after `=`, and nothing where it is undefined.
+
+    By `call` make takes the value also where a command in it lets make expand `IFS`.
+    """
+    return f"$(if $(filter undefined,$(origin {name})),,=$(call {name}))"
 
 
 @dataclass

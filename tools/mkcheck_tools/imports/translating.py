@@ -65,6 +65,22 @@ class Translation(Commands):
         """Fills in all nodes that were met."""
         while self.waiting:
             self.fill(*self.waiting.popleft())
+        for view, node, rules in self.repeated:
+            if not self.is_same_recipe(view, node, rules):
+                self.build.problem(
+                    f"several makes have a recipe for {node.name}, with other commands or another"
+                    " environment, and which of these it gets isn't judged; let one makefile have"
+                    " the rule",
+                    node.name,
+                )
+
+    def is_same_recipe(self, view: View, node: Node, rules: list[Rule]) -> bool:
+        """Whether the recipe that a make has for a file is that of its node: then only one of them
+        runs, unless the makes run beside each other."""
+        shown = [command for rule in rules for command in rule.commands]
+        if any(self.makes_of(command) for command in shown):
+            return False
+        return self.commands(view, node, shown) == (node.commands, node.setting)
 
     def prune_given(self) -> None:
         """Files that are taken as they are keep only prerequisites for which something runs.
@@ -177,11 +193,7 @@ class Translation(Commands):
                 node.name,
             )
         elif pieces:
-            self.build.problem(
-                f"{node.name}: several makes have a recipe for it, and whether they run at one time"
-                " isn't judged; let one makefile have the rule",
-                node.name,
-            )
+            self.repeated.append((view, node, rules))
         for rule in rules:
             for text in [*rule.needs, *rule.order_only]:
                 edge = self.edge(view, text)

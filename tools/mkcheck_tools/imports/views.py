@@ -115,6 +115,9 @@ class Knowledge:
         self.starts: list[tuple[Make, str, int]] = []
         self.visited: dict[tuple[int, str], str] = {}
         self.waiting: deque[tuple[View, Node, Rule, str]] = deque()
+        self.repeated: list[tuple[View, Node, list[Rule]]] = []
+        """The files for which another make than that of their node has a recipe too."""
+
         self.paths: dict[tuple[str, str], str] = {}
         self.texts: dict[tuple[int, str], str] = {}
         self.started: dict[int, list[Make]] = {}
