@@ -6,7 +6,8 @@ import errno
 import os
 import traceback
 from collections.abc import Sequence
-from dataclasses import dataclass
+
+from mkcheck_tools.values import dataclass
 
 # The errors of a disk that is full, or of which a user may have no more.
 FULL = (errno.ENOSPC, errno.EDQUOT)

@@ -6,7 +6,9 @@ import functools
 import hashlib
 from collections import deque
 from collections.abc import Iterable
-from dataclasses import dataclass, field, replace
+from dataclasses import field, replace
+
+from mkcheck_tools.values import dataclass
 
 PREFIXES = "@-+ \t"
 

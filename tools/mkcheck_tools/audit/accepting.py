@@ -3,10 +3,11 @@
 from __future__ import annotations
 
 from collections.abc import Iterable, Sequence
-from dataclasses import dataclass, replace
+from dataclasses import replace
 from fnmatch import fnmatchcase
 
 from mkcheck_tools.audit.verdicts import Audited, Finding, Item
+from mkcheck_tools.values import dataclass
 
 
 @dataclass(frozen=True)

@@ -4,9 +4,10 @@ from __future__ import annotations
 
 import os
 import re
-from dataclasses import dataclass, field
+from dataclasses import field
 
 from mkcheck_tools.audit.verdicts import Spot
+from mkcheck_tools.values import dataclass
 
 
 @dataclass

@@ -3,10 +3,11 @@
 from __future__ import annotations
 
 import json
-from dataclasses import asdict, dataclass
+from dataclasses import asdict
 from pathlib import Path
 
 from mkcheck_tools.faults import Failure, Fault
+from mkcheck_tools.values import dataclass
 
 FORMAT = 1
 

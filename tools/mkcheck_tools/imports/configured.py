@@ -10,10 +10,11 @@ import fnmatch
 import os
 import re
 from collections.abc import Iterable
-from dataclasses import dataclass, field
+from dataclasses import field
 
 from mkcheck_tools.faults import Fault
 from mkcheck_tools.imports.builds import FOREIGN, Build, in_folder
+from mkcheck_tools.values import dataclass
 
 CMAKE = "CMake"
 # What CMake writes beside the folders `CMakeFiles`.

@@ -3,9 +3,10 @@
 from __future__ import annotations
 
 import re
-from dataclasses import dataclass, field
+from dataclasses import field
 
 from mkcheck_tools.answers.graphs import goes_on
+from mkcheck_tools.values import dataclass
 
 # The front of the names of files that only this program gives to make.
 OWN = "/@mkcheck-import/"

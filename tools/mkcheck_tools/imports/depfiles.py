@@ -3,7 +3,9 @@
 from __future__ import annotations
 
 import re
-from dataclasses import dataclass, field
+from dataclasses import field
+
+from mkcheck_tools.values import dataclass
 
 # Each pattern, with what becomes of the text that it matches. They are tried in this order.
 ESCAPED_BLANK = re.compile(r"(?:\\\\)*\\ ")

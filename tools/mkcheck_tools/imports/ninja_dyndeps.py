@@ -7,10 +7,11 @@ there, it is as if all had stood in the manifest.
 from __future__ import annotations
 
 from collections.abc import Callable
-from dataclasses import dataclass, field
+from dataclasses import field
 
 from mkcheck_tools.imports.ninja_files import Edge, Manifest, canonical
 from mkcheck_tools.imports.ninja_text import NinjaFault, Reader
+from mkcheck_tools.values import dataclass
 
 
 @dataclass

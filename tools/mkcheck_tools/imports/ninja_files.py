@@ -8,9 +8,10 @@ from __future__ import annotations
 import os
 import re
 from collections.abc import Callable
-from dataclasses import dataclass, field
+from dataclasses import field
 
 from mkcheck_tools.imports.ninja_text import NinjaFault, Pattern, Reader
+from mkcheck_tools.values import dataclass
 
 RULE_VARIABLES = (
     "command",

@@ -3,9 +3,10 @@
 from __future__ import annotations
 
 from collections.abc import Callable
-from dataclasses import dataclass, field
+from dataclasses import field
 
 from mkcheck_tools.imports.ninja_files import Edge, Manifest
+from mkcheck_tools.values import dataclass
 
 
 @dataclass

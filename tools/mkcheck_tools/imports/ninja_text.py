@@ -8,7 +8,8 @@ from __future__ import annotations
 import re
 from bisect import bisect_right
 from collections.abc import Callable
-from dataclasses import dataclass
+
+from mkcheck_tools.values import dataclass
 
 # What ninja's lexer knows, in the order in which it is tried.
 TOKENS = (

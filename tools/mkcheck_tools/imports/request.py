@@ -4,7 +4,6 @@ from __future__ import annotations
 
 import argparse
 import os
-from dataclasses import dataclass
 from pathlib import Path
 
 from mkcheck_tools.faults import Fault
@@ -15,6 +14,7 @@ from mkcheck_tools.imports.build_folders import (
     refuse_moved,
 )
 from mkcheck_tools.run.paths import RealPath, resolved
+from mkcheck_tools.values import dataclass
 
 
 @dataclass(frozen=True)

@@ -3,10 +3,11 @@
 from __future__ import annotations
 
 import re
-from dataclasses import dataclass, field
+from dataclasses import field
 
 from mkcheck_tools.answers.graphs import goes_on
 from mkcheck_tools.imports.database import OWN, START, Database, Rule, Shown, read_database
+from mkcheck_tools.values import dataclass
 
 MARK = "@@mkcheck-import@@"
 # What a make prints when it begins to read its makefiles.

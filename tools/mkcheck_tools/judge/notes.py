@@ -7,8 +7,10 @@ should know, and no yes is wrong for it.
 from __future__ import annotations
 
 from collections.abc import Callable, Container
-from dataclasses import dataclass, field
+from dataclasses import field
 from enum import Enum
+
+from mkcheck_tools.values import dataclass
 
 DOUBT, HINT = "doubt", "hint"
 

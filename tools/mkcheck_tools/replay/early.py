@@ -23,7 +23,7 @@ import threading
 from collections.abc import Callable, Iterable, Iterator, Mapping
 from concurrent import futures
 from concurrent.futures import Future, ThreadPoolExecutor
-from dataclasses import dataclass, field
+from dataclasses import field
 from typing import Any
 
 from mkcheck_tools.replay.alike import Way, way_of
@@ -37,6 +37,7 @@ from mkcheck_tools.run.paths import Name, RealPath, SeenPath, seen_in, unbound
 from mkcheck_tools.run.places import DEVICES, TEMPORARY
 from mkcheck_tools.run.progress import Progress
 from mkcheck_tools.trace.accesses import Accesses
+from mkcheck_tools.values import dataclass
 
 PROCESSES = "/proc"
 # What is said of replays that are waited for.

@@ -9,11 +9,12 @@ from __future__ import annotations
 import contextlib
 import threading
 from collections.abc import Iterable, Iterator, Mapping
-from dataclasses import dataclass, field
+from dataclasses import field
 
 from mkcheck_tools.judge.footprints import Footprint
 from mkcheck_tools.replay.worlds import Trial
 from mkcheck_tools.run.folders import is_own
+from mkcheck_tools.values import dataclass
 
 Meetings = Mapping[str, tuple[str, ...]]
 

@@ -9,7 +9,9 @@ import select
 import termios
 import threading
 from collections.abc import Iterator
-from dataclasses import dataclass, field
+from dataclasses import field
+
+from mkcheck_tools.values import dataclass
 
 PIECE = 1 << 16
 # How many pieces are taken at most when commands are over: a process that is left may go on.

@@ -9,11 +9,12 @@ from __future__ import annotations
 
 import os
 import stat
-from dataclasses import dataclass, field
+from dataclasses import field
 
 from mkcheck_tools.run.folders import entries_of
 from mkcheck_tools.run.paths import RealPath, SeenPath, seen_in
 from mkcheck_tools.run.places import Place
+from mkcheck_tools.values import dataclass
 
 LINKS_AT_MOST = 40
 ROOT = SeenPath("/")
