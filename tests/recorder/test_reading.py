@@ -269,6 +269,21 @@ class ListenerTest(unittest.TestCase):
         self.assertIsNotNone(listener.fault)
 
 
+class TreeTest(unittest.TestCase):
+    """Where names lead over links."""
+
+    def test_a_name_leads_elsewhere_when_a_link_on_its_way_is_another_one(self) -> None:
+        tree = Tree(Place(RealPath("/nowhere/p"), SeenPath("/nowhere/p")))
+        name = SeenPath("/nowhere/p/d/x")
+        self.assertEqual(tree.own(name)[0], name)
+        tree.link(SeenPath("/nowhere/p/d"), "a")
+        self.assertEqual(tree.own(name)[0], "/nowhere/p/a/x")
+        tree.link(SeenPath("/nowhere/p/d"), "b")
+        self.assertEqual(tree.own(name)[0], "/nowhere/p/b/x")
+        tree.remove(SeenPath("/nowhere/p/d"))
+        self.assertEqual(tree.own(name)[0], name)
+
+
 class FollowerTest(unittest.TestCase):
     """Whole traces: see each file for where it comes from."""
 
