@@ -6,8 +6,7 @@ import errno
 import os
 import traceback
 from collections.abc import Sequence
-
-from mkcheck_tools.values import dataclass
+from dataclasses import dataclass
 
 # The errors of a disk that is full, or of which a user may have no more.
 FULL = (errno.ENOSPC, errno.EDQUOT)

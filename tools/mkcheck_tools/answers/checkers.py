@@ -7,11 +7,11 @@ import shutil
 import signal
 import subprocess
 from collections.abc import Mapping
+from dataclasses import dataclass
 from pathlib import Path
 
 from mkcheck_tools.faults import Fault
 from mkcheck_tools.run.places import Place, refuse_unentered
-from mkcheck_tools.values import dataclass
 
 NO, REFUSED, NO_MEMORY = 1, 2, 3
 NO_PLAN = ["no plan"]

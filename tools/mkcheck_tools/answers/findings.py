@@ -2,14 +2,13 @@
 
 from __future__ import annotations
 
-from dataclasses import replace
+from dataclasses import dataclass, replace
 from functools import cached_property
 
 from mkcheck_tools.answers.checkers import INSTALL, NO, REFUSED, Checker, Reply
 from mkcheck_tools.answers.members import Members
 from mkcheck_tools.answers.refusals import Refusal, refusal_of
 from mkcheck_tools.faults import Fault
-from mkcheck_tools.values import dataclass
 
 # The form of answers that is read here.
 FORMAT = 1

@@ -6,9 +6,7 @@ import functools
 import hashlib
 from collections import deque
 from collections.abc import Iterable
-from dataclasses import field, replace
-
-from mkcheck_tools.values import dataclass
+from dataclasses import dataclass, field, replace
 
 PREFIXES = "@-+ \t"
 

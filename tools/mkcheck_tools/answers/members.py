@@ -4,10 +4,10 @@ from __future__ import annotations
 
 import json
 from collections.abc import Mapping
+from dataclasses import dataclass
 
 from mkcheck_tools.answers.checkers import INSTALL
 from mkcheck_tools.faults import Fault
-from mkcheck_tools.values import dataclass
 
 
 @dataclass(frozen=True)

@@ -2,10 +2,8 @@
 
 from __future__ import annotations
 
-from dataclasses import field
+from dataclasses import dataclass, field
 from typing import Union
-
-from mkcheck_tools.values import dataclass
 
 
 @dataclass

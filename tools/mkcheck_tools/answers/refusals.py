@@ -3,12 +3,12 @@
 from __future__ import annotations
 
 import os
+from dataclasses import dataclass
 from itertools import islice
 
 from mkcheck_tools.answers.meanings import meaning
 from mkcheck_tools.answers.members import Members
 from mkcheck_tools.faults import Fault
-from mkcheck_tools.values import dataclass
 
 BAD_NAME, NO_MAKEFILE, NO_RULE, CYCLE = "BadName", "NoMakefile", "NoRule", "Cycle"
 # The kinds of words of the command line that can be refused.

@@ -5,7 +5,7 @@ from __future__ import annotations
 import json
 import os
 from collections.abc import Callable
-from dataclasses import field, replace
+from dataclasses import dataclass, field, replace
 from pathlib import Path
 
 from mkcheck_tools.answers.checkers import Checker, Reply
@@ -15,7 +15,6 @@ from mkcheck_tools.answers.meanings import IMPORT
 from mkcheck_tools.answers.refusals import NO_MAKEFILE, Refused
 from mkcheck_tools.faults import Fault
 from mkcheck_tools.run.folders import is_plain_path
-from mkcheck_tools.values import dataclass
 
 # What is said where the folder has such a file and no makefile.
 NOT_READ = {

@@ -3,11 +3,10 @@
 from __future__ import annotations
 
 from collections.abc import Iterable, Sequence
-from dataclasses import replace
+from dataclasses import dataclass, replace
 from fnmatch import fnmatchcase
 
 from mkcheck_tools.audit.verdicts import Audited, Finding, Item
-from mkcheck_tools.values import dataclass
 
 
 @dataclass(frozen=True)

@@ -4,14 +4,13 @@ from __future__ import annotations
 
 import os
 from collections.abc import Sequence
-from dataclasses import replace
+from dataclasses import dataclass, replace
 
 from mkcheck_tools.audit.accepting import Accepted
 from mkcheck_tools.audit.readers import Reader, Wanted
 from mkcheck_tools.audit.settings import Settings
 from mkcheck_tools.faults import Fault
 from mkcheck_tools.run.paths import RealPath
-from mkcheck_tools.values import dataclass
 
 TEXT, JSON, SARIF, GITHUB, HTML = "text", "json", "sarif", "github", "html"
 FORMATS = (TEXT, JSON, SARIF, GITHUB, HTML)

@@ -5,10 +5,10 @@ from __future__ import annotations
 
 import os
 import re
+from dataclasses import dataclass
 from pathlib import Path
 
 from mkcheck_tools.run.folders import entries_of, is_plain_path
-from mkcheck_tools.values import dataclass
 
 # How far below the project's folder such a folder is looked for.
 DEPTH = 2

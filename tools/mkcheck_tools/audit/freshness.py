@@ -6,6 +6,7 @@ from __future__ import annotations
 import os
 import re
 from collections.abc import Iterable, Mapping, Sequence
+from dataclasses import dataclass
 
 from mkcheck_tools.audit.asking import name_of
 from mkcheck_tools.audit.environments import makefiles_in, text_of
@@ -25,7 +26,6 @@ from mkcheck_tools.record.presuming import looks_of
 from mkcheck_tools.replay.versions import FILE, THERE, Version, version_of
 from mkcheck_tools.run.folders import is_of_versions
 from mkcheck_tools.run.paths import RealPath, real_in
-from mkcheck_tools.values import dataclass
 
 STORE = ".mkcheck"
 BOOK = os.path.join(STORE, "footprint.json")

@@ -2,6 +2,7 @@
 
 from __future__ import annotations
 
+from dataclasses import dataclass
 
 from mkcheck_tools.audit.accepting import Accepted
 from mkcheck_tools.audit.makefile_lines import Sources
@@ -9,7 +10,6 @@ from mkcheck_tools.audit.mending import Mending
 from mkcheck_tools.audit.readers import POSIX, Reader
 from mkcheck_tools.audit.verdicts import NONE, Audited, number_of
 from mkcheck_tools.run import places
-from mkcheck_tools.values import dataclass
 
 
 @dataclass(frozen=True)

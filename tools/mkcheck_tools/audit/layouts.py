@@ -3,9 +3,9 @@
 from __future__ import annotations
 
 import re
+from dataclasses import dataclass
 
 from mkcheck_tools.answers.graphs import goes_on
-from mkcheck_tools.values import dataclass
 
 OPENS = re.compile(r"\s*(?:ifeq|ifneq|ifdef|ifndef)\b")
 ELSE = re.compile(r"\s*else\b")

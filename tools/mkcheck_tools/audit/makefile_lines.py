@@ -4,10 +4,9 @@ from __future__ import annotations
 
 import os
 import re
-from dataclasses import field
+from dataclasses import dataclass, field
 
 from mkcheck_tools.audit.verdicts import Spot
-from mkcheck_tools.values import dataclass
 
 
 @dataclass

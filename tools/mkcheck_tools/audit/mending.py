@@ -4,13 +4,12 @@ from __future__ import annotations
 
 import os
 from collections.abc import Iterable
-from dataclasses import field
+from dataclasses import dataclass, field
 
 from mkcheck_tools.answers.graphs import goes_on
 from mkcheck_tools.audit.layouts import Layout
 from mkcheck_tools.audit.makefile_lines import Sources
 from mkcheck_tools.audit.verdicts import Audited, Finding, Mend
-from mkcheck_tools.values import dataclass
 
 
 @dataclass(frozen=True)

@@ -6,7 +6,7 @@ import os
 import re
 import shutil
 import sys
-from dataclasses import replace
+from dataclasses import dataclass, replace
 from pathlib import Path
 
 from mkcheck_tools.answers.checkers import Checker, find_checker
@@ -19,7 +19,6 @@ from mkcheck_tools.gnu.texts import plainly_included
 from mkcheck_tools.imports.build_folders import configured_in, first_of, refuse_build_folder
 from mkcheck_tools.run.paths import RealPath
 from mkcheck_tools.run.places import Place
-from mkcheck_tools.values import dataclass
 
 POSIX, MAKE, NINJA = "posix", "make", "ninja"
 READERS = (POSIX, MAKE, NINJA)

@@ -4,13 +4,13 @@ from __future__ import annotations
 
 import os
 import tomllib
+from dataclasses import dataclass
 from pathlib import Path
 from typing import Any
 
 from mkcheck_tools.answers.findings import KINDS
 from mkcheck_tools.audit.accepting import Accepted
 from mkcheck_tools.faults import Fault
-from mkcheck_tools.values import dataclass
 
 NAME = "mkcheck.toml"
 LISTS = ("goals", "macros", "fixed", "trust")

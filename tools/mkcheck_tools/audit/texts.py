@@ -5,7 +5,7 @@ from __future__ import annotations
 
 import os
 from collections.abc import Iterable, Mapping
-from dataclasses import field
+from dataclasses import dataclass, field
 from typing import TextIO
 
 from mkcheck_tools.audit.judgements import Judgement
@@ -13,7 +13,6 @@ from mkcheck_tools.audit.makefile_lines import mark_of
 from mkcheck_tools.audit.verdicts import Audited, Finding, number_accepted, number_of
 from mkcheck_tools.judge.notes import Note
 from mkcheck_tools.report.escaping import counted, shortened, visible
-from mkcheck_tools.values import dataclass
 
 NAMES_AT_MOST = 6
 # What is said of entries on accepted findings that fit none, where all was judged, and else.

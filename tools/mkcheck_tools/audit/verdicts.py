@@ -3,12 +3,11 @@
 from __future__ import annotations
 
 from collections.abc import Iterable, Iterator
-from dataclasses import field, replace
+from dataclasses import dataclass, field, replace
 
 from mkcheck_tools.answers.findings import HIDDEN
 from mkcheck_tools.judge.notes import Note
 from mkcheck_tools.run.folders import is_of_versions
-from mkcheck_tools.values import dataclass
 
 YES, NO, NONE = "yes", "no", "none"
 # The kinds that those of other kinds hide.

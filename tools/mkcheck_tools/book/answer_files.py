@@ -3,11 +3,10 @@
 from __future__ import annotations
 
 import json
-from dataclasses import asdict
+from dataclasses import asdict, dataclass
 from pathlib import Path
 
 from mkcheck_tools.faults import Failure, Fault
-from mkcheck_tools.values import dataclass
 
 FORMAT = 1
 

@@ -2,10 +2,10 @@
 
 from __future__ import annotations
 
+from dataclasses import dataclass
 
 from mkcheck_tools.judge.trust import Trust
 from mkcheck_tools.run.toolchains import fixed_prefixes
-from mkcheck_tools.values import dataclass
 
 
 @dataclass(frozen=True)

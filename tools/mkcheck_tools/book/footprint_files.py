@@ -3,11 +3,10 @@
 from __future__ import annotations
 
 import json
-from dataclasses import field
+from dataclasses import dataclass, field
 from pathlib import Path
 
 from mkcheck_tools.faults import Fault
-from mkcheck_tools.values import dataclass
 
 
 @dataclass

@@ -4,10 +4,10 @@ from __future__ import annotations
 
 import json
 from collections.abc import Iterable, Sequence
+from dataclasses import dataclass
 
 from mkcheck_tools.book.footprint_files import Footprints, Record
 from mkcheck_tools.faults import Fault
-from mkcheck_tools.values import dataclass
 
 # Above this many bytes format 2 is written.
 FORMAT_1_AT_MOST = 8_000_000

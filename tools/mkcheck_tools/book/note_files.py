@@ -5,14 +5,13 @@ from __future__ import annotations
 import hashlib
 import json
 from collections.abc import Sequence
-from dataclasses import asdict
+from dataclasses import asdict, dataclass
 from pathlib import Path
 
 from mkcheck_tools.book.choices import Choice
 from mkcheck_tools.book.paths import path_of_notes
 from mkcheck_tools.faults import Fault
 from mkcheck_tools.judge.notes import KINDS, Note
-from mkcheck_tools.values import dataclass
 
 FORMAT = 1
 

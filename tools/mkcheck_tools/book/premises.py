@@ -11,7 +11,7 @@ import json
 import os
 import stat
 from collections.abc import Collection, Iterable, Mapping
-from dataclasses import asdict, field, replace
+from dataclasses import asdict, dataclass, field, replace
 
 from mkcheck_tools.book.choices import Choice
 from mkcheck_tools.book.paths import path_of_stamps, path_of_state
@@ -29,7 +29,6 @@ from mkcheck_tools.replay.versions import (
     stamp_of,
 )
 from mkcheck_tools.run.paths import RealPath
-from mkcheck_tools.values import dataclass
 
 FORMAT = 2
 # Variables that tell of the terminal and the session, and nothing of the build.

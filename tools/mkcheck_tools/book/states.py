@@ -10,7 +10,7 @@ import hashlib
 import json
 import re
 from collections.abc import Iterable, Mapping
-from dataclasses import asdict, field, fields, replace
+from dataclasses import asdict, dataclass, field, fields, replace
 from pathlib import Path
 from typing import Any
 
@@ -22,7 +22,6 @@ from mkcheck_tools.replay.versions import FILE, FOLDER, LINK, THERE, Version
 from mkcheck_tools.replay.worlds import Effects, Trial
 from mkcheck_tools.run.folders import is_own, is_plain_path
 from mkcheck_tools.run.paths import Name
-from mkcheck_tools.values import dataclass
 
 FORMAT = 7
 DIGEST = re.compile(r"[0-9a-f]{64}")

@@ -15,7 +15,7 @@ import os
 import secrets
 import subprocess
 from collections.abc import Container, Iterable, Iterator, Mapping
-from dataclasses import field, replace
+from dataclasses import dataclass, field, replace
 from importlib.abc import Traversable
 from importlib.resources import files
 
@@ -37,7 +37,6 @@ from mkcheck_tools.run.paths import Name, RealPath, real_in, seen_in
 from mkcheck_tools.run.places import Place
 from mkcheck_tools.trace import tracing
 from mkcheck_tools.trace.trees import Tree
-from mkcheck_tools.values import dataclass
 
 SHOWN_AT_MOST = 3
 # Said of a footprint file that an update makes.

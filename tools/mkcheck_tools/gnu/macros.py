@@ -12,7 +12,7 @@ import re
 import shutil
 import tempfile
 from collections.abc import Mapping, Sequence
-from dataclasses import field, replace
+from dataclasses import dataclass, field, replace
 
 from mkcheck_tools.answers.checkers import Checker
 from mkcheck_tools.answers.graphs import Graph
@@ -21,7 +21,6 @@ from mkcheck_tools.faults import Fault
 from mkcheck_tools.gnu.flags import check_options
 from mkcheck_tools.judge.notes import Kind, Note, Warn
 from mkcheck_tools.run.folders import PLAIN, plain_folder
-from mkcheck_tools.values import dataclass
 
 NAME = re.compile(r"[A-Za-z_][A-Za-z0-9_]*")
 # POSIX excepts the first two from the environment; make sets the others itself, and shells the

@@ -5,13 +5,12 @@ from __future__ import annotations
 
 import os
 import re
-from dataclasses import field
+from dataclasses import dataclass, field
 
 from mkcheck_tools.answers.graphs import Graph
 from mkcheck_tools.gnu.macros import PROBE, Prober, escaped
 from mkcheck_tools.judge.notes import Kind, Note, Warn
 from mkcheck_tools.run.folders import is_plain_path
-from mkcheck_tools.values import dataclass
 
 JOINED = re.compile(r"\\\n[ \t]*")
 COMMENT = re.compile(r"(?<!\\)#.*")

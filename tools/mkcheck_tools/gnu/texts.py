@@ -7,14 +7,13 @@ from __future__ import annotations
 import os
 import re
 from collections.abc import Iterator, Sequence
-from dataclasses import replace
+from dataclasses import dataclass, replace
 
 from mkcheck_tools.answers.graphs import Graph
 from mkcheck_tools.faults import Fault
 from mkcheck_tools.gnu.flags import ends_early
 from mkcheck_tools.gnu.macros import Prober
 from mkcheck_tools.gnu.remade import COMMENT, INCLUDE, JOINED, included
-from mkcheck_tools.values import dataclass
 
 MARK = b"\xef\xbb\xbf"
 # A line that gives a macro a text.

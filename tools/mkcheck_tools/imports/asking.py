@@ -8,14 +8,13 @@ whose commands use a macro that the recipe of another one sets: make is asked wi
 from __future__ import annotations
 
 from collections.abc import Callable
-from dataclasses import field, replace
+from dataclasses import dataclass, field, replace
 
 from mkcheck_tools.imports.evaluated import Evaluated, evaluated_in
 from mkcheck_tools.imports.gnumake import Make, Start, option_words, own_environment
 from mkcheck_tools.imports.inherited import Inherited, inherited_in
 from mkcheck_tools.imports.questions import TOO_LONG, Questions
 from mkcheck_tools.imports.rereading import changed, difference, place_of
-from mkcheck_tools.values import dataclass
 
 # At most this many goals, and this many targets with macros of their own, are asked for, each by
 # itself.

@@ -15,9 +15,7 @@ import enum
 import functools
 import os
 from collections.abc import Callable, Iterable
-from dataclasses import field
-
-from mkcheck_tools.values import dataclass
+from dataclasses import dataclass, field
 
 # Folders of version control, and this program's own: what lies in them is no file of the project.
 FOREIGN = (".git", ".hg", ".svn", ".mkcheck")

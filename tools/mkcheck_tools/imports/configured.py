@@ -10,11 +10,10 @@ import fnmatch
 import os
 import re
 from collections.abc import Iterable
-from dataclasses import field
+from dataclasses import dataclass, field
 
 from mkcheck_tools.faults import Fault
 from mkcheck_tools.imports.builds import FOREIGN, Build, in_folder
-from mkcheck_tools.values import dataclass
 
 CMAKE = "CMake"
 # What CMake writes beside the folders `CMakeFiles`.

@@ -12,12 +12,12 @@ import os
 import shutil
 import sys
 from collections.abc import Sequence
+from dataclasses import dataclass
 from importlib.resources import files
 from pathlib import Path
 
 from mkcheck_tools.faults import Fault
 from mkcheck_tools.run.places import Place
-from mkcheck_tools.values import dataclass
 
 HOME = "/tmp/home"
 # Variables of the environment for what runs so.

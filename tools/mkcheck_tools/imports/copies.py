@@ -8,13 +8,12 @@ import re
 import shutil
 import subprocess
 import tempfile
-from dataclasses import field, replace
+from dataclasses import dataclass, field, replace
 
 from mkcheck_tools.faults import Fault
 from mkcheck_tools.run.folders import Copier
 from mkcheck_tools.run.paths import RealPath, SeenPath
 from mkcheck_tools.run.places import Place, kill_group, namespace, waited
-from mkcheck_tools.values import dataclass
 
 # How long a program may take to clear up, when it is asked to end.
 SECONDS_TO_END = 20

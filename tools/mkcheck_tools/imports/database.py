@@ -3,10 +3,9 @@
 from __future__ import annotations
 
 import re
-from dataclasses import field
+from dataclasses import dataclass, field
 
 from mkcheck_tools.answers.graphs import goes_on
-from mkcheck_tools.values import dataclass
 
 # The front of the names of files that only this program gives to make.
 OWN = "/@mkcheck-import/"

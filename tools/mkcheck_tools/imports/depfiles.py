@@ -3,9 +3,7 @@
 from __future__ import annotations
 
 import re
-from dataclasses import field
-
-from mkcheck_tools.values import dataclass
+from dataclasses import dataclass, field
 
 # Each pattern, with what becomes of the text that it matches. They are tried in this order.
 ESCAPED_BLANK = re.compile(r"(?:\\\\)*\\ ")

@@ -8,11 +8,11 @@ from __future__ import annotations
 
 import re
 from collections import Counter
+from dataclasses import dataclass
 
 from mkcheck_tools.imports.database import WORD, Database, Rule
 from mkcheck_tools.imports.gnumake import Make
 from mkcheck_tools.imports.inherited import mentioned
-from mkcheck_tools.values import dataclass
 
 EVAL = re.compile(
     r"\$[({]eval\s+(?:(?:override|export|private|define)\s+)*([\w.+-]+)\s*(=|::?:?=|\+=|\?=|!=|$)"

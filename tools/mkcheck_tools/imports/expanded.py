@@ -9,11 +9,11 @@ from __future__ import annotations
 import os
 import re
 from collections.abc import Iterable, Mapping
+from dataclasses import dataclass
 
 from mkcheck_tools.imports.builds import path_name
 from mkcheck_tools.imports.database import Database, Rule
 from mkcheck_tools.imports.gnumake import Make, content
-from mkcheck_tools.values import dataclass
 
 # The function with its name up to the comma, and a word that may be the name of a macro.
 FILE = re.compile(r"\$[({]file\s*>>?\s*((?:\$[({][^(){}]*[)}]|[^,(){}])*?)\s*[,)}]")

@@ -5,13 +5,13 @@ from __future__ import annotations
 import errno
 import os
 import re
+from dataclasses import dataclass
 
 from mkcheck_tools.faults import Fault
 from mkcheck_tools.imports.builds import in_folder, path_name
 from mkcheck_tools.imports.database import Rule
 from mkcheck_tools.imports.gnumake import Make
 from mkcheck_tools.imports.transcripts import printed
-from mkcheck_tools.values import dataclass
 
 # How many lines of the output are shown, and how many of these come from its end.
 SHOWN, OF_END = 20, 5

@@ -20,7 +20,7 @@ import shlex
 import shutil
 import subprocess
 from collections.abc import Mapping, Sequence
-from dataclasses import field
+from dataclasses import dataclass, field
 from pathlib import Path
 
 from mkcheck_tools.faults import Fault
@@ -28,7 +28,6 @@ from mkcheck_tools.imports.database import OWN, Database, Shown, joined
 from mkcheck_tools.imports.transcripts import BEGINNING, MARK, Transcript, marking, read_transcript
 from mkcheck_tools.run.places import Place, run
 from mkcheck_tools.trace.tracing import UNCACHED
-from mkcheck_tools.values import dataclass
 
 # Variables that make and the shell set for each process, and those of this program.
 OF_THE_TOOL = re.compile(

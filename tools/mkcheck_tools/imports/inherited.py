@@ -8,11 +8,11 @@ from __future__ import annotations
 
 import re
 from collections.abc import Iterable, Set
+from dataclasses import dataclass
 
 from mkcheck_tools.imports.builds import serial_order
 from mkcheck_tools.imports.database import COMPUTED_NAME, WORD, Database, OwnMacro, Rule
 from mkcheck_tools.imports.gnumake import Make
-from mkcheck_tools.values import dataclass
 
 # A use of a macro whose name is computed: it may be any macro.
 COMPUTED = re.compile(rf"{COMPUTED_NAME}|\$[({{](?:call|value|eval)\s+\$")

@@ -5,7 +5,7 @@ from __future__ import annotations
 import copy
 import os
 from collections.abc import Iterable
-from dataclasses import replace
+from dataclasses import dataclass, replace
 
 from mkcheck_tools.book.footprint_files import Footprints
 from mkcheck_tools.book.states import Entry
@@ -26,7 +26,6 @@ from mkcheck_tools.imports.telling import Far
 from mkcheck_tools.imports.told import Teller
 from mkcheck_tools.imports.translated import Translated, save
 from mkcheck_tools.run.places import Place
-from mkcheck_tools.values import dataclass
 
 
 @dataclass(frozen=True)

@@ -6,7 +6,7 @@ import json
 import os
 import re
 from collections.abc import Iterable, Iterator, Mapping
-from dataclasses import field, replace
+from dataclasses import dataclass, field, replace
 from itertools import product
 from pathlib import Path
 
@@ -30,7 +30,6 @@ from mkcheck_tools.judge.leftovers import note_of_unmade
 from mkcheck_tools.judge.notes import Kind as NoteKind
 from mkcheck_tools.judge.notes import Note
 from mkcheck_tools.run.places import Place
-from mkcheck_tools.values import dataclass
 
 BOOK = "footprint.json"
 # Footprints without a record, by which a makefile is checked before there are others.

@@ -13,7 +13,7 @@ import hashlib
 import json
 import os
 from collections.abc import Iterable, Iterator, Mapping
-from dataclasses import field
+from dataclasses import dataclass, field
 from pathlib import Path
 from typing import Any
 
@@ -25,7 +25,6 @@ from mkcheck_tools.imports.builds import FOREIGN, path_name
 from mkcheck_tools.imports.tools import Basis
 from mkcheck_tools.replay.versions import FILE, Version, version_of
 from mkcheck_tools.run.paths import RealPath
-from mkcheck_tools.values import dataclass
 
 FORMAT = 2
 # What is no file that lasts.

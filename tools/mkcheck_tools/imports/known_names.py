@@ -4,10 +4,10 @@ from __future__ import annotations
 
 import re
 from collections.abc import Mapping
+from dataclasses import dataclass
 
 from mkcheck_tools.imports.builds import Build, Node
 from mkcheck_tools.imports.plain import Names
-from mkcheck_tools.values import dataclass
 
 # What may be such a name.
 WORD = re.compile(r"[^\s,;:'\"()`]*@[^\s,;:'\"()`]*[^\s,;:.'\"()`]")

@@ -5,6 +5,7 @@ from __future__ import annotations
 import os
 import re
 from collections.abc import Iterable
+from dataclasses import dataclass
 
 from mkcheck_tools.imports.builds import path_name
 from mkcheck_tools.imports.copies import Copies
@@ -12,7 +13,6 @@ from mkcheck_tools.imports.database import Rule
 from mkcheck_tools.imports.failing import failed_rule, failure_of_make
 from mkcheck_tools.imports.gnumake import Make, Wait
 from mkcheck_tools.run.paths import SeenPath
-from mkcheck_tools.values import dataclass
 
 # A word of a command or of its output that may be the name of a file, and the names and folders
 # that can be handed to make as they are.

@@ -11,7 +11,7 @@ import os
 import re
 import subprocess
 from collections.abc import Callable, Container, Iterable, Mapping, Sequence
-from dataclasses import replace
+from dataclasses import dataclass, replace
 from pathlib import Path
 
 from mkcheck_tools.faults import Fault
@@ -22,7 +22,6 @@ from mkcheck_tools.imports.copies import Copies, listing
 from mkcheck_tools.imports.gnumake import Make, last_words, option_words
 from mkcheck_tools.imports.inherited import reached
 from mkcheck_tools.run.places import namespace
-from mkcheck_tools.values import dataclass
 
 CLEAN = "clean"
 # How long it may take.

@@ -5,7 +5,7 @@ from __future__ import annotations
 import functools
 import os
 import shlex
-from dataclasses import field, replace
+from dataclasses import dataclass, field, replace
 
 from mkcheck_tools.gnu.remade import is_dependency_file
 from mkcheck_tools.imports.asking import Asking
@@ -25,7 +25,6 @@ from mkcheck_tools.imports.rereading import for_makefiles, touch_sources
 from mkcheck_tools.imports.telling import ASKED
 from mkcheck_tools.imports.unchanged import left_unchanged
 from mkcheck_tools.run.places import run
-from mkcheck_tools.values import dataclass
 
 # How long make may take to say what it would do.
 SECONDS_TO_ASK = 600

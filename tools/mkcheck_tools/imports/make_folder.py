@@ -5,7 +5,7 @@ from __future__ import annotations
 import os
 import re
 from collections.abc import Mapping, Sequence
-from dataclasses import field, replace
+from dataclasses import dataclass, field, replace
 from functools import partial
 from types import MappingProxyType
 
@@ -34,7 +34,6 @@ from mkcheck_tools.imports.questions import Questions
 from mkcheck_tools.imports.telling import ASKED
 from mkcheck_tools.imports.transcripts import MARK
 from mkcheck_tools.run.paths import SeenPath
-from mkcheck_tools.values import dataclass
 
 ENOUGH = (4, 0)
 # What make says of a file for which it has no rule.

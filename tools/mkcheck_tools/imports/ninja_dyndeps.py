@@ -7,11 +7,10 @@ there, it is as if all had stood in the manifest.
 from __future__ import annotations
 
 from collections.abc import Callable
-from dataclasses import field
+from dataclasses import dataclass, field
 
 from mkcheck_tools.imports.ninja_files import Edge, Manifest, canonical
 from mkcheck_tools.imports.ninja_text import NinjaFault, Reader
-from mkcheck_tools.values import dataclass
 
 
 @dataclass

@@ -8,10 +8,9 @@ from __future__ import annotations
 import os
 import re
 from collections.abc import Callable
-from dataclasses import field
+from dataclasses import dataclass, field
 
 from mkcheck_tools.imports.ninja_text import NinjaFault, Pattern, Reader
-from mkcheck_tools.values import dataclass
 
 RULE_VARIABLES = (
     "command",

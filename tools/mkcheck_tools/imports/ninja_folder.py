@@ -4,7 +4,7 @@ from __future__ import annotations
 
 import shlex
 from collections.abc import Mapping
-from dataclasses import replace
+from dataclasses import dataclass, replace
 
 from mkcheck_tools.faults import Fault
 from mkcheck_tools.imports.builds import Build, in_folder
@@ -18,7 +18,6 @@ from mkcheck_tools.imports.ninja_learning import learn
 from mkcheck_tools.imports.ninja_text import NinjaFault
 from mkcheck_tools.imports.telling import Far
 from mkcheck_tools.run.places import Place
-from mkcheck_tools.values import dataclass
 
 
 @dataclass(frozen=True)

@@ -3,10 +3,9 @@
 from __future__ import annotations
 
 from collections.abc import Callable
-from dataclasses import field
+from dataclasses import dataclass, field
 
 from mkcheck_tools.imports.ninja_files import Edge, Manifest
-from mkcheck_tools.values import dataclass
 
 
 @dataclass

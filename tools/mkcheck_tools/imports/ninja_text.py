@@ -8,8 +8,7 @@ from __future__ import annotations
 import re
 from bisect import bisect_right
 from collections.abc import Callable
-
-from mkcheck_tools.values import dataclass
+from dataclasses import dataclass
 
 # What ninja's lexer knows, in the order in which it is tried.
 TOKENS = (

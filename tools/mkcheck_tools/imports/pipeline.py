@@ -8,7 +8,7 @@ import json
 import os
 import secrets
 from collections.abc import Mapping
-from dataclasses import replace
+from dataclasses import dataclass, replace
 from functools import partial
 from typing import Generic
 
@@ -43,7 +43,6 @@ from mkcheck_tools.replay.versions import digest_of
 from mkcheck_tools.run import places
 from mkcheck_tools.run.paths import resolved
 from mkcheck_tools.run.places import Place
-from mkcheck_tools.values import dataclass
 
 STEPS = ("read", "translate", "graph", "record", "check")
 OTHER_FILES = "recipes make other files now, or other dependency files"

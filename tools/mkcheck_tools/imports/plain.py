@@ -4,12 +4,12 @@ from __future__ import annotations
 
 import re
 import shlex
+from dataclasses import dataclass
 
 from mkcheck_tools.answers.graphs import goes_on
 from mkcheck_tools.gnu.texts import FAILED_RUN_AGAIN
 from mkcheck_tools.imports.builds import Build, Command, Kind, Node, Setting
 from mkcheck_tools.run.folders import NAME_AT_MOST
-from mkcheck_tools.values import dataclass
 
 # What a name of a makefile can't hold.
 UNWRITABLE = re.compile(r"[\x00-\x20\x7f%*?\[\]:;=#$\\\"'`|&<>()]")

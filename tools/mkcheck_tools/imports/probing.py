@@ -12,7 +12,7 @@ import re
 import shutil
 import stat
 from collections.abc import Iterable, Iterator, Mapping
-from dataclasses import field
+from dataclasses import dataclass, field
 
 from mkcheck_tools.book.footprint_files import Footprints, Record
 from mkcheck_tools.book.states import Entry as Recording
@@ -24,7 +24,6 @@ from mkcheck_tools.imports.plain import shell_text
 from mkcheck_tools.imports.readings import followed
 from mkcheck_tools.imports.telling import Far
 from mkcheck_tools.run.places import Place
-from mkcheck_tools.values import dataclass
 
 BETWEEN_WORDS = re.compile(r"[\s;&|()<>\"'`=:{}\[\]]+")
 SCRIPT_AT_MOST = 1 << 20

@@ -4,10 +4,10 @@ from __future__ import annotations
 
 import resource
 from collections.abc import Iterator, Sequence
+from dataclasses import dataclass
 from typing import TypeVar
 
 from mkcheck_tools.imports.telling import ASKED
-from mkcheck_tools.values import dataclass
 
 Item = TypeVar("Item")
 # Why some weren't asked.

@@ -4,12 +4,11 @@ from __future__ import annotations
 
 import re
 from collections.abc import Callable, Iterable
-from dataclasses import field
+from dataclasses import dataclass, field
 
 from mkcheck_tools.run.paths import SeenPath
 from mkcheck_tools.trace.accesses import Accesses, Follower
 from mkcheck_tools.trace.calls import Call, texts_of
-from mkcheck_tools.values import dataclass
 
 SHELL = re.compile(r"(^|/)\w*sh$")
 

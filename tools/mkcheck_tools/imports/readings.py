@@ -8,7 +8,7 @@ from __future__ import annotations
 
 import os
 from collections.abc import Callable, Iterable, Mapping
-from dataclasses import field
+from dataclasses import dataclass, field
 
 from mkcheck_tools.faults import Fault
 from mkcheck_tools.imports.builds import Build, Kind, Node, in_folder, is_foreign, path_name
@@ -27,7 +27,6 @@ from mkcheck_tools.run.paths import SeenPath
 from mkcheck_tools.run.places import Place
 from mkcheck_tools.trace.tracing import Tracer, Watch
 from mkcheck_tools.trace.trees import Tree
-from mkcheck_tools.values import dataclass
 
 TRIED_AT_MOST = 24
 LONGEST = 1 << 20

@@ -3,11 +3,10 @@
 from __future__ import annotations
 
 from collections.abc import Mapping
-from dataclasses import field
+from dataclasses import dataclass, field
 
 from mkcheck_tools.book.note_files import Noted
 from mkcheck_tools.judge.notes import QUIET
-from mkcheck_tools.values import dataclass
 
 
 @dataclass(frozen=True)

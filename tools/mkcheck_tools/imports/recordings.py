@@ -6,7 +6,7 @@ import os
 import shutil
 import sys
 from collections.abc import Iterable, Sequence
-from dataclasses import field, replace
+from dataclasses import dataclass, field, replace
 from functools import partial
 from pathlib import Path
 
@@ -31,7 +31,6 @@ from mkcheck_tools.imports.translated import Translated, recorder, save
 from mkcheck_tools.judge.notes import Kind
 from mkcheck_tools.judge.trust import ALIKE, KEPT
 from mkcheck_tools.run.folders import prefix_of
-from mkcheck_tools.values import dataclass
 
 # How often recipes that fail are recorded behind others.
 ROUNDS_AT_MOST = 10

@@ -4,6 +4,7 @@ from __future__ import annotations
 
 import argparse
 import os
+from dataclasses import dataclass
 from pathlib import Path
 
 from mkcheck_tools.faults import Fault
@@ -14,7 +15,6 @@ from mkcheck_tools.imports.build_folders import (
     refuse_moved,
 )
 from mkcheck_tools.run.paths import RealPath, resolved
-from mkcheck_tools.values import dataclass
 
 
 @dataclass(frozen=True)

@@ -6,7 +6,7 @@ import functools
 import os
 import re
 from collections.abc import Iterable
-from dataclasses import field
+from dataclasses import dataclass, field
 
 from mkcheck_tools.book.footprint_files import Footprints
 from mkcheck_tools.gnu.rule_lines import pattern_rule
@@ -16,7 +16,6 @@ from mkcheck_tools.imports.configured import CMAKE
 from mkcheck_tools.imports.judging import UNAWARE, BuildFinding
 from mkcheck_tools.imports.known_names import known_as, whole_of
 from mkcheck_tools.run.folders import is_of_versions
-from mkcheck_tools.values import dataclass
 
 OTHERS = {
     "record": "{r} was not recorded, since the first build doesn't run it; import the goals that"

@@ -8,10 +8,10 @@ import sys
 import threading
 import time
 from collections.abc import Callable, Iterator, Sequence
+from dataclasses import dataclass
 from typing import TextIO, TypeVar
 
 from mkcheck_tools.run.progress import CLEAR, duration
-from mkcheck_tools.values import dataclass
 
 Given = TypeVar("Given")
 Item = TypeVar("Item")

@@ -8,7 +8,7 @@ import os
 import shutil
 from collections import Counter
 from collections.abc import Iterable
-from dataclasses import asdict, field, replace
+from dataclasses import asdict, dataclass, field, replace
 from typing import Any, Protocol, TypeVar
 
 from mkcheck_tools.book.states import State
@@ -34,7 +34,6 @@ from mkcheck_tools.imports.real_commands import to_build
 from mkcheck_tools.imports.request import Request
 from mkcheck_tools.imports.telling import Far
 from mkcheck_tools.run.paths import SeenPath
-from mkcheck_tools.values import dataclass
 
 Shown = TypeVar("Shown")
 Built = TypeVar("Built")

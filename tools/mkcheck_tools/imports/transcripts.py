@@ -3,11 +3,10 @@
 from __future__ import annotations
 
 import re
-from dataclasses import field
+from dataclasses import dataclass, field
 
 from mkcheck_tools.answers.graphs import goes_on
 from mkcheck_tools.imports.database import OWN, START, Database, Rule, Shown, read_database
-from mkcheck_tools.values import dataclass
 
 MARK = "@@mkcheck-import@@"
 # What a make prints when it begins to read its makefiles.

@@ -5,6 +5,7 @@ from __future__ import annotations
 import os
 import shutil
 import sys
+from dataclasses import dataclass
 from pathlib import Path
 
 from mkcheck_tools.answers.checkers import find_checker
@@ -21,7 +22,6 @@ from mkcheck_tools.imports.request import Request
 from mkcheck_tools.imports.saving import text_of_build
 from mkcheck_tools.run.places import Place
 from mkcheck_tools.trace.tracing import strace
-from mkcheck_tools.values import dataclass
 
 
 @dataclass(frozen=True)

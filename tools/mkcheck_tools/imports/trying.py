@@ -7,6 +7,7 @@ import functools
 import os
 import re
 from collections.abc import Callable, Iterator
+from dataclasses import dataclass
 from pathlib import Path
 from typing import ClassVar
 
@@ -15,7 +16,6 @@ from mkcheck_tools.imports.commits import HEAD, commits
 from mkcheck_tools.imports.database import COMPUTED_NAME, WORD
 from mkcheck_tools.imports.gnumake import Make, content
 from mkcheck_tools.imports.readers import Started
-from mkcheck_tools.values import dataclass
 
 # A line of a makefile that may compare the value of a macro. Functions that hand on what they don't
 # know, as `subst` does, don't hide it.

@@ -7,13 +7,12 @@ import os
 import re
 from collections import deque
 from collections.abc import Mapping
-from dataclasses import field
+from dataclasses import dataclass, field
 
 from mkcheck_tools.imports.builds import Build, Node, Origin, in_folder, path_name
 from mkcheck_tools.imports.database import Rule, Shown
 from mkcheck_tools.imports.expanded import Expanded
 from mkcheck_tools.imports.gnumake import Make, last_words, own_environment
-from mkcheck_tools.values import dataclass
 
 SPECIAL = re.compile(r"\.[A-Z][A-Z_]{2,}")
 # The macros that hold all prerequisites.

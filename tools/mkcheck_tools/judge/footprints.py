@@ -6,7 +6,7 @@ import os
 import stat
 import time
 from collections.abc import Iterable, Iterator
-from dataclasses import field
+from dataclasses import dataclass, field
 
 from mkcheck_tools.answers.graphs import Recipe
 from mkcheck_tools.faults import RecipeFault
@@ -16,7 +16,6 @@ from mkcheck_tools.run.folders import UNWRITTEN, Naming, is_cache, is_plain_path
 from mkcheck_tools.run.paths import Name, SeenPath, seen_in
 from mkcheck_tools.trace.accesses import DELETED, Accesses
 from mkcheck_tools.trace.trees import Tree
-from mkcheck_tools.values import dataclass
 
 TOLD_AT_MOST = 10
 # Stands for an option, till the files are known that need it.

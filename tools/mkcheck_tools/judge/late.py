@@ -12,13 +12,12 @@ from __future__ import annotations
 
 import hashlib
 from collections.abc import Iterator, Mapping, Sequence
-from dataclasses import replace
+from dataclasses import dataclass, replace
 
 from mkcheck_tools.answers.graphs import Ancestors
 from mkcheck_tools.judge.footprints import Footprint
 from mkcheck_tools.run.folders import is_own, is_plain_path
 from mkcheck_tools.run.paths import Name
-from mkcheck_tools.values import dataclass
 
 # The name of the project's folder.
 ROOT = Name(".")

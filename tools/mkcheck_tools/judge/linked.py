@@ -6,11 +6,10 @@ from __future__ import annotations
 import os
 from collections import Counter
 from collections.abc import Container, Iterable, Mapping
-from dataclasses import replace
+from dataclasses import dataclass, replace
 
 from mkcheck_tools.judge.footprints import Footprint
 from mkcheck_tools.run.paths import Name, RealPath, real_in
-from mkcheck_tools.values import dataclass
 
 
 @dataclass(frozen=True)

@@ -7,10 +7,8 @@ should know, and no yes is wrong for it.
 from __future__ import annotations
 
 from collections.abc import Callable, Container
-from dataclasses import field
+from dataclasses import dataclass, field
 from enum import Enum
-
-from mkcheck_tools.values import dataclass
 
 DOUBT, HINT = "doubt", "hint"
 

@@ -22,7 +22,7 @@ from __future__ import annotations
 
 import fnmatch
 import re
-from dataclasses import field, replace
+from dataclasses import dataclass, field, replace
 
 from mkcheck_tools.answers.graphs import Ancestors, Graph
 from mkcheck_tools.faults import RecipeFault
@@ -34,7 +34,6 @@ from mkcheck_tools.judge.notes import Kind, Note, Warn, ignore
 from mkcheck_tools.judge.refusals import listed
 from mkcheck_tools.run.folders import is_plain_path
 from mkcheck_tools.run.paths import Name
-from mkcheck_tools.values import dataclass
 
 PATTERN = re.compile(r"[*?\[]")
 

@@ -3,8 +3,7 @@
 from __future__ import annotations
 
 from collections.abc import Iterable
-
-from mkcheck_tools.values import dataclass
+from dataclasses import dataclass
 
 # What other programs of this package put before a target that they trust. No target has a colon in
 # its name. A recipe that may leave its outputs as they were is run again without these alone, and

@@ -6,7 +6,7 @@ import os
 import re
 import sys
 from collections.abc import Mapping
-from dataclasses import field
+from dataclasses import dataclass, field
 from pathlib import Path
 
 from mkcheck_tools.answers.checkers import Checker, find_checker
@@ -45,7 +45,6 @@ from mkcheck_tools.record.request import Request
 from mkcheck_tools.run.folders import Naming, sources_in
 from mkcheck_tools.run.paths import Name, RealPath, unbound
 from mkcheck_tools.run.places import Place
-from mkcheck_tools.values import dataclass
 
 VARYING_HELP = "use $?, which is empty here: write $^"
 

@@ -5,6 +5,7 @@ from __future__ import annotations
 import shlex
 import shutil
 import stat
+from dataclasses import dataclass
 from pathlib import Path
 
 from mkcheck_tools.answers.graphs import Recipe
@@ -17,7 +18,6 @@ from mkcheck_tools.run.folders import Naming, plain_folder, temporary_folder
 from mkcheck_tools.run.paths import SeenPath
 from mkcheck_tools.trace import tracing
 from mkcheck_tools.trace.accesses import Accesses, Follower
-from mkcheck_tools.values import dataclass
 
 # The shell that make is told to use: it traces each command, and notes in which order they came.
 # Inside a traced command it is the plain shell, since a make that a recipe starts gets it too.

@@ -6,11 +6,11 @@ import json
 import os
 import shutil
 from collections.abc import Iterable, Mapping
+from dataclasses import dataclass
 from pathlib import Path
 
 from mkcheck_tools.book.choices import Choice
 from mkcheck_tools.faults import Fault
-from mkcheck_tools.values import dataclass
 
 BOOK = "footprint.json"
 WORDS = "words"

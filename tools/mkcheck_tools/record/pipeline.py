@@ -9,7 +9,7 @@ import secrets
 import threading
 from collections.abc import Mapping
 from contextlib import AbstractContextManager, nullcontext
-from dataclasses import replace
+from dataclasses import dataclass, replace
 
 from mkcheck_tools.answers.graphs import Recipe, firsts_of
 from mkcheck_tools.book import formats
@@ -52,7 +52,6 @@ from mkcheck_tools.run.paths import Name, RealPath, real_in, unbound
 from mkcheck_tools.run.places import Place
 from mkcheck_tools.run.stopping import Stopped, pass_over_signals
 from mkcheck_tools.trace import tracing
-from mkcheck_tools.values import dataclass
 
 UNBOUND = (
     "the system allows no mount namespace (unshare --mount), so recipes run in a copy at another"

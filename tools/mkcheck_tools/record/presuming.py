@@ -8,7 +8,7 @@ import os
 import re
 import secrets
 from collections.abc import Iterable, Iterator
-from dataclasses import replace
+from dataclasses import dataclass, replace
 
 from mkcheck_tools.book.paths import path_of_notes, path_of_stamps, path_of_state, path_of_store
 from mkcheck_tools.book.premises import OF_SESSION, Premises, names_in, variables_now
@@ -28,7 +28,6 @@ from mkcheck_tools.replay.worlds import FOLDERS
 from mkcheck_tools.run.ending import write_text
 from mkcheck_tools.run.folders import is_own
 from mkcheck_tools.run.paths import RealPath, real_in, unbound
-from mkcheck_tools.values import dataclass
 
 # Programs by whose versions or presence a recording goes.
 PROGRAMS = ("strace", "make", "mkcheck", "c17", "git")

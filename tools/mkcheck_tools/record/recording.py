@@ -11,7 +11,7 @@ import tempfile
 import time
 from collections.abc import Callable, Iterator, Mapping
 from contextlib import AbstractContextManager, nullcontext
-from dataclasses import field, replace
+from dataclasses import dataclass, field, replace
 
 from mkcheck_tools.answers.graphs import Ancestors, Command, Recipe
 from mkcheck_tools.book.updating import Conditions, Updating
@@ -54,7 +54,6 @@ from mkcheck_tools.trace.accesses import Accesses, Follower
 from mkcheck_tools.trace.makes import Makes
 from mkcheck_tools.trace.tracing import Tracer, Watch, is_side_by_side
 from mkcheck_tools.trace.trees import Tree
-from mkcheck_tools.values import dataclass
 
 Follow = Callable[[], World]
 # What LeakSanitizer says of a tracer.

@@ -3,6 +3,7 @@
 from __future__ import annotations
 
 import os
+from dataclasses import dataclass
 
 from mkcheck_tools.book.choices import Choice
 from mkcheck_tools.book.paths import (
@@ -12,7 +13,6 @@ from mkcheck_tools.book.paths import (
     path_of_store,
 )
 from mkcheck_tools.run.paths import RealPath
-from mkcheck_tools.values import dataclass
 
 
 @dataclass(frozen=True)

@@ -11,11 +11,11 @@ from __future__ import annotations
 import os
 import re
 from collections.abc import Iterable
+from dataclasses import dataclass
 
 from mkcheck_tools.replay.differences import is_file
 from mkcheck_tools.replay.worlds import Trial
 from mkcheck_tools.run.paths import Name
-from mkcheck_tools.values import dataclass
 
 
 @dataclass(frozen=True)

@@ -4,12 +4,12 @@ from __future__ import annotations
 
 import os
 from collections.abc import Iterator, Mapping
+from dataclasses import dataclass
 
 from mkcheck_tools.replay.layouts import Layout
 from mkcheck_tools.replay.versions import FILE, FOLDER, LINK, NOWHERE, Version, version_of
 from mkcheck_tools.replay.worlds import EMPTY, OTHER, Trial, above, entries, mode_of, stamp_of
 from mkcheck_tools.run.paths import Name, RealPath, real_in
-from mkcheck_tools.values import dataclass
 
 SHOWN_BYTES = 1 << 16
 

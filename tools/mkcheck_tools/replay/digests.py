@@ -10,14 +10,13 @@ import contextlib
 import os
 import stat
 import threading
-from dataclasses import field
+from dataclasses import dataclass, field
 from queue import SimpleQueue
 
 from mkcheck_tools.faults import Fault
 from mkcheck_tools.replay.versions import LARGE, digest_of
 from mkcheck_tools.run.paths import RealPath, SeenPath
 from mkcheck_tools.trace.calls import OPENS, WRITING, Call, path_of, text_of
-from mkcheck_tools.values import dataclass
 
 
 @dataclass

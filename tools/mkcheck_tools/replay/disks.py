@@ -4,6 +4,7 @@ memory than on a disk, and in a folder that had more files once."""
 from __future__ import annotations
 
 from collections.abc import Mapping
+from dataclasses import dataclass
 
 from mkcheck_tools.replay.runs import BARE, Outcome, Runner
 from mkcheck_tools.replay.surroundings import AS_RECORDED, Surroundings
@@ -12,7 +13,6 @@ from mkcheck_tools.replay.worlds import Trial, stamps_of
 from mkcheck_tools.run.folders import remove
 from mkcheck_tools.run.paths import Name, real_in
 from mkcheck_tools.run.places import Place
-from mkcheck_tools.values import dataclass
 
 # What a run left: why it failed, if it did, and what stands at each name that the recipe writes.
 Left = tuple[str, Mapping[Name, Version | None]]

@@ -7,13 +7,12 @@ from __future__ import annotations
 
 import os
 import re
-from dataclasses import replace
+from dataclasses import dataclass, replace
 
 from mkcheck_tools.replay.disks import Bare, Left
 from mkcheck_tools.replay.runs import BARE, DRAWN, Outcome
 from mkcheck_tools.replay.surroundings import SEEDS, Surroundings
 from mkcheck_tools.replay.worlds import Trial
-from mkcheck_tools.values import dataclass
 
 PROGRAM = re.compile(r"(?:python|pypy|perl|ruby|lua|luajit|texlua|guile)[0-9.]*(?:-[0-9.]+)?")
 # How many runs there are of a recipe that takes at most this many seconds, and of others.

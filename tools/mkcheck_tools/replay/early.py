@@ -23,7 +23,7 @@ import threading
 from collections.abc import Callable, Iterable, Iterator, Mapping
 from concurrent import futures
 from concurrent.futures import Future, ThreadPoolExecutor
-from dataclasses import field
+from dataclasses import dataclass, field
 from typing import Any
 
 from mkcheck_tools.replay.alike import Way, way_of
@@ -37,7 +37,6 @@ from mkcheck_tools.run.paths import Name, RealPath, SeenPath, seen_in, unbound
 from mkcheck_tools.run.places import DEVICES, TEMPORARY
 from mkcheck_tools.run.progress import Progress
 from mkcheck_tools.trace.accesses import Accesses
-from mkcheck_tools.values import dataclass
 
 PROCESSES = "/proc"
 # What is said of replays that are waited for.

@@ -6,7 +6,7 @@ import contextlib
 import os
 import time
 from collections.abc import Container, Iterable, Mapping
-from dataclasses import replace
+from dataclasses import dataclass, replace
 
 from mkcheck_tools.faults import Fault
 from mkcheck_tools.replay.differences import Difference, changed
@@ -19,7 +19,6 @@ from mkcheck_tools.replay.worlds import GIVEN, Trial, stamp_of, stamps_of
 from mkcheck_tools.run.folders import remove
 from mkcheck_tools.run.paths import Name, RealPath, real_in
 from mkcheck_tools.run.places import Place
-from mkcheck_tools.values import dataclass
 
 # Between the stamps of files that a recipe only looks at, in nanoseconds.
 APART = 1000

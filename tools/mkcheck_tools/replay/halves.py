@@ -6,7 +6,7 @@ import threading
 from collections.abc import Callable, Iterator, Mapping
 from concurrent import futures
 from concurrent.futures import Future, ThreadPoolExecutor
-from dataclasses import replace
+from dataclasses import dataclass, replace
 from typing import Any
 
 from mkcheck_tools.faults import FULL, mistake_of
@@ -22,7 +22,6 @@ from mkcheck_tools.run.memory import is_full
 from mkcheck_tools.run.paths import Name
 from mkcheck_tools.run.places import Place
 from mkcheck_tools.run.progress import SECONDS_SHOWN, Progress
-from mkcheck_tools.values import dataclass
 
 
 @dataclass(frozen=True)

@@ -9,7 +9,7 @@ import os
 import stat
 import time
 from collections.abc import Container, Iterable, Iterator, Mapping
-from dataclasses import field, replace
+from dataclasses import dataclass, field, replace
 
 from mkcheck_tools.answers.graphs import Ancestors
 from mkcheck_tools.replay import orders
@@ -28,7 +28,6 @@ from mkcheck_tools.replay.worlds import (
 )
 from mkcheck_tools.run.folders import remove
 from mkcheck_tools.run.paths import Name, RealPath, real_in
-from mkcheck_tools.values import dataclass
 
 # How many blocks a file with holes has at most.
 MOST_BLOCKS = 1 << 12

@@ -9,13 +9,12 @@ import heapq
 import os
 import tempfile
 from collections.abc import Iterable, Mapping, Sequence
-from dataclasses import field
+from dataclasses import dataclass, field
 from enum import Enum
 
 from mkcheck_tools.answers.graphs import Ancestors
 from mkcheck_tools.replay.orders import bounds
 from mkcheck_tools.run.paths import Name, RealPath
-from mkcheck_tools.values import dataclass
 
 # The names of a probe, in no order that a digest would give by chance.
 PROBES = ("m", "c", "z", "a", "k", "x", "b")

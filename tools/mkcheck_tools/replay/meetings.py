@@ -9,12 +9,11 @@ from __future__ import annotations
 import contextlib
 import threading
 from collections.abc import Iterable, Iterator, Mapping
-from dataclasses import field
+from dataclasses import dataclass, field
 
 from mkcheck_tools.judge.footprints import Footprint
 from mkcheck_tools.replay.worlds import Trial
 from mkcheck_tools.run.folders import is_own
-from mkcheck_tools.values import dataclass
 
 Meetings = Mapping[str, tuple[str, ...]]
 

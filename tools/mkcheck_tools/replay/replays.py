@@ -27,7 +27,7 @@ import threading
 from collections.abc import Iterable, Iterator, Mapping
 from concurrent import futures
 from concurrent.futures import Future, ThreadPoolExecutor
-from dataclasses import field, replace
+from dataclasses import dataclass, field, replace
 from typing import Any
 
 from mkcheck_tools.answers.graphs import Ancestors
@@ -84,7 +84,6 @@ from mkcheck_tools.run.places import Place
 from mkcheck_tools.run.progress import SECONDS_SHOWN, Progress
 from mkcheck_tools.trace.accesses import Accesses, Follower
 from mkcheck_tools.trace.trees import Tree
-from mkcheck_tools.values import dataclass
 
 # What most recipes go by that do something else amid other surroundings.
 LIKELY = (FLAGS, CLOCK, FOLDERS, SOURCES, VARIABLES, MACHINE, EARLIER, STALE)

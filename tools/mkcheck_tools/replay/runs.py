@@ -8,7 +8,7 @@ import threading
 import time
 from collections.abc import Callable, Mapping, Sequence
 from concurrent.futures import Future
-from dataclasses import field, replace
+from dataclasses import dataclass, field, replace
 from pathlib import Path
 
 from mkcheck_tools.faults import Fault
@@ -36,7 +36,6 @@ from mkcheck_tools.run.places import Place
 from mkcheck_tools.run.progress import first_line
 from mkcheck_tools.trace.accesses import Follower
 from mkcheck_tools.trace.tracing import Watch, failing, read_trace, strace
-from mkcheck_tools.values import dataclass
 
 BARE, AGAIN, DAMAGED, LOOKED, ORDERED = "bare", "again", "damaged", "looked", "ordered"
 # A run amid other surroundings, of which no kind alone shows anything; those of make -j2.

@@ -18,6 +18,7 @@ import subprocess
 import tempfile
 import time
 from collections.abc import Iterator, Mapping, Sequence
+from dataclasses import dataclass
 
 from mkcheck_tools.answers.graphs import Command
 from mkcheck_tools.replay.orders import KEPT
@@ -25,7 +26,6 @@ from mkcheck_tools.replay.worlds import OTHER_BYTES
 from mkcheck_tools.run.machines import elsewhere, other_user
 from mkcheck_tools.run.places import Place
 from mkcheck_tools.run.terminals import Terminal, has_terminals, terminal
-from mkcheck_tools.values import dataclass
 
 FLAGS, JOBS, CLOCK, INPUT = "flags", "jobs", "clock", "input"
 NAMES, FOLDERS, TERMINAL, SOURCES = "names", "folders", "terminal", "sources"

@@ -5,7 +5,7 @@ from __future__ import annotations
 import os
 from collections import Counter
 from collections.abc import Iterable, Iterator, Mapping
-from dataclasses import field
+from dataclasses import dataclass, field
 
 from mkcheck_tools.answers.graphs import Recipe
 from mkcheck_tools.faults import Failure, Fault, failure_of
@@ -43,7 +43,6 @@ from mkcheck_tools.replay.surroundings import (
 )
 from mkcheck_tools.replay.worlds import GIVEN, Trial
 from mkcheck_tools.run.paths import Name
-from mkcheck_tools.values import dataclass
 
 SHOWN_AT_MOST = 10
 

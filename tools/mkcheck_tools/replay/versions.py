@@ -11,13 +11,12 @@ import threading
 import time
 from collections import defaultdict
 from collections.abc import Iterator
-from dataclasses import field
+from dataclasses import dataclass, field
 from io import FileIO
 
 from mkcheck_tools.faults import Fault
 from mkcheck_tools.run import stopping
 from mkcheck_tools.run.paths import RealPath, real_in
-from mkcheck_tools.values import dataclass
 
 FILE = "file"
 LINK = "link"

@@ -8,7 +8,7 @@ import os
 import stat
 import time
 from collections.abc import Iterable, Iterator, Mapping, Sequence
-from dataclasses import field, replace
+from dataclasses import dataclass, field, replace
 
 from mkcheck_tools.answers.graphs import Recipe
 from mkcheck_tools.faults import Fault
@@ -28,7 +28,6 @@ from mkcheck_tools.replay.versions import (
 from mkcheck_tools.replay.versions import stamp_of as file_stamp
 from mkcheck_tools.run.folders import is_own
 from mkcheck_tools.run.paths import Name, RealPath, real_in
-from mkcheck_tools.values import dataclass
 
 # A file that was there before any recipe, and that no recipe has changed yet.
 GIVEN = Version("given", 0, "")

@@ -3,10 +3,10 @@
 from __future__ import annotations
 
 from collections.abc import Collection
+from dataclasses import dataclass
 
 from mkcheck_tools.answers.graphs import Graph
 from mkcheck_tools.book.footprint_files import Record, read_footprints
-from mkcheck_tools.values import dataclass
 
 
 @dataclass(frozen=True)

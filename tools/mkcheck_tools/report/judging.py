@@ -3,7 +3,7 @@
 from __future__ import annotations
 
 from collections.abc import Iterable
-from dataclasses import field, replace
+from dataclasses import dataclass, field, replace
 
 from mkcheck_tools.answers.checkers import Checker
 from mkcheck_tools.answers.findings import (
@@ -22,7 +22,6 @@ from mkcheck_tools.report.books import Reached, book_of
 from mkcheck_tools.report.escaping import counted, visible
 from mkcheck_tools.report.makefiles import Makefiles
 from mkcheck_tools.report.origins import Origins
-from mkcheck_tools.values import dataclass
 
 
 @dataclass(frozen=True)

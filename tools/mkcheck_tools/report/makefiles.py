@@ -4,10 +4,10 @@ from __future__ import annotations
 
 import os
 import re
+from dataclasses import dataclass
 
 from mkcheck_tools.answers.graphs import goes_on
 from mkcheck_tools.report.escaping import markup
-from mkcheck_tools.values import dataclass
 
 BEFORE, BEHIND = 2, 5
 SHOWN_AT_MOST = 14

@@ -6,14 +6,13 @@ import json
 import os
 import posixpath
 from collections.abc import Iterable, Iterator
-from dataclasses import field, replace
+from dataclasses import dataclass, field, replace
 from pathlib import Path
 from typing import Any
 
 from mkcheck_tools.answers.findings import Group
 from mkcheck_tools.gnu.rule_lines import rule_line
 from mkcheck_tools.report.makefiles import Makefiles
-from mkcheck_tools.values import dataclass
 
 MAP = "map.json"
 

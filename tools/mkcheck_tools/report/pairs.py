@@ -3,9 +3,9 @@
 from __future__ import annotations
 
 from collections.abc import Sequence
+from dataclasses import dataclass
 
 from mkcheck_tools.answers.findings import Finding, Group
-from mkcheck_tools.values import dataclass
 
 RACE, STALE = "race", "stale"
 

@@ -5,7 +5,7 @@ from __future__ import annotations
 import os
 from collections.abc import Iterator, Sequence
 from concurrent.futures import ThreadPoolExecutor
-from dataclasses import field
+from dataclasses import dataclass, field
 from functools import partial
 
 from mkcheck_tools.answers.findings import Finding, Group
@@ -19,7 +19,6 @@ from mkcheck_tools.report.pairs import Shared, shared
 from mkcheck_tools.report.parts import Budget, clipped_lines, look_of, place_of
 from mkcheck_tools.report.pictures import Drawing, around, as_list, drawn
 from mkcheck_tools.report.schedules import Plans, plans
-from mkcheck_tools.values import dataclass
 
 # How much is shown in full, so that a page stays small.
 DETAILED_AT_MOST = 60

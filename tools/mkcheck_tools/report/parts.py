@@ -3,11 +3,11 @@
 from __future__ import annotations
 
 from collections.abc import Sequence
+from dataclasses import dataclass
 
 from mkcheck_tools.answers.findings import Group
 from mkcheck_tools.report.escaping import clipped, counted, markup
 from mkcheck_tools.report.pictures import width_of
-from mkcheck_tools.values import dataclass
 
 # Up to this width a graph is shown on a narrow screen, too.
 NARROW = 330

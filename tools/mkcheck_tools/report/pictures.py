@@ -7,13 +7,12 @@ import shutil
 import subprocess
 import xml.etree.ElementTree as Tree
 from collections.abc import Collection
-from dataclasses import field
+from dataclasses import dataclass, field
 
 from mkcheck_tools.answers.findings import Answer
 from mkcheck_tools.answers.graphs import Graph
 from mkcheck_tools.report.books import Reached
 from mkcheck_tools.report.escaping import counted, dot_string, markup, shortened, visible
-from mkcheck_tools.values import dataclass
 
 SVG = "http://www.w3.org/2000/svg"
 XLINK = "http://www.w3.org/1999/xlink"

@@ -7,12 +7,11 @@ between them. A row says how many are left out.
 from __future__ import annotations
 
 import unicodedata
-from dataclasses import field
+from dataclasses import dataclass, field
 
 from mkcheck_tools.answers.findings import Finding
 from mkcheck_tools.answers.plans import Edit, Make, Phase, Run
 from mkcheck_tools.report.escaping import counted, markup, shortened, visible
-from mkcheck_tools.values import dataclass
 
 WIDTH, LEFT, ROW, GAP, BYTE, TEXT = 338, 48, 22, 6, 6.7, 262
 BETWEEN_AT_MOST = 3

@@ -12,12 +12,11 @@ import stat
 import tempfile
 import time
 from collections.abc import Iterator, Mapping
-from dataclasses import field
+from dataclasses import dataclass, field
 
 from mkcheck_tools.faults import Fault
 from mkcheck_tools.run import stopping
 from mkcheck_tools.run.paths import Name, RealPath, SeenPath, resolved, seen_in
-from mkcheck_tools.values import dataclass
 
 # Where programs and libraries of the system lie.
 SYSTEM = ("/usr/", "/lib/", "/lib64/", "/bin/", "/etc/", "/opt/")

@@ -11,11 +11,10 @@ import os
 import shutil
 import subprocess
 from collections.abc import Iterator, Sequence
-from dataclasses import replace
+from dataclasses import dataclass, replace
 
 from mkcheck_tools.run import places, stopping
 from mkcheck_tools.run.places import Namespace, Place, mounter, namespace
-from mkcheck_tools.values import dataclass
 
 READY = b"ready\n"
 HOLD = " && echo ready && exec cat > /dev/null"

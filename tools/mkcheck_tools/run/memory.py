@@ -13,12 +13,11 @@ import shutil
 import subprocess
 import threading
 from collections.abc import Iterator
-from dataclasses import field
+from dataclasses import dataclass, field
 
 from mkcheck_tools.run.holders import Holder, held
 from mkcheck_tools.run.paths import RealPath, SeenPath, real_in
 from mkcheck_tools.run.places import Place, mounter, shut
-from mkcheck_tools.values import dataclass
 
 # How much it holds at most: a part of what is free, and no more than this.
 PART = 4

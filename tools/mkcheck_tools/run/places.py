@@ -22,7 +22,7 @@ import tempfile
 import threading
 import time
 from collections.abc import Iterable, Iterator, Mapping, Sequence
-from dataclasses import replace
+from dataclasses import dataclass, replace
 from pathlib import Path
 
 from mkcheck_tools.faults import Fault
@@ -31,7 +31,6 @@ from mkcheck_tools.run.escapes import unescaped
 from mkcheck_tools.run.folders import temporary_folder
 from mkcheck_tools.run.paths import RealPath, SeenPath, unbound
 from mkcheck_tools.run.terminals import Terminal
-from mkcheck_tools.values import dataclass
 
 # Folders for temporary files, which stay open, and what no file system of a disk holds.
 TEMPORARY = ("/tmp", "/var/tmp")

@@ -9,9 +9,7 @@ import select
 import termios
 import threading
 from collections.abc import Iterator
-from dataclasses import field
-
-from mkcheck_tools.values import dataclass
+from dataclasses import dataclass, field
 
 PIECE = 1 << 16
 # How many pieces are taken at most when commands are over: a process that is left may go on.

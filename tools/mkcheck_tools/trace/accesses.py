@@ -5,7 +5,7 @@ from __future__ import annotations
 import os
 import re
 from collections.abc import Iterable, Mapping
-from dataclasses import field
+from dataclasses import dataclass, field
 
 from mkcheck_tools.run import stopping
 from mkcheck_tools.run.paths import SeenPath, seen_in
@@ -29,7 +29,6 @@ from mkcheck_tools.trace.calls import (
 from mkcheck_tools.trace.makes import is_make, is_part, is_system
 from mkcheck_tools.trace.programs import interpreters_of
 from mkcheck_tools.trace.trees import ROOT, Owner, Tree, moved_to
-from mkcheck_tools.values import dataclass
 
 INTERPRETERS_AT_MOST = 4
 # Programs in which what they read decides nothing of what they do where a write fails.

@@ -5,12 +5,11 @@ from __future__ import annotations
 import functools
 import re
 from collections.abc import Iterable
-from dataclasses import field
+from dataclasses import dataclass, field
 
 from mkcheck_tools.faults import Fault
 from mkcheck_tools.run.escapes import unescaped
 from mkcheck_tools.run.paths import SeenPath
-from mkcheck_tools.values import dataclass
 
 # What is traced: whatever opens, lists, starts, links, renames, removes, stamps or changes a file,
 # and what is needed to follow relative paths. strace passes over those that a machine doesn't have.

@@ -5,12 +5,11 @@ from __future__ import annotations
 import os
 import re
 from collections.abc import Iterable
-from dataclasses import field
+from dataclasses import dataclass, field
 
 from mkcheck_tools.run.folders import UNWRITTEN
 from mkcheck_tools.run.toolchains import fixed_prefixes
 from mkcheck_tools.trace.calls import FORKS, Call, path_of, text_of
-from mkcheck_tools.values import dataclass
 
 # The programs that count as a make: each reads a makefile or a ninja file whose recipes aren't
 # judged here.

@@ -13,7 +13,7 @@ import subprocess
 import tempfile
 import threading
 from collections.abc import Callable, Mapping
-from dataclasses import field
+from dataclasses import dataclass, field
 from pathlib import Path
 
 from mkcheck_tools.faults import Fault
@@ -33,7 +33,6 @@ from mkcheck_tools.trace.calls import (
     cut,
 )
 from mkcheck_tools.trace.makes import Makes
-from mkcheck_tools.values import dataclass
 
 # What a make hands down to the makes that it starts says nothing of this one.
 OF_MAKE = (

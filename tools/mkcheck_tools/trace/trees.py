@@ -10,12 +10,11 @@ from __future__ import annotations
 import functools
 import os
 import stat
-from dataclasses import field
+from dataclasses import dataclass, field
 
 from mkcheck_tools.run.folders import entries_of
 from mkcheck_tools.run.paths import RealPath, SeenPath, seen_in
 from mkcheck_tools.run.places import Place
-from mkcheck_tools.values import dataclass
 
 LINKS_AT_MOST = 40
 ROOT = SeenPath("/")
