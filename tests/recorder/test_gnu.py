@@ -7,7 +7,7 @@ import shutil
 import subprocess
 import unittest
 
-from recorder.project import OF_MAKE, ProjectTest, traced
+from recorder.project import MKCHECK, OF_MAKE, ProjectTest, traced
 
 
 def refusal(name: str, value: str, word: str) -> str:
@@ -95,6 +95,21 @@ def built_in(name: str, origin: str, here: str) -> str:
         f" {name} {here} here; write that rule into the makefile, or give -r to make, to mkcheck"
         " and to mkcheck-record"
     )
+
+
+@traced
+class QuestionsTest(ProjectTest):
+    """What mkcheck is asked for a recording."""
+
+    def test_a_plain_makefile_takes_few_questions(self) -> None:
+        """Each starts a process, and most builds of one file take less than twenty of these."""
+        asked, script = self.scratch / "asked", self.scratch / "mkcheck"
+        script.write_text(f'#!/bin/sh\necho "$1" >> {asked}\nexec {MKCHECK} "$@"\n')
+        script.chmod(0o755)
+        self.write({"makefile": "a: s\n\tcp s a\n", "s": "1\n"})
+        outcome = self.recorded(environment={"MKCHECK": str(script)})
+        self.assertEqual(outcome.own("a"), ({"s"}, {"a"}))
+        self.assertLessEqual(len(asked.read_text().splitlines()), 12)
 
 
 @traced

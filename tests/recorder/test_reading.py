@@ -2,8 +2,11 @@
 
 from __future__ import annotations
 
+import os
+import threading
 import unittest
 from pathlib import Path
+from unittest import mock
 
 from mkcheck_tools.answers.graphs import Command, read_graph
 from mkcheck_tools.faults import Fault
@@ -23,6 +26,7 @@ from mkcheck_tools.trace.calls import (
     read_calls,
     text_of,
 )
+from mkcheck_tools.trace.tracing import Listener
 from mkcheck_tools.trace.trees import Tree
 
 TRACES = Path(__file__).resolve().parent / "traces"
@@ -228,6 +232,57 @@ class TracedTest(unittest.TestCase):
     def test_each_call_is_followed(self) -> None:
         for name in (SAME.get(name, name) for name in TRACED if name not in OTHERS):
             self.assertTrue(hasattr(Follower, f"on_{name}"), name)
+
+
+class ListenerTest(unittest.TestCase):
+    """A trace that is read while it is written."""
+
+    LINE = b'12 mkdir("/nowhere/p/d", 0777) = 0\n'
+
+    def listened(self, parts: list[bytes]) -> tuple[Listener, int]:
+        """What hears a trace that is written in these parts, and how often it reads."""
+        inner, outer = os.pipe()
+        listener = Listener(inner)
+        with mock.patch("os.read", wraps=os.read) as read:
+            reading = threading.Thread(target=listener.listen)
+            reading.start()
+            for part in parts:
+                os.write(outer, part)
+            os.close(outer)
+            listener.over.set()
+            reading.join()
+        return listener, read.call_count
+
+    def test_many_lines_are_read_at_a_time(self) -> None:
+        """strace writes each by itself, and to wake what reads it takes longer than to write it."""
+        listener, reads = self.listened([self.LINE] * 1000)
+        self.assertEqual([call.name for call in listener.trace.found], ["mkdir"] * 1000)
+        self.assertLess(reads, 100)
+
+    def test_a_line_in_two_parts_is_one(self) -> None:
+        listener, _ = self.listened([self.LINE + self.LINE[:9], self.LINE[9:]])
+        self.assertEqual([call.name for call in listener.trace.found], ["mkdir"] * 2)
+        self.assertIsNone(listener.fault)
+
+    def test_a_last_line_without_an_end_is_a_fault(self) -> None:
+        listener, _ = self.listened([self.LINE, self.LINE[:9]])
+        self.assertEqual([call.name for call in listener.trace.found], ["mkdir"])
+        self.assertIsNotNone(listener.fault)
+
+
+class TreeTest(unittest.TestCase):
+    """Where names lead over links."""
+
+    def test_a_name_leads_elsewhere_when_a_link_on_its_way_is_another_one(self) -> None:
+        tree = Tree(Place(RealPath("/nowhere/p"), SeenPath("/nowhere/p")))
+        name = SeenPath("/nowhere/p/d/x")
+        self.assertEqual(tree.own(name)[0], name)
+        tree.link(SeenPath("/nowhere/p/d"), "a")
+        self.assertEqual(tree.own(name)[0], "/nowhere/p/a/x")
+        tree.link(SeenPath("/nowhere/p/d"), "b")
+        self.assertEqual(tree.own(name)[0], "/nowhere/p/b/x")
+        tree.remove(SeenPath("/nowhere/p/d"))
+        self.assertEqual(tree.own(name)[0], name)
 
 
 class FollowerTest(unittest.TestCase):

@@ -12,7 +12,7 @@ import re
 import shutil
 import tempfile
 from collections.abc import Mapping, Sequence
-from dataclasses import dataclass, replace
+from dataclasses import dataclass, field, replace
 
 from mkcheck_tools.answers.checkers import Checker
 from mkcheck_tools.answers.graphs import Graph
@@ -30,6 +30,11 @@ NOT_TAKEN = ("SHELL", "MAKEFLAGS", "MFLAGS", "MAKELEVEL", "MAKEOVERRIDES", "MAKE
 STANDING = ("PWD", "OLDPWD")
 PROBE = "mkcheck-record-probe"
 SAYS = "value="
+# Macros for which each makefile is asked, one after another: mkcheck is asked for all at once.
+OFTEN = (
+    *("SHELL", "MAKEFLAGS", "VPATH"),
+    *(".SHELLFLAGS", ".DEFAULT_GOAL", ".RECIPEPREFIX", ".EXTRA_PREREQS"),
+)
 POSIX_SHELLS = ("", "sh", "/bin/sh", "/usr/bin/sh")
 C17 = re.compile(r"(?:^|[;&|({]\s*)c17(?=\s|$)")
 
@@ -39,6 +44,8 @@ class Prober:
     """Asks mkcheck about the makefile with other text around it."""
 
     build: Unrecorded
+    known: dict[str, str] = field(default_factory=dict, compare=False)
+    """The values of the macros `OFTEN`, where mkcheck was asked for them."""
 
     @property
     def checker(self) -> Checker:
@@ -83,12 +90,12 @@ class Prober:
 
     def with_files(self, *names: str) -> Prober:
         """One that asks as if these files were there too."""
-        return replace(self, build=replace(self.build, files=[*self.files, *names]))
+        return Prober(replace(self.build, files=[*self.files, *names]))
 
     def with_options(self, *options: str) -> Prober:
         """One that asks by these options too."""
         checker = replace(self.checker, options=(*self.checker.options, *options))
-        return replace(self, build=replace(self.build, checker=checker))
+        return Prober(replace(self.build, checker=checker))
 
     def ruled(self, names: Sequence[str], user: str) -> list[str]:
         """Those of some names, none of which is there, that the makefile makes by recipes, and that
@@ -114,7 +121,13 @@ class Prober:
     def values(self, *names: str, front: Mapping[str, str] | None = None) -> list[str]:
         """The values of macros, each empty where the makefile sets none. `front` has macros that
         are set before it."""
-        return self.expanded(*(f"$({name})" for name in names), front=front)
+        if front is not None or not set(names) <= set(OFTEN):
+            return self.expanded(*(f"$({name})" for name in names), front=front)
+        if not self.known:
+            texts = [f"$({name})" for name in OFTEN]
+            found = self.tried(texts, {}) or [self.expanded(text)[0] for text in texts]
+            self.known.update(zip(OFTEN, found))
+        return [self.known[name] for name in names]
 
     def expanded(self, *texts: str, front: Mapping[str, str] | None = None) -> list[str]:
         """What texts of a command give, or nothing for each where mkcheck refuses one."""

@@ -104,9 +104,10 @@ def made_first(prober: Prober) -> list[str]:
     return [name for name in names if name in targets]
 
 
-def warn_of_remade(prober: Prober, warn: Warn) -> None:
-    """Warns of each text of the makefile that has a recipe: GNU make makes it and reads it anew."""
-    for name in made_first(prober):
+def warn_of_remade(prober: Prober, made: list[str], warn: Warn) -> None:
+    """Warns of each text of the makefile that has a recipe, as `made_first` gives them: GNU make
+    makes it and reads it anew."""
+    for name in made:
         own = name == prober.makefile
         when = "first and reads it anew" if own else "before it reads the makefile"
         text = (
@@ -116,9 +117,9 @@ def warn_of_remade(prober: Prober, warn: Warn) -> None:
         warn(Note("", Kind.REMADE, text))
 
 
-def warn_of_goal(graph: Graph, prober: Prober, warn: Warn) -> None:
+def warn_of_goal(graph: Graph, prober: Prober, made: list[str], warn: Warn) -> None:
     """Warns where GNU make may take another goal than the one that is recorded: one that the
-    makefile names by a macro, or one of an included text that it makes first."""
+    makefile names by a macro, or one of an included text that it makes first (`made_first`)."""
     if any("=" not in word for word in prober.checker.words):
         return
     (goal,) = prober.values(".DEFAULT_GOAL")
@@ -127,7 +128,7 @@ def warn_of_goal(graph: Graph, prober: Prober, warn: Warn) -> None:
             warn(Note("", Kind.GOAL, f"GNU make takes {goal} as the goal: give it as a word"))
         return
     goal = graph.goals[0]
-    for name in made_first(prober):
+    for name in made:
         there = os.path.exists(os.path.join(prober.folder, name))
         if not there and gives_goal(prober, name):
             text = (

@@ -22,7 +22,7 @@ from mkcheck_tools.gnu.macros import (
     with_shell,
 )
 from mkcheck_tools.gnu.predefined import refuse_predefined
-from mkcheck_tools.gnu.remade import warn_of_goal, warn_of_remade
+from mkcheck_tools.gnu.remade import made_first, warn_of_goal, warn_of_remade
 from mkcheck_tools.gnu.searched import warn_of_searched, why_not_found
 from mkcheck_tools.gnu.stems import warn_of_stem
 from mkcheck_tools.gnu.texts import (
@@ -124,8 +124,9 @@ def warn_of_varying(build: Unrecorded, warn: Warn) -> list[str]:
 def warn_of_makes(graph: Graph, prober: Prober, operands: dict[str, str], warn: Warn) -> None:
     """Warns of what makes would read, choose or make otherwise."""
     warn_of_environment(graph, prober, operands, warn)
-    warn_of_remade(prober, warn)
-    warn_of_goal(graph, prober, warn)
+    made = made_first(prober)
+    warn_of_remade(prober, made, warn)
+    warn_of_goal(graph, prober, made, warn)
     warn_of_wait(graph, prober, warn)
     warn_of_searched(graph, prober, prober.files, warn)
     warn_of_given_options(os.environ, warn)

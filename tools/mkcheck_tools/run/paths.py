@@ -24,7 +24,7 @@ def real_in(folder: RealPath, name: str) -> RealPath:
 
 def seen_in(folder: SeenPath, name: str) -> SeenPath:
     """Where a command finds a file by its name from a folder."""
-    return SeenPath(os.path.join(folder, name))
+    return SeenPath(name if name.startswith("/") else os.path.join(folder, name))
 
 
 def resolved(path: str) -> RealPath:

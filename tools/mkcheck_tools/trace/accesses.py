@@ -620,7 +620,7 @@ class Follower:
 
     def plainly(self, call: Call, path: SeenPath) -> SeenPath:
         """A path without `/proc/self/cwd` or `/proc/self/root` at its front."""
-        found = OF_PROCESS.match(path)
+        found = OF_PROCESS.match(path) if path.startswith("/proc/") else None
         if found is None:
             return path
         process, kind = found.groups()

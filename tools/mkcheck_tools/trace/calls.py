@@ -2,6 +2,7 @@
 
 from __future__ import annotations
 
+import functools
 import re
 from collections.abc import Iterable
 from dataclasses import dataclass, field
@@ -438,6 +439,7 @@ def texts_of(argument: str) -> list[str] | None:
     return [text_of(text) or "" for text in texts] if is_whole else None
 
 
+@functools.lru_cache(maxsize=1 << 12)
 def path_of(argument: str) -> SeenPath | None:
     """The path that stands behind a descriptor, where it is that of a file."""
     found = DESCRIPTOR.match(argument)

@@ -69,6 +69,9 @@ MOMENT = 0.2
 # The same for one to which a signal was sent that ends it.
 PATIENCE = 10.0
 PIPE_SIZE = 1 << 20
+# How long a trace is left to grow before it is read again, in seconds. Else strace wakes this
+# program at each line, and a compiler makes a thousand calls that are traced.
+PAUSE = 0.005
 # How long the words of commands may be that are written out.
 TEXT_AT_MOST = str(1 << 20)
 
@@ -207,12 +210,28 @@ class Listener:
     taken: int = 0
     """How many of the trace's calls were seen."""
 
+    over: threading.Event = field(default_factory=threading.Event)
+    """Set when the command has ended, so that the rest is read at once."""
+
     def listen(self) -> None:
-        """Reads to the end of the trace. What is wrong with it is kept for later."""
-        with open(self.pipe, encoding="utf-8", errors="surrogateescape", newline="\n") as lines:
-            for line in lines:
-                if self.fault is None:
-                    self.take(line)
+        """Reads to the end of the trace, many lines at a time. What is wrong with it is kept for
+        later."""
+        rest = b""
+        try:
+            while found := os.read(self.pipe, PIPE_SIZE):
+                *lines, rest = (rest + found).split(b"\n")
+                for line in lines:
+                    self.take_bytes(line + b"\n")
+                self.over.wait(PAUSE)
+            if rest:
+                self.take_bytes(rest)
+        finally:
+            os.close(self.pipe)
+
+    def take_bytes(self, line: bytes) -> None:
+        """Takes a line, unless one before was wrong."""
+        if self.fault is None:
+            self.take(line.decode("utf-8", "surrogateescape"))
 
     def take(self, line: str) -> None:
         """Takes a line.
@@ -298,6 +317,7 @@ class Tracer:
             text, status = self.put_out([*strace(watch), pipe, *words])
         finally:
             os.close(own_end)
+            listener.over.set()
             listener.kill()
             reading.join()
         return ended(listener, text, status)

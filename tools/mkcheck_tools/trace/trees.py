@@ -7,6 +7,7 @@ as they were at the call, and not as they are when the command has ended.
 
 from __future__ import annotations
 
+import functools
 import os
 import stat
 from dataclasses import dataclass, field
@@ -64,6 +65,9 @@ class Tree:
     followed: dict[SeenPath, tuple[SeenPath, tuple[SeenPath, ...]]] = field(default_factory=dict)
     """What `follow` gave for a path."""
 
+    owned: dict[SeenPath, tuple[SeenPath, tuple[SeenPath, ...]]] = field(default_factory=dict)
+    """What `own` gave for a path."""
+
     @classmethod
     def of(cls, place: Place) -> Tree:
         """The folder as it lies there now."""
@@ -88,9 +92,14 @@ class Tree:
         """The folder's own path."""
         return self.place.seen
 
+    @functools.cached_property
+    def front(self) -> str:
+        """What the paths of all that lies in the folder begin with."""
+        return f"{self.root}/"
+
     def has(self, path: SeenPath) -> bool:
         """Whether a path lies in the folder."""
-        return path.startswith(self.root + "/")
+        return path.startswith(self.front)
 
     @property
     def has_links(self) -> bool:
@@ -128,7 +137,7 @@ class Tree:
         if not stat.S_ISLNK(status.st_mode):
             self.made.discard(path)
             if self.links.pop(path, None) is not None:
-                self.followed.clear()
+                self.forget_ways()
         self.note(path)
 
     def link(self, path: SeenPath, text: str) -> None:
@@ -136,18 +145,18 @@ class Tree:
         self.there.add(path)
         if self.links.get(path) != text:
             self.links[path] = text
-            self.followed.clear()
+            self.forget_ways()
 
     def remove(self, path: SeenPath) -> None:
         """A file or a link is taken away."""
         self.there.discard(path)
         self.made.discard(path)
         if self.links.pop(path, None) is not None:
-            self.followed.clear()
+            self.forget_ways()
         self.owners.pop(path, None)
         if self.elsewhere.get(path) is not None:
             self.elsewhere[path] = None
-            self.followed.clear()
+            self.forget_ways()
 
     def move(self, old: SeenPath, new: SeenPath) -> list[tuple[SeenPath, SeenPath]]:
         """A file or a folder gets another name.
@@ -225,14 +234,23 @@ class Tree:
         self.followed[path] = (done, tuple(links))
         return self.followed[path]
 
+    def forget_ways(self) -> None:
+        """A link is another one, so paths may lead elsewhere."""
+        self.followed.clear()
+        self.owned.clear()
+
     def own(self, path: SeenPath) -> tuple[SeenPath, tuple[SeenPath, ...]]:
         """The real path of a name itself, be it a link, and the links on the way to its folder."""
-        front = path.rstrip("/")
-        folder, base = os.path.split(front)
-        if base in ("", ".", ".."):
-            return self.follow(path)
-        real, links = self.follow(SeenPath(folder))
-        return seen_in(real, base), links
+        known = self.owned.get(path)
+        if known is None:
+            folder, base = os.path.split(path.rstrip("/"))
+            if base in ("", ".", ".."):
+                known = self.follow(path)
+            else:
+                real, links = self.follow(SeenPath(folder))
+                known = seen_in(real, base), links
+            self.owned[path] = known
+        return known
 
 
 def moved_to(path: SeenPath, old: SeenPath, new: SeenPath) -> SeenPath:
