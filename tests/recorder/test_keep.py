@@ -74,6 +74,13 @@ class KeepTest(ProjectTest):
         self.assertEqual(self.conditions()["operands"], [])
         self.assertEqual((self.texts()["options"], self.texts()["words"]), ("", ""))
 
+    def test_without_a_file_the_footprints_go_into_the_folder_alone(self) -> None:
+        self.write({"makefile": "all: a\n\tcp a all\n", "a": "1\n"})
+        outcome = self.record_plainly("--keep", str(self.kept), "all")
+        self.assertEqual((outcome.status, outcome.output), (0, ""), outcome.errors)
+        book = json.loads((self.kept / "footprint.json").read_text())
+        self.assertEqual([one["target"] for one in book["records"]], ["all"])
+
     def test_another_makefile(self) -> None:
         """The old build has the makefile that it was made from, whatever is given now."""
         (self.folder / "makefile").rename(self.folder / "build.mk")

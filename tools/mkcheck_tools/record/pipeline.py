@@ -439,7 +439,8 @@ def write(
     failed = {failure.target for failure in result.failures}
     found = notes.without(failed)
     if result.text is not None:
-        write_text(result.text, request.output)
+        if request.output is not None or request.keep is None:
+            write_text(result.text, request.output)
         if request.book is not None:
             text = text_of_notes(result.text, found, request.choice)
             write_text(text, path_of_notes(request.book))
