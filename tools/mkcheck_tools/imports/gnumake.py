@@ -54,7 +54,7 @@ FOLDER = re.compile(r"(-[^-CfIoWEl=]*)C(.*)|(--directory)(?:=(.*))?", re.DOTALL)
 # Options that change neither which rules a make knows nor what they do.
 HARMLESS = re.compile(
     r"-C.*|--directory.*|-[bmknpstwS]*(j\s*\d*)?|--(no-)?print-directory|--silent|--quiet"
-    r"|--keep-going|--(jobs|output-sync|trace|debug)\S*|-[jlO]\S*|MAKE=.*|IFS=.*",
+    r"|--keep-going|--(jobs|output-sync|trace|debug)\S*|-[jlO]\S*|MAKE=.*|(MKIMPORT_)?IFS=.*",
     re.DOTALL,
 )
 # Options by which a make runs nothing, or takes files for up to date or for new.
