@@ -108,9 +108,9 @@ def unsteady(recipe: Recipe, accesses: Accesses) -> Iterator[Note]:
 
 def of_unwaited(recipe: Recipe, accesses: Accesses) -> Iterator[Note]:
     """A note on a recipe for whose processes nobody waits, though they write files that stay, or
-    take away some."""
+    take away some. What processes write side by side has a note already."""
     root = accesses.tree.root
-    lasting = {*accesses.writes, *accesses.lost}
+    lasting = {*accesses.writes, *accesses.lost} - accesses.beside.keys()
     names = [path[len(root) + 1 :] for path in accesses.unwaited if path in lasting]
     if names:
         text = (
