@@ -37,11 +37,11 @@ use Rattle.mk_core_repair.specs.declared.outcome.Repair.{Repair}
 use Rattle.mk_core_repair.specs.declared.surveying.First.{First}
 use Rattle.mk_core_repair.specs.declared.surveying.Survey.{Survey}
 use Rattle.mk_core_repair.specs.Amending.{added_lines, added_text, amended_among, makefile_name, makefile_text, names_known}
-use Rattle.mk_core_repair.specs.Outcome.{Outcome, Reason, unmended, untried, too_long, cycle, tried_all, outcome_of}
+use Rattle.mk_core_repair.specs.Outcome.{Outcome, Reason, unmended, too_long, cycle, tried_all, outcome_of}
 use Rattle.mk_core_repair.specs.RepairAnswer.{AfterFirst, AnswersRepair, IsFirstOf}
 use Rattle.mk_core_repair.specs.Rounds.{AfterKnown, AfterRound, AfterVerdict, IsRound, Onward, Rounds, first_unknown, max_rounds, more_words}
 use Rattle.mk_core_repair.specs.Survey.{AreOtherLines, GivesSurvey, IsCycleFor, IsFirst, IsObstacleFor}
-use Rattle.mk_core_repair.specs.Trial.{AfterTrial, Trial, known_part, with_part}
+use Rattle.mk_core_repair.specs.Trial.{AfterTrial, Trial, with_part}
 use Rattle.mk_core_repair.proofs.Cuts.{behind_same}
 use Rattle.mk_core_repair.proofs.Surveys.{first_surveys, survey_checks}
 use Rattle.mk_core_repair_laws.specs.RepairLaws.{IsReadThrough, RepairIsOne}
@@ -77,7 +77,7 @@ later_one x found hidden again false same = refl
 
 -- lines on cycles are taken back in one way
 settled_one : (walks : WalkHasOneEnd) (g : Graph) (offers one other : List Offer) → Settles g offers one → Settles g offers other → one ≡ other
-settled_one walks g offers one other (stays none) (stays no) = refl
+settled_one walks g offers one other (stays none) (stays other_none) = refl
 settled_one walks g offers one other (stays none) (goes_on {names = names} some rest) =
     let k : None ≡ Some names = cycle_one walks (graph_with g (open_words offers)) None (Some names) none some in absurd cc
 settled_one walks g offers one other (goes_on {names = names} some rest) (stays none) =
@@ -88,7 +88,7 @@ settled_one walks g offers one other (goes_on {names = names} some rest) (goes_o
     settled_one walks g (map (without_step names) offers) one other rest (subst (λ (l : List (List ℕ)). Settles g (map (without_step l) offers) other) same more)
 
 lines_one : ListIsOne → WalkHasOneEnd → (x : Subject) (found : List Finding) (one other : List ℕ) → AreOtherLines x found one → AreOtherLines x found other → one ≡ other
-lines_one listed walks x found one other (hidden, are, offers, on, a) (again, those, others, also, b) =
+lines_one listed walks x found one other (hidden, are, (offers, on, a)) (again, those, (others, also, b)) =
     let later = later_one x found hidden again (list_any is_static found) (λ hides. same_hidden listed x hidden again (are hides) (those hides)) in
     let same = settled_one walks x.graph (map offer_of (all_claims x found hidden)) offers others on (subst (λ (l : List Claim). Settles x.graph (map offer_of (map (claim_of x) found ++ l)) others) (sym later) also) in
     a ∙ (ap (λ (l : List Offer). lines_text (fold with_word [] (open_words l))) same ∙ sym b)

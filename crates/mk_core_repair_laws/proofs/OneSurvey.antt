@@ -9,7 +9,7 @@ use Rattle.mk_read.specs.declared.fault.ReadFault.{ReadFault}
 use Rattle.mk_read.specs.declared.fault.ReadFault.TheVariants as read
 use Rattle.mk_read.specs.Files.{Told}
 use Rattle.mk_core_text.specs.declared.fault.Fault.{Fault}
-use Rattle.mk_core_text.specs.declared.fault.Fault.TheVariants.{Read, Infer, FileReadFailed, Memory}
+use Rattle.mk_core_text.specs.declared.fault.Fault.TheVariants.{Read, FileReadFailed, Memory}
 use Rattle.mk_core_text.specs.declared.verdict.Verdict.{Verdict}
 use Rattle.mk_core.specs.declared.request.Request.{Request}
 use Rattle.mk_core.specs.Answer.{Answers, Draws}
