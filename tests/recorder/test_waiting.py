@@ -94,6 +94,9 @@ class WaitingTest(ProjectTest):
             "echo a | awk '{ print | \"cat > x\" }'",
         )
 
+    def test_a_pipeline_whose_first_part_reads_nothing(self) -> None:
+        self.passes("sort -o x makefile < /dev/null 2>&1 | cat > y")
+
     @compiled
     def test_compilers(self) -> None:
         self.passes("cc -pipe -o x a.c", **{"a.c": MAIN})
