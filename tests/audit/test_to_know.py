@@ -26,6 +26,13 @@ def test_targets_of_gnu_make_that_no_goal_needs(project: Project) -> None:
     assert project.audit("--format", "json", "--no-record").value["remarks"] == [TOLD.strip()]
 
 
+@can_import
+def test_a_recipe_without_commands_is_none_to_look_at(project: Project) -> None:
+    empty = "Makefile: ;\nFORCE: ; # nothing\n"
+    project.write({"Makefile": GNU + MORE + empty, **SOURCES})
+    assert f"To know:\n{TOLD}\n" in project.audit().output
+
+
 @can_record
 def test_hints_have_a_line_for_each_kind(project: Project) -> None:
     rules = "a: s\n\tcat s > a\nb: s\n\tsort s > b\n"

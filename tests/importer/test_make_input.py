@@ -400,3 +400,18 @@ class ExportTest(MakeFolderTest):
         for version in ("2", "3"):
             (built / "VERSION").write_text(f"{version}\n")
             self.assertFalse(self.rebuilds(built, ["VERSION"], ["sub/a", "sub/b", "sub/c"]))
+
+    def test_recipes_that_make_folders(self) -> None:
+        """A folder, one with a file that has the value in it, and one with a folder named so."""
+        self.write(
+            {
+                "Makefile": "export V := $(shell cat VERSION)\nall: x/a y z\n"
+                "x/a: in | x\n\tcp in $@\nx:\n\tmkdir -p $@\n"
+                'y:\n\tmkdir -p $@ && echo "$$V" > $@/v\nz:\n\tmkdir -p $@/"$$V"\n',
+                "in": "in\n",
+                "VERSION": "1\n",
+            }
+        )
+        answer = self.imported()
+        lines = answer.output.partition("Add to Makefile:\n")[2].partition("\n\n")[0]
+        self.assertEqual(lines.strip(), "y z: VERSION", answer.output)

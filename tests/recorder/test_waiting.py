@@ -94,6 +94,9 @@ class WaitingTest(ProjectTest):
             "echo a | awk '{ print | \"cat > x\" }'",
         )
 
+    def test_a_pipeline_whose_first_part_reads_nothing(self) -> None:
+        self.passes("sort -o x makefile < /dev/null 2>&1 | cat > y")
+
     @compiled
     def test_compilers(self) -> None:
         self.passes("cc -pipe -o x a.c", **{"a.c": MAIN})
@@ -103,6 +106,9 @@ class WaitingTest(ProjectTest):
             "(echo a > y; exec sleep 60) & sleep 0.3; kill $$!; echo b > x",
             "(sleep 0.2; touch x) & while kill -0 $$! 2> /dev/null; do sleep 0.1; done",
         )
+
+    def test_a_process_that_has_ended_when_the_shell_asks_for_it_first(self) -> None:
+        self.passes("touch x & p=$$!; sleep 0.5; while kill -0 $$p 2> /dev/null; do :; done")
 
     def test_it_writes_nothing_that_stays(self) -> None:
         self.passes("sleep 0.1 & echo a > x; sleep 0.5", "(touch t; rm t) & sleep 0.5; echo a > x")

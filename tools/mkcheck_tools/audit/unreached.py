@@ -77,7 +77,7 @@ def rule_of(line: str) -> Rule | None:
     if matched is None:
         return None
     names = [name for name in matched[1].split() if PLAIN.fullmatch(name)]
-    return Rule(names, ";" in matched[2].partition("#")[0])
+    return Rule(names, bool(matched[2].partition("#")[0].partition(";")[2].strip()))
 
 
 def joined(lines: list[str]) -> Iterator[str]:

@@ -8,6 +8,7 @@ what it writes stays the same, it doesn't depend on the file.
 from __future__ import annotations
 
 import os
+import shutil
 from collections.abc import Iterable, Mapping
 from dataclasses import replace
 
@@ -59,6 +60,9 @@ class Trier:
     def tried(self, node: Node, others: Iterable[Mapping[str, str]]) -> bool:
         """Whether a recipe writes the same files with the same contents as in the build each
         time."""
+        path = os.path.join(self.place.folder, node.name)
+        if os.path.isdir(path) and not os.path.islink(path):
+            return self.tried_without(path, node, others)
         before = self.written(node, {})
         if before is None or node.name not in before:
             return False
@@ -66,9 +70,25 @@ class Trier:
         self.written(node, {})
         return is_alike
 
+    def tried_without(
+        self, path: str, node: Node, others: Iterable[Mapping[str, str]]
+    ) -> bool:
+        """The same of a recipe that makes a folder, which isn't there each time when it runs."""
+        aside = f"{self.place.folder}.aside"
+        os.rename(path, aside)
+        try:
+            found = []
+            for values in [dict[str, str](), *others]:
+                found.append(self.written(node, values))
+                shutil.rmtree(path, ignore_errors=True)
+        finally:
+            os.rename(aside, path)
+        first = found[0]
+        return first is not None and node.name in first and all(one == first for one in found)
+
     def written(self, node: Node, values: Mapping[str, str]) -> dict[str, bytes] | None:
-        """What a recipe writes with these values; None where it fails."""
-        times = times_in(self.place.folder)
+        """What a recipe writes with these values, folders as empty ones; None where it fails."""
+        times, folders = times_in(self.place.folder), folders_in(self.place.folder)
         exports = tuple(sorted({**dict(node.setting.exports), **values}.items()))
         setting = replace(node.setting, exports=exports)
         for command in node.commands:
@@ -78,4 +98,14 @@ class Trier:
                 return None
         after = times_in(self.place.folder)
         names = [name for name, stamp in after.items() if times.get(name) != stamp]
-        return {name: content(os.path.join(self.place.folder, name)) for name in names}
+        found = {name: content(os.path.join(self.place.folder, name)) for name in names}
+        return found | dict.fromkeys(folders_in(self.place.folder) - folders, b"")
+
+
+def folders_in(folder: str) -> set[str]:
+    """The names of the folders in a folder, from it."""
+    return {
+        os.path.relpath(os.path.join(above, name), folder)
+        for above, names, _ in os.walk(folder)
+        for name in names
+    }

@@ -128,6 +128,7 @@ NOT_EMPTY = ("ENOTEMPTY", "EEXIST")
 # Calls that send a signal, and what isn't meant to end a process.
 SIGNALS = ("kill", "tkill", "tgkill")
 ASKING = "0"
+NO_PROCESS = "ESRCH"
 HARMLESS = (ASKING, "SIGCONT", "SIGCHLD", "SIGWINCH", "SIGURG")
 # Calls that do what another one does, with the same arguments up to the last ones.
 SAME = {
@@ -302,11 +303,16 @@ class Trace:
 
     def take_failed(self, process: int, text: str) -> None:
         """A call that failed: kept where it looks at names, if these are wanted, removes one, would
-        write to what is read-only, or asks a server."""
+        write to what is read-only, or asks a server. One that asks for a process which has ended
+        tells so."""
         begun, failed = BEGUN.match(text), FAILED.search(text, max(0, len(text) - 160))
         if begun is None or failed is None:
             return
         name, error = begun.group(1), failed.group(1) or ""
+        if name in SIGNALS and error == NO_PROCESS:
+            arguments, _ = split(text, begun.end())
+            self.signal(Call(self.lines, process, name, tuple(arguments), error, True))
+            return
         removes = name in REMOVALS and error in (NOTHING_THERE, *NOT_EMPTY)
         if name in WRITINGS and error == READ_ONLY:
             arguments, _ = split(text, begun.end())
@@ -334,13 +340,15 @@ class Trace:
             self.programs[call.process] = text_of(call.arguments[call.name == "execveat"]) or ""
 
     def signal(self, call: Call) -> None:
-        """A process sends a signal to another one, or to a group, which may have any."""
+        """A process sends a signal to another one, or to a group, which may have any. One that has
+        ended gets none, but who sent it knows by then that it has ended."""
         sent = call.arguments[2 if call.name == "tgkill" else 1]
         goal = NUMBER.match(call.arguments[0])
         if goal is None:
             return
         number = int(goal.group())
-        goals = {number} if number > 0 else self.alive - {call.process}
+        group = set() if call.failed else self.alive - {call.process}
+        goals = {number} if number > 0 else group
         if sent not in HARMLESS:
             self.signalled |= goals
         elif sent == ASKING:

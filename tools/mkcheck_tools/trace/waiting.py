@@ -65,7 +65,11 @@ class Waiting:
         if call.process in self.seen:
             return
         self.seen.add(call.process)
-        if not SHELLS.fullmatch(os.path.basename(self.running.get(call.process, ""))):
+        program = self.running.get(call.process, "")
+        if not SHELLS.fullmatch(os.path.basename(program)):
+            return
+        # dash closes its input first; what `< /dev/null` opens gets another number.
+        if os.path.basename(os.path.realpath(program)) == "dash" and call.number != 0:
             return
         if call.name in OPENS and not call.failed and path_of(call.result) == NULL:
             if not any("O_WRONLY" in word or "O_RDWR" in word for word in call.arguments):
