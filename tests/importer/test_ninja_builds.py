@@ -707,5 +707,7 @@ class RefusedTest(NinjaFolderTest):
         self.write({"configure": "", "s": "", "build.ninja": text})
         self.assertEqual(self.translated("a").goals, ["a"])
         os.utime(self.folder / "build.ninja", (1, 1))
-        with self.assertRaisesRegex(Fault, "older than what it is made from"):
+        there = os.path.relpath(self.folder)
+        told = f"older than what it is made from.*: run `ninja -C {there} build.ninja`, and then"
+        with self.assertRaisesRegex(Fault, told):
             self.translated("a")

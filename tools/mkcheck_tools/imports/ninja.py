@@ -289,7 +289,7 @@ def read_ninja(
         raise Fault(str(fault)) from None
     asked = ["ninja", "-C", seen]
     if any(canonical(name) in manifest.maker for name in manifest.files):
-        check_manifest(asked, place, environment)
+        check_manifest(seen, place, environment)
     tried = run([*asked, "-n", *words], place, environment)
     # Without a build ninja can't load dyndep files, and fails.
     if tried.status and not has_dyndep:
@@ -299,13 +299,16 @@ def read_ninja(
     return manifest, version.output.strip()
 
 
-def check_manifest(asked: list[str], place: Place, environment: Mapping[str, str]) -> None:
+def check_manifest(seen: SeenPath, place: Place, environment: Mapping[str, str]) -> None:
     """Raises `Fault` where ninja would write its own files anew before it builds."""
-    tried = run([*asked, "-n", MANIFEST], place, environment)
+    tried = run(["ninja", "-C", seen, "-n", MANIFEST], place, environment)
     if "ninja: no work to do." not in tried.output:
         lines = tried.output.splitlines()
         said = [line for line in lines if not line.startswith("ninja: Entering")]
+        folder = os.path.relpath(seen)
+        there = [] if folder == os.curdir else ["-C", folder]
         raise Fault(
             f"{MANIFEST} is older than what it is made from, so ninja would make it anew first"
-            f" ({'; '.join(said[:2])}): run `ninja {MANIFEST}`, and import again"
+            f" ({'; '.join(said[:2])}): run `{shlex.join(['ninja', *there, MANIFEST])}`, and then this"
+            " again"
         )
