@@ -306,9 +306,8 @@ def check_manifest(seen: SeenPath, place: Place, environment: Mapping[str, str])
         lines = tried.output.splitlines()
         said = [line for line in lines if not line.startswith("ninja: Entering")]
         folder = os.path.relpath(seen)
-        there = [] if folder == os.curdir else ["-C", folder]
+        wanted = shlex.join(["ninja", *([] if folder == os.curdir else ["-C", folder]), MANIFEST])
         raise Fault(
             f"{MANIFEST} is older than what it is made from, so ninja would make it anew first"
-            f" ({'; '.join(said[:2])}): run `{shlex.join(['ninja', *there, MANIFEST])}`, and then this"
-            " again"
+            f" ({'; '.join(said[:2])}): run `{wanted}`, and then this again"
         )
