@@ -625,7 +625,8 @@ class StampsTest(UpdateTest):
         """Changes files while another recipe runs than this one of `a`, and long before its end;
         how many recipes the next update records, which has to be right."""
         mark = self.scratch / "mark"
-        waiting = f": > {mark}; until test -s {mark}; do sleep 0.1; done; rm {mark}"
+        # Each run reads the same programs, however long it waits.
+        waiting = f": > {mark}; until sleep 0.1; test -s {mark}; do :; done; rm {mark}"
         self.write({"makefile": f"b: a\n\t{waiting}; cp a b\na: s\n\t{recipe}\n"})
         with ThreadPoolExecutor(1) as pool:
             running = pool.submit(self.update)
