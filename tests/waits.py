@@ -12,7 +12,7 @@ from typing import TypeVar
 Found = TypeVar("Found")
 # How often something is tried that a busy machine may hide.
 TRIES = 8
-# What hasn't come after so many seconds doesn't come at all.
+# How many seconds a test waits for something before it fails.
 SECONDS_AT_MOST = 600.0
 MOMENT = 0.02
 
