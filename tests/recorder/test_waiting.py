@@ -52,6 +52,12 @@ class WaitingTest(ProjectTest):
     def test_a_script_starts_it(self) -> None:
         self.doubted("./s; sleep 0.3", s=SCRIPT)
 
+    def test_it_ended_while_the_shell_of_a_script_waited_for_another_one(self) -> None:
+        for shell in ("sh", "bash"):
+            if shutil.which(shell):
+                with self.subTest(shell):
+                    self.doubted("./s", s=f"#!/bin/{shell}\necho a > x &\nsleep 0.5\n")
+
     def test_another_program_starts_it(self) -> None:
         start = "import subprocess, time; subprocess.Popen([\"touch\", \"x\"]); time.sleep(0.5)"
         self.doubted(f"python3 -c '{start}'")

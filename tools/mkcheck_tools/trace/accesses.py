@@ -31,7 +31,7 @@ from mkcheck_tools.trace.calls import (
 from mkcheck_tools.trace.makes import is_make, is_part, is_system
 from mkcheck_tools.trace.programs import interpreters_of
 from mkcheck_tools.trace.trees import ROOT, Owner, Tree, moved_to
-from mkcheck_tools.trace.waiting import Waiting
+from mkcheck_tools.trace.waiting import SHELLS, Waiting
 
 INTERPRETERS_AT_MOST = 4
 # How large a text may be that is looked through for a word.
@@ -393,8 +393,11 @@ class Follower:
     text: str = ""
     """The words of the command."""
 
+    runners: dict[int, str] = field(default_factory=dict)
+    """The program that each process runs; of a shell script the shell."""
+
     def __post_init__(self) -> None:
-        self.waiting = Waiting(self.leaders, self.running)
+        self.waiting = Waiting(self.leaders, self.runners)
 
     def follow(self, calls: Iterable[Call]) -> None:
         """Takes the calls, in their order."""
@@ -600,6 +603,7 @@ class Follower:
         self.hand_on(call.process)
         if call.process in self.running:
             self.running.setdefault(call.number, self.running[call.process])
+            self.runners.setdefault(call.number, self.runners[call.process])
         own = self.standing(call)
         shared = any("CLONE_FS" in argument for argument in call.arguments)
         self.standings[call.number] = own if shared else Standing(own.path)
@@ -743,6 +747,9 @@ class Follower:
         """A program is read, and the interpreters and loaders that programs name."""
         real = self.accesses.reach(name)
         self.running[call.process] = real
+        named = interpreters_of(self.accesses.tree.place.real(real))
+        shells = [name for name in named if SHELLS.fullmatch(os.path.basename(name))]
+        self.runners[call.process] = shells[0] if shells else real
         self.hand_on(call.process)
         if self.accesses.tree.has(real):
             self.own_reads.setdefault(call.process, {}).setdefault(real)

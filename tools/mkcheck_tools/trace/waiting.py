@@ -43,7 +43,8 @@ class Waiting:
     """The process of each further thread."""
 
     running: Mapping[int, str]
-    """The program that each process started last, or its parent did before."""
+    """The program that each process started last, or its parent did before; of a shell script the
+    shell."""
 
     reaped: dict[int, bool] = field(default_factory=dict)
     """The processes of whose ends others learnt, and whether these surely waited for them."""
